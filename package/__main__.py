@@ -3,6 +3,8 @@
 usage: python3 -m package [PROGRAM] [--to FOLDER] [--version VERSION]
 Exit status 1 if the program or a file may not go into a package: it says why.
 """
+from __future__ import annotations
+
 import argparse
 import re
 import shutil
@@ -12,28 +14,31 @@ from pathlib import Path
 from package.build import build
 from package.places import ROOT
 from package.program_facts import Unfit
+from package.rules import BUILT
 
-PROGRAM = ROOT / "crates/rs_source/out/rs_source"
+NEEDED = {"dpkg-buildpackage": "dpkg-dev", "dh": "debhelper", "pybuild": "dh-python", "readelf": "binutils",
+          "strip": "binutils"}
 
 
-def main():
-    words = argparse.ArgumentParser(prog="package", description=__doc__.partition("\n")[0])
-    words.add_argument("program", nargs="?", type=Path, default=PROGRAM)
-    words.add_argument("--to", type=Path, default=ROOT / "out/package", metavar="FOLDER")
-    words.add_argument("--version", default=(ROOT / "VERSION").read_text().strip())
-    given = words.parse_args()
-    missing = [it for it in ("dpkg-deb", "readelf", "strip") if not shutil.which(it)]
+def main() -> str | int:
+    """Builds the packages; gives the exit status, or what is in the way."""
+    parser = argparse.ArgumentParser(prog="package", description=(__doc__ or "").partition("\n")[0],
+                                     allow_abbrev=False)
+    parser.add_argument("program", nargs="?", type=Path, default=BUILT, help="a program with its stamp")
+    parser.add_argument("--to", type=Path, default=ROOT / "out/package", metavar="FOLDER",
+                        help="where the packages go")
+    parser.add_argument("--version", default=(ROOT / "VERSION").read_text().strip(), help="their version")
+    arguments = parser.parse_args()
+    missing = sorted({package for tool, package in NEEDED.items() if not shutil.which(tool)})
     if missing:
-        return f"package: there is no {', '.join(missing)} here"
-    if not given.program.is_file():
-        return f"package: there is no program yet, {given.program}: make build"
-    if not re.fullmatch(r"\d[\w.+~]*", given.version):
-        return f"package: {given.version} is no version"
+        return f"package: install {', '.join(missing)} first"
+    if not re.fullmatch(r"\d[\w.+~]*", arguments.version):
+        return f"package: {arguments.version} is no version"
     try:
-        debs = build(given.program, given.version, given.to)
+        debs = build(arguments.program, arguments.version, arguments.to)
     except Unfit as why:
         return f"package: {why}"
-    print("".join(f"{it}\n" for it in debs), end="")
+    print("".join(f"{path}\n" for path in debs), end="")
     return 0
 
 

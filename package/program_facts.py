@@ -1,11 +1,14 @@
 """What a program needs of the machine that it runs on, by readelf, and whether it may go into a package."""
+from __future__ import annotations
+
 import re
 import subprocess
 from pathlib import Path
 
-# What Debian's libc6 brings on amd64, and the version that Debian 12 has of it.
+# What Debian's libc6 brings on amd64, with libgcc-s1, on which it depends; and the version that Debian 12 has
+# of it.
 LOADER = "/lib64/ld-linux-x86-64.so.2"
-LIBRARIES = {"libc.so.6", "libm.so.6", "libpthread.so.0", "libdl.so.2", "librt.so.1"}
+LIBRARIES = {"libc.so.6", "libm.so.6", "libpthread.so.0", "libdl.so.2", "librt.so.1", "libgcc_s.so.1"}
 NEWEST = (2, 36)
 # Where programs are built: a path below one of these is one of the building machine.
 BUILT_BELOW = re.compile(rb"/(?:home|root|tmp|var/tmp|work|build|usr/src|srv)/[\w.+-]+[\w./+-]*")
@@ -15,16 +18,18 @@ class Unfit(Exception):
     """Why something may not go into a package."""
 
 
-def read(*words):
-    """What readelf tells."""
+def read(*words: object) -> str:
+    """What readelf says."""
     ran = subprocess.run(["readelf", "-W", *map(str, words)], capture_output=True, text=True, timeout=60)
     if ran.returncode or "Error" in ran.stderr:
         raise Unfit(f"{words[-1]} is no program: {(ran.stderr or ran.stdout).strip()[:200]}")
     return ran.stdout
 
 
-def libc_version(program):
-    """The oldest C library that has each symbol that the program wants, such as (2, 34); None if it needs no library at all."""
+def libc_version(program: Path) -> tuple[int, ...] | None:
+    """The oldest C library that has each symbol that the program wants, such as (2, 34); None if it needs no
+    library at all.
+    """
     loader = re.search(r"\[Requesting program interpreter: (.*)\]", read("-l", program))
     needed = set(re.findall(r"\(NEEDED\).*\[(.*)\]", read("-d", program)))
     if not loader and not needed:
@@ -33,15 +38,19 @@ def libc_version(program):
         raise Unfit(f"{program} is started by {loader and loader[1]}, and Debian's C library by {LOADER}")
     if others := needed - LIBRARIES:
         raise Unfit(f"{program} needs libraries that libc6 has not: {', '.join(sorted(others))}")
-    wanted = [tuple(map(int, it.split("."))) for it in re.findall(r"Name: GLIBC_([\d.]+)", read("-V", program))]
+    wanted = [tuple(map(int, version.split(".")))
+              for version in re.findall(r"Name: GLIBC_([\d.]+)", read("-V", program))]
     newest = max(wanted, default=(2, 2))
     if newest > NEWEST:
-        raise Unfit(f"{program} wants version {'.'.join(map(str, newest))} of the C library, and Debian 12 has {'.'.join(map(str, NEWEST))}")
+        raise Unfit(f"{program} wants version {'.'.join(map(str, newest))} of the C library, and Debian 12 "
+                    f"has {'.'.join(map(str, NEWEST))}")
     return newest
 
 
-def loaded(program):
-    """The bytes of a program that are loaded into memory, with their addresses; without the head, which names the sections of the file."""
+def loaded(program: Path) -> list[tuple[int, bytes]]:
+    """The bytes of a program that are loaded into memory, with their addresses; without the head, which names
+    the sections of the file.
+    """
     whole, segments = Path(program).read_bytes(), []
     for at, address, size in re.findall(r"(?m)^ +LOAD +0x(\w+) 0x(\w+) 0x\w+ 0x(\w+)", read("-l", program)):
         start, length = int(at, 16), int(size, 16)
@@ -49,15 +58,19 @@ def loaded(program):
     return segments
 
 
-def stripped(program, to):
-    """Writes a program without what is not loaded: names, and the paths of what it was built from. What is loaded stays."""
-    subprocess.run(["strip", "--strip-all", "--remove-section=.comment", "-o", to, program], check=True, timeout=60)
+def stripped(program: Path, to: Path) -> Path:
+    """Writes a program without what is not loaded: names, and the paths of what it was built from. What is
+    loaded stays.
+    """
+    subprocess.run(["strip", "--strip-all", "--remove-section=.comment", "-o", to, program], check=True,
+                   timeout=60)
     if loaded(program) != loaded(to):
         raise Unfit(f"strip changed what is loaded of {program}")
     return to
 
 
-def paths_of_the_build(content, root):
+def paths_of_the_build(content: bytes, root: Path) -> list[str]:
     """The paths of the machine that built something, as far as they stand in its bytes."""
     found = set(BUILT_BELOW.findall(content))
-    return sorted(it.decode() for it in found | ({str(root).encode()} if f"{root}/".encode() in content else set()))
+    return sorted(path.decode() for path in found | ({str(root).encode()}
+                                                     if f"{root}/".encode() in content else set()))

@@ -13,9 +13,9 @@ import shutil
 import sys
 
 from tests.program import PROGRAM
-from tests.system import install_doors, install_looks, install_packages, install_packages_wrong, install_scripts, install_site, install_wrong
+from tests.system import install_doors, install_looks, install_packages, install_packages_wrong, install_scripts, install_site, install_units, install_wrong
 
-CHECKS = install_looks.CHECKS | install_site.CHECKS | install_doors.CHECKS | install_scripts.CHECKS | install_packages.CHECKS
+CHECKS = install_looks.CHECKS | install_site.CHECKS | install_doors.CHECKS | install_scripts.CHECKS | install_units.CHECKS | install_packages.CHECKS
 
 
 def main():

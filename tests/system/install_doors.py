@@ -237,7 +237,8 @@ def the_units_have_limits(program, room):
             is_limit = len(found) == 1 and re.fullmatch(r"\d+[A-Za-z]*", found[0])
             compare(f"{name}: {limit} is {found}", b"True", str(bool(is_limit)).encode())
     users = re.search(r"guard \$\{PORT\} (.*)", install_looks.INSTALL.joinpath("guard.conf").read_text())[1].split()
-    for name in ("ropepeach.service", "ropepeach-publish.service", "ropepeach-health.service"):
+    for name in ("ropepeach.service", "ropepeach-publish.service", "ropepeach-health.service", "ropepeach-fill.service",
+                 "ropepeach-collection@.service"):
         compare(name, b"True", str(re.search(r"(?m)^User=(.*)$", units[name])[1] in users).encode())
 
 

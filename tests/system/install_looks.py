@@ -119,12 +119,13 @@ def compare_calls(room, some, unit):
 
 
 def verification(program, *before):
-    """What the service that verifies runs, as systemd reads its line, over a.disk; its answer, and whether it succeeds."""
-    line = re.search(r"(?m)^ExecStart=(.*)", INSTALL.joinpath("ropepeach-verify@.service").read_text())[1].replace("$$", "$")
-    words = [it.replace("/usr/local/bin/rs_source", program) for it in shlex.split(line)]
+    """What the service that verifies runs, over a.disk; its answer, and whether it succeeds."""
+    line = re.search(r"(?m)^ExecStart=(.*)", INSTALL.joinpath("ropepeach-verify@.service").read_text())[1]
+    compare("what the unit runs", b"/usr/local/lib/ropepeach/verify ${FILE}", line.encode())
+    script = INSTALL.joinpath("verify").read_text().replace("/usr/local/bin/rs_source", shlex.quote(program))
 
     def run(room):
-        told, status = told_by(*before, *words, cwd=room, env=os.environ | {"FILE": "a.disk"})
+        told, status = told_by(*before, "sh", "-c", script, "verify", "a.disk", cwd=room)
         return told, status == 0
 
     return run
@@ -164,7 +165,7 @@ def site_on(room, port, source):
                      ("server_name source.example.org;", "server_name 127.0.0.1;"), ("/var/cache/ropepeach-source levels", f"{room}/cache levels")]:
         compare(f"places of {old!r}", b"1", b"%d" % site.count(old))
         site = site.replace(old, new)
-    return site
+    return site.replace("/var/log/nginx/", f"{room}/")
 
 
 def without_tls(site):
@@ -344,9 +345,8 @@ def the_tools_run_where_they_are_installed(program, room):
     """`make install` puts each command in its place, and it runs there, far from the repository; `make uninstall` leaves nothing."""
     words = ["make", "-s", "-C", ROOT, f"DESTDIR={room}/at", "PREFIX=/usr", f"PROGRAM={program}"]
     compare_answers("make install", 0, told_by(*words, "install")[1])
-    for name, called in {"ropepeach": "ropepeach", "destination": "ropepeach mirror", "publish_folder": "ropepeach fill"}.items():
-        told, status = told_by(f"{room}/at/usr/bin/{name}", "--help", cwd=room)
-        compare_answers(name, (f"usage: {called} [-h]", 0), (told[: 12 + len(called)], status))
+    told, status = told_by(f"{room}/at/usr/bin/ropepeach", "--help", cwd=room)
+    compare_answers("ropepeach", ("usage: ropepeach [-h]", 0), (told[:21], status))
     compare_answers("make uninstall", 0, told_by(*words, "uninstall")[1])
     compare("what is left", b"", " ".join(str(it) for it in pathlib.Path(room, "at").rglob("*") if not it.is_dir()).encode())
 

@@ -1,17 +1,26 @@
 """The looks at the Debian packages (install.py). Each function is one thing that has to hold; its first line says what."""
+import atexit
+import dataclasses
+import functools
 import hashlib
+import json
 import os
 import pathlib
 import re
 import shutil
 import subprocess
 import sys
+import tempfile
 
 from tests.program import ROOT, Differs, compare
+from tests.stamped import stamp_of
 from tests.system import install_looks
 
 # What the packages are built from, beside the program.
-PARTS = ["package", "install", "tools", "docs", "VERSION", "LICENSE-MIT", "LICENSE-APACHE"]
+PARTS = ["package", "debian", "install", "tools", "docs", "VERSION", "LICENSE-MIT", "LICENSE-APACHE", "README.md", "pyproject.toml",
+         "MANIFEST.in"]
+# (Debian's own, which has what builds)
+PYTHON = "/usr/bin/python3"
 # 2026-01-01, for what is not built in a git repository.
 MOMENT = "1767225600"
 SECONDS = 300
@@ -27,20 +36,35 @@ def copied(to):
             shutil.copy(ROOT / it, to)
 
 
-def built(program, folder, **environment):
-    """Builds the packages in a folder; gives their files by their names."""
+def packed(folder, program, **environment):
+    """A run of `python3 -m package` in a folder."""
     words, settings = [sys.executable, "-m", "package", program, "--to", "made"], os.environ | {"SOURCE_DATE_EPOCH": MOMENT} | environment
-    ran = subprocess.run(words, cwd=folder, env=settings, capture_output=True, text=True, timeout=SECONDS)
+    return subprocess.run(words, cwd=folder, env=settings, capture_output=True, text=True, timeout=SECONDS)
+
+
+def built(program, folder, **environment):
+    """Builds the packages of a program with a stamp in a folder; gives their files by their names."""
+    copy = pathlib.Path(folder, "program")
+    shutil.copyfile(program, copy)
+    stamp_of(program).write(copy)
+    ran = packed(folder, "program", **environment)
     if ran.returncode:
-        raise Differs(f"the packages: {(ran.stdout + ran.stderr).strip()[-300:]}")
+        raise Differs(f"the packages: {(ran.stdout + ran.stderr).strip()[-600:]}")
     return {it.name: it for it in sorted(pathlib.Path(folder, "made").iterdir())}
 
 
-def packages(program, room):
-    """The packages of this repository, built in a copy of it."""
-    os.mkdir(f"{room}/copy")
-    copied(f"{room}/copy")
-    return built(program, f"{room}/copy")
+def packages(program):
+    """The packages of this repository, built in a copy of it, once for all looks."""
+    return packages_of(program, copied)
+
+
+@functools.lru_cache
+def packages_of(program, copy):
+    """The packages of what a function copies. Their folder goes with this process."""
+    room = tempfile.TemporaryDirectory(prefix="packages-")
+    atexit.register(room.cleanup)
+    copy(room.name)
+    return built(program, room.name)
 
 
 def two_builds_are_the_same(program, room):
@@ -62,13 +86,13 @@ def two_builds_are_the_same(program, room):
 
 
 def order(name):
-    """The packages in their order, then PROVED."""
-    return name == "PROVED", not name.startswith("ropepeach_"), name
+    """The packages in their order, then the source package, then PROVED."""
+    return name == "PROVED", not name.endswith(".deb"), not name.startswith("ropepeach_"), name
 
 
 def the_packages_have_what_runs(program, room):
     """The package has the program, stripped, and depends on the C library that its symbols want; all is root's, and nothing is in /usr/local."""
-    files = packages(program, room)
+    files = packages(program)
     for name in (it for it in files if it.endswith(".deb")):
         subprocess.run(["dpkg-deb", "--extract", files[name], f"{room}/at"], check=True, timeout=SECONDS)
         listed = install_looks.told_by("dpkg-deb", "--contents", files[name])[0]
@@ -77,7 +101,7 @@ def the_packages_have_what_runs(program, room):
         compare(f"{name}: /usr/local", b"False", str("./usr/local" in listed).encode())
     symbols = install_looks.told_by("objdump", "-T", program)[0]
     newest = max((tuple(map(int, it)) for it in LIBC.findall(symbols)), default=None)
-    control = install_looks.told_by("dpkg-deb", "--info", files[next(it for it in files if it.startswith("ropepeach_"))])[0]
+    control = install_looks.told_by("dpkg-deb", "--info", files[next(it for it in files if it.endswith("_amd64.deb"))])[0]
     wanted = f"Depends: libc6 (>= {newest[0]}.{newest[1]})," if newest else "Depends: systemd"
     compare(f"{wanted} in {control}", b"True", str(wanted in control).encode())
     compare("what it says", *(subprocess.run([it], capture_output=True, timeout=SECONDS).stderr for it in (program, f"{room}/at/usr/bin/rs_source")))
@@ -90,13 +114,62 @@ def the_packages_have_what_runs(program, room):
 
 def lintian_finds_nothing(program, room):
     """Debian's own look at packages, lintian, has no error and no warning."""
-    files = packages(program, room)
+    files = packages(program)
     debs = [it for name, it in files.items() if name.endswith(".deb")]
     ran = subprocess.run(["lintian", "--fail-on", "error,warning", "--allow-root", *debs], capture_output=True, text=True, timeout=SECONDS)
     compare("lintian", b"", "\n".join(it for it in ran.stdout.splitlines() if it[:2] in ("E:", "W:")).encode())
     compare("its status", b"0", b"%d" % ran.returncode)
 
 
-TOOLS = ["dpkg-deb", "readelf", "strip"]
+def no_package_is_made_without_a_stamp(program, room):
+    """A program without a stamp, with that of other bytes, or with any bytes for one, gives one line, and no package."""
+    copied(room)
+    copy = pathlib.Path(room, "program")
+    shutil.copyfile(program, copy)
+    stamp, path = stamp_of(program), pathlib.Path(room, "program.stamp")
+    others = {"/bin/true": "", "program": json.dumps(dataclasses.asdict(dataclasses.replace(stamp, sha256="0" * 64)))}
+    for name, text in [*others.items(), ("program", "{}"), ("program", "[1"), ("program", ""), ("none", "")]:
+        path.write_text(text)
+        ran = packed(room, name)
+        lines = (ran.stdout + ran.stderr).splitlines()
+        compare(f"{name} with {text!r}: {lines}", b"1 1 True", f"{ran.returncode} {len(lines)} {lines[0].startswith('package: ')}".encode())
+        compare("packages", b"[]", repr(list(pathlib.Path(room, "made").glob("*"))).encode())
+
+
+def the_source_package_makes_the_same(program, room):
+    """`dpkg-buildpackage -us -uc` in the source package, unpacked elsewhere, gives the same packages."""
+    files = packages(program)
+    pathlib.Path(room, "far").mkdir()
+    dsc = files[next(it for it in files if it.endswith(".dsc"))]
+    for words, folder in ((["dpkg-source", "-x", dsc, "unpacked"], "far"), (["dpkg-buildpackage", "-us", "-uc"], "far/unpacked")):
+        subprocess.run(words, cwd=f"{room}/{folder}", check=True, capture_output=True, timeout=SECONDS)
+    for name in (it for it in files if it.endswith(".deb")):
+        compare(name, *(hashlib.sha256(it.read_bytes()).hexdigest().encode() for it in (files[name], pathlib.Path(room, "far", name))))
+
+
+def pip_installs_the_command(program, room):
+    """`python3 -m build` and `pip install` work without a network, and the command that they install says its version."""
+    os.mkdir(f"{room}/copy")
+    copied(f"{room}/copy")
+    alone = ["unshare", "--net"] if os.geteuid() == 0 else []
+    folder, offline = f"{room}/copy", ["--no-index", "--no-deps", "--no-build-isolation", "--root-user-action=ignore"]
+    subprocess.run([*alone, PYTHON, "-m", "build", "--no-isolation"], cwd=folder, check=True, capture_output=True, timeout=SECONDS)
+    made = sorted(it.name for it in pathlib.Path(folder, "dist").iterdir())
+    version = (ROOT / "VERSION").read_text().strip()
+    compare("what is built", repr([f"ropepeach-{version}-py3-none-any.whl", f"ropepeach-{version}.tar.gz"]).encode(), repr(made).encode())
+    for what in (".", f"dist/{made[0]}", f"dist/{made[1]}"):
+        shutil.rmtree(f"{room}/at", ignore_errors=True)
+        words = [*alone, PYTHON, "-m", "pip", "install", *offline, "--target", f"{room}/at", what]
+        subprocess.run(words, cwd=folder, check=True, capture_output=True, timeout=SECONDS)
+        told = subprocess.run([PYTHON, f"{room}/at/bin/ropepeach", "--version"], cwd=room, env=os.environ | {"PYTHONPATH": f"{room}/at"},
+                              capture_output=True, text=True, timeout=SECONDS)
+        compare(f"pip install {what}", f"ropepeach {version}\n".encode(), (told.stdout + told.stderr).encode())
+        site = subprocess.run([PYTHON, f"{room}/at/bin/ropepeach", "site", "https://a.example"], cwd=room, capture_output=True, timeout=SECONDS,
+                              env=os.environ | {"PYTHONPATH": f"{room}/at"})
+        compare(f"the site of {what}", b"0 True", f"{site.returncode} {b'server_name' in site.stdout}".encode())
+
+
+TOOLS = ["dpkg-buildpackage", "dh", "pybuild", "readelf", "strip"]
 # What is looked at, and which tools it needs.
-CHECKS = {two_builds_are_the_same: TOOLS, the_packages_have_what_runs: [*TOOLS, "objdump"], lintian_finds_nothing: [*TOOLS, "lintian"]}
+CHECKS = {two_builds_are_the_same: TOOLS, the_packages_have_what_runs: [*TOOLS, "objdump"], lintian_finds_nothing: [*TOOLS, "lintian"],
+          no_package_is_made_without_a_stamp: TOOLS, the_source_package_makes_the_same: TOOLS, pip_installs_the_command: [PYTHON]}

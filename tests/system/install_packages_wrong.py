@@ -19,14 +19,21 @@ PROGRAMS = {
 FILES = {
     "a package with a path of the build": ("install/closed", "No answer", "{folder}/install/closed: no answer"),
     "a package with a path of `make install`": ("tools/ropepeach-command", "#!/usr/bin/python3", "#!/usr/local/bin/python3"),
-    "a package of the hour": ("package/build.py", "mtime=0", "mtime=os.getpid()"),
-    "a package that lintian refuses": ("package/build.py", '"Section": "web", ', '"Section": "webs", '),
-    "a package without the C library": ("package/build.py", "if package == SOURCE and libc:", "if package == TOOLS and libc:"),
+    "a package of the hour": ("debian/rules", "\tdh_builddeb", "\tdate +%N > debian/ropepeach/usr/share/doc/ropepeach/hour\n\tdh_builddeb"),
+    "a package that lintian refuses": ("debian/control", "Section: web\n", "Section: webs\n"),
+    "a package without the C library": ("debian/control", "${shlibs:Depends}, ", ""),
+    "a package of any program": ("package/stamp.py", "if stamp.sha256 != digest(program):", "if not stamp.sha256:"),
+    "a package whose wheel lacks a module": ("pyproject.toml", 'packages = ["ropepeach"]', 'packages = []'),
+    "a source package without the program": ("debian/source/options", 'tar-ignore = "build"', 'tar-ignore = "proved"'),
+    "a command that pip does not install": ("pyproject.toml", 'ropepeach = "ropepeach.__main__:main"', ""),
 }
 # What notices those that are built.
 NOTICED_BY = {"a package of the hour": install_packages.two_builds_are_the_same,
               "a package that lintian refuses": install_packages.lintian_finds_nothing,
-              "a package without the C library": install_packages.the_packages_have_what_runs}
+              "a package without the C library": install_packages.the_packages_have_what_runs,
+              "a package of any program": install_packages.no_package_is_made_without_a_stamp,
+              "a source package without the program": install_packages.the_source_package_makes_the_same,
+              "a command that pip does not install": install_packages.pip_installs_the_command}
 
 
 def is_refused(program, room, file=None, old="", new=""):
