@@ -7,6 +7,7 @@ usage: python3 -m tests.tools.generated [PROGRAM] [NAME..]     names of rows (al
 Exit status 1 if one does not hold.
 """
 import contextlib
+import gzip
 import io
 import json
 import os
@@ -20,16 +21,10 @@ from ropepeach import command, takeover, takeover_store
 from tests.disks import disks
 from tests.program import Differs
 from tests.tools.hostile_source import answered, changed, collected, entry, gone, lying
+from tests.tools.generating import st, tried
 from tests.tools.running import rows, same
 from tests.tools.taking_source import taking
 
-try:
-    from hypothesis import HealthCheck, Phase, given, settings
-    from hypothesis import strategies as st
-except ModuleNotFoundError:
-    st = None
-
-EXAMPLES = 60
 # What a change of bytes puts in their place, beside any bytes.
 PIECES = [b"", b"\0", b"\n", b"\x1b[2J", b"\xff", b"<", b">", b'"', b"&#10;", b"&a;", b"]]>", b"\xe2\x80\xae", b"-1", b"9" * 400, b"[" * 3_000, b"{}",
           b"1e999", b"9999-12-31T23:59:59.999Z", b"2000-02-30T00:00:00.000Z", b"../", b"%2e", b"#", b"http://", b"null", b"until=\"\"",
@@ -62,13 +57,6 @@ def ran(*words, prints_json=False):
     if "Traceback" in told or (status and not told.strip()):
         raise Differs(f"{words}: status {status}: {told[-600:]}")
     return status, told
-
-
-def tried(strategies, look, examples=EXAMPLES):
-    """Gives a function what strategies make."""
-    how = settings(max_examples=examples, derandomize=True, deadline=None, database=None, suppress_health_check=list(HealthCheck),
-                   phases=[Phase.generate], print_blob=False)
-    how(given(**strategies)(look))()
 
 
 def bytes_near(text):
@@ -116,6 +104,50 @@ def documents_of_a_source(program, room):
         for path in well:
             tried({"path": st.just(path), "answer": bytes_near(well[path].partition(b"\r\n\r\n")[2]).map(answered)}, look, 25)
             tried({"path": st.just(path), "answer": bytes_near(well[path])}, look, 8)
+
+
+def documents_of_any_source(program, room):
+    """Any bytes in the place of a document, a page, a robots.txt or an answer of a source of any software: two runs of mirror."""
+    page = b'<html><head><link rel="resourcesync" href="/capabilitylist.xml"></head></html>'
+    with lying() as liar:
+        created = entry(f"{liar.base}/resource/b", b"b", moment="2000-02-29T00:00:00.002Z").replace("<rs:md ", '<rs:md change="created" ')
+        changed(liar, [created], [gone(f"{liar.base}/resource/a", "2000-02-29T00:00:00.003Z")],
+                bounds=[(f"2000-02-29T00:00:00.00{it}Z", f"2000-02-29T00:00:00.00{it + 1}Z") for it in (1, 2)])
+        liar.documents({"/resource/b": b"b", "/page": page, "/robots.txt": f"Sitemap: {liar.base}/resourcelist.xml".encode()})
+        well = dict(liar.answers)
+        packed = {path: gzip.compress(it.partition(b"\r\n\r\n")[2]) for path, it in well.items()}
+        limits = ["--patience", "0", "--max-time", "2", "--yes"]
+
+        def look(path, answer):
+            liar.answers = well | {path: answer}
+            if path == "/robots.txt":
+                del liar.answers["/.well-known/resourcesync"]
+            with fresh():
+                for start in ("/page", "") if path == "/page" else ("",):
+                    ran("mirror", "--any-source", liar.base + start, "m", *limits)
+                liar.answers = well
+                ran("mirror", "--any-source", liar.base, "m", "--baseline", *limits)
+
+        for path in well:
+            body = well[path].partition(b"\r\n\r\n")[2]
+            tried({"path": st.just(path), "answer": bytes_near(body).map(answered)}, look, 15)
+            tried({"path": st.just(path), "answer": bytes_near(packed[path]).map(answered) | bytes_near(well[path])}, look, 6)
+
+
+def what_such_a_mirror_knows(program, room):
+    """Any bytes in the place of `#known`, and of `#state`, of a mirror of any source."""
+    with lying() as liar:
+        same("a mirror", 0, ran("mirror", "--any-source", liar.base, "m")[0])
+        for name in ("#known", "#state"):
+            well = pathlib.Path("m", name).read_bytes()
+
+            def look(name, text):
+                pathlib.Path("m", name).write_bytes(text)
+                ran("mirror", "--any-source", "--list", liar.base, "m")
+                ran("mirror", "--any-source", liar.base, "m", "--yes")
+
+            tried({"name": st.just(name), "text": bytes_near(well)}, look)
+            pathlib.Path("m", name).write_bytes(well)
 
 
 def documents_of_a_collection(program, room):
@@ -272,8 +304,8 @@ def words_of_commands(program, room):
     tried({"name": st.sampled_from(command.COMMANDS), "given_words": st.lists(word, max_size=5)}, look, 300)
 
 
-CHECKS = [documents_of_a_source, documents_of_a_collection, what_a_mirror_remembers, what_a_source_answers_to_changes, files_of_sources,
-          files_of_settings, names_of_files, answers_of_a_store, words_of_commands]
+CHECKS = [documents_of_a_source, documents_of_any_source, what_such_a_mirror_knows, documents_of_a_collection,
+          what_a_mirror_remembers, what_a_source_answers_to_changes, files_of_sources, files_of_settings, names_of_files, answers_of_a_store, words_of_commands]
 
 
 def main():

@@ -91,12 +91,14 @@ def in_parts(liar, entries, most=5_000):
 def changed(liar, *parts, start=MOMENT, bounds=None):
     """Gives the Change List of a source these entries; where bounds are given, as parts that say them."""
     names = [f"/changelist/{number}.xml" for number in range(len(bounds or []))]
+    ends = [f' until="{last}"' if last is not None else "" for _, last in bounds or []]
     pointers = []
     for name, (first, last) in zip(names, bounds or []):
         said = "".join(f' {word}="{it}"' for word, it in (("from", first), ("until", last)) if it is not None)
         pointers.append(f'<sitemap><loc>{liar.base}{name}</loc><rs:md{said}/></sitemap>\n')
     head = listed("changelist", pointers or parts[0], "sitemapindex" if bounds else "urlset", f' from="{start}"')
-    liar.documents({"/changelist.xml": head} | {name: listed("changelist", it, said=f' from="{MOMENT}"') for name, it in zip(names, parts)})
+    liar.documents({"/changelist.xml": head} | {name: listed("changelist", it, said=f' from="{MOMENT}"{end}')
+                                                     for name, it, end in zip(names, parts, ends)})
 
 
 def collected(liar, sources):

@@ -17,15 +17,13 @@ import re
 import shutil
 import signal
 import struct
-import subprocess
 import sys
 import termios
 from unittest import mock
 
 from ropepeach.connections import Connections
-from tests.mirror.mirrors import DIRECT
-from tests.program import TOOLS, Differs
-from tests.tools import COMMAND, lists_server
+from tests.program import Differs
+from tests.tools import lists_server
 from tests.tools.hostile_source import answered, entry, in_parts, lying
 from tests.tools.running import SECONDS, Server, begun, ended, files_of, has, ropepeach, rows, same, wait_until, written
 from tests.tools.taken import COUNTS, little, most_memory, small_files
@@ -175,16 +173,6 @@ def a_bar_is_shown_on_a_terminal_alone(program, room):
         raise Differs(f"no bar: {shown[-300:]}")
 
 
-def the_old_names_still_work(program, room):
-    """`publish_folder` and `destination` are `ropepeach fill` and `ropepeach mirror`."""
-    folder = written("folder", {"a": b"1", "b": b"2"})
-    with Server(program, "a.disk") as server:
-        for name, words in (("publish_folder", [folder, server.url]), ("destination", [server.url, "m"])):
-            ran = subprocess.run([COMMAND[0], TOOLS / name, *words], capture_output=True, text=True, timeout=SECONDS, env=os.environ | DIRECT)
-            same(name, (0, ""), (ran.returncode, ran.stderr))
-    same("the folder", files_of(folder), files_of("m"))
-
-
 def a_connection_that_stays_open_is_used_again(program, room):
     """A source that keeps its connection open is asked on it again, but not behind an answer of which something is left."""
     answers = {"/a": (200, "text/plain", b"a" * 100_000), "/empty": (200, "text/plain", b""), "/gone": (404, "text/plain", b"x" * 200_000)}
@@ -216,7 +204,7 @@ def a_file_takes_little_memory(program, room):
 
 CHECKS = [
     a_source_that_is_away_is_waited_for, the_address_of_a_description_is_taken, a_wrong_address_leaves_nothing, a_mirror_follows_its_source,
-    a_key_stops_a_run_in_one_line, a_killed_run_leaves_whole_files, a_bar_is_shown_on_a_terminal_alone, the_old_names_still_work,
+    a_key_stops_a_run_in_one_line, a_killed_run_leaves_whole_files, a_bar_is_shown_on_a_terminal_alone,
     a_connection_that_stays_open_is_used_again, a_file_takes_little_memory,
 ]
 

@@ -98,6 +98,16 @@ def what_is_in_its_place_is_synced(program, room):
     same("what is wrong", "", fault_of(room))
 
 
+def a_mirror_of_any_source_keeps_the_rules(program, room):
+    """Two baselines of a source of any software, amid slow syncs and short writes, keep all rules; `#known` is synced too."""
+    with lying() as liar:
+        for files in (FIRST, {name: body for name, body in LATER.items() if name not in GONE}):
+            gives(liar, files)
+            status, said, calls = noted(room, ["--any-source", "--baseline", liar.base], AT_ONCE=5, **SLOW)
+            same(f"{said}: what is wrong", (0, []), (status, cut(calls, True)[:1]))
+            same("what is known is renamed", True, any(it.to == "#known" for it in calls))
+
+
 def a_call_that_fails_ends_a_run(program, room):
     """A write, a sync, a rename or a new folder that fails ends a run by status 3, and leaves whole files; the next run goes on."""
     with lying() as liar:
@@ -168,7 +178,7 @@ def wrong_programs_are_noticed(program, room):
         same(f"{PASSED_OVER[0]}: the status is another one", 0, run(room, liar, FIRST, tools, FAILS=number)[0])
 
 
-CHECKS = [what_is_in_its_place_is_synced, a_call_that_fails_ends_a_run, wrong_programs_are_noticed]
+CHECKS = [what_is_in_its_place_is_synced, a_mirror_of_any_source_keeps_the_rules, a_call_that_fails_ends_a_run, wrong_programs_are_noticed]
 
 if __name__ == "__main__":
     sys.exit(rows("power", CHECKS))

@@ -1,8 +1,8 @@
 """A source as its lists describe it (docs/DOCUMENTS.md), asked over HTTP.
 
-All documents are found from the Source Description, and all addresses in them begin with the source's base: nothing else is asked for. A
-document is taken whole or not at all, and has limits on its bytes, its elements and its entries. Python's own XML parser would expand
-entities, so defusedxml reads the documents.
+All documents are found from the Source Description, and all addresses in them begin with the source's base:
+nothing else is asked for. A document is taken whole or not at all, and has limits on its bytes, its elements
+and its entries. Python's own XML parser would expand entities, so defusedxml reads the documents.
 """
 from __future__ import annotations
 
@@ -16,7 +16,7 @@ import defusedxml
 from defusedxml.ElementTree import ParseError, XMLParser
 
 from ropepeach.connections import Connections, told_by
-from ropepeach.facts import fit, is_name, length_of, packed
+from ropepeach.facts import Facts, exact_facts, fit, is_name, length_of
 from ropepeach.faults import Fault, Long
 from ropepeach.moments import LAST, is_moment
 from ropepeach.room import MOST_CHANGES, MOST_RESOURCES
@@ -29,7 +29,8 @@ ADDRESS = re.compile(r"[!-~]+")
 # An entry has three elements below it at most; Sitemap 0.9 allows 50,000 entries a document.
 MOST_ENTRIES = 50_000
 MOST_ELEMENTS = 4 * MOST_ENTRIES + 100
-# How often a list is read again, if a publication comes meanwhile; the pauses before the third reading and later ones, in seconds.
+# How often a list is read again, if a publication comes meanwhile; the pauses before the third reading and
+# later ones, in seconds.
 READINGS, PAUSE, LONGEST_PAUSE = 50, 0.1, 1.0
 Read = TypeVar("Read")
 
@@ -39,11 +40,13 @@ class Entry(NamedTuple):
 
     name: str
     moment: str
-    facts: bytes | None
+    facts: Facts | None
 
 
 class Changes(NamedTuple):
-    """What a Change List has: the moment of the newest change, and the entries after the moment that was asked for."""
+    """What a Change List has: the moment of the newest change, and the entries after the moment that was
+    asked for.
+    """
 
     newest: str
     entries: list[Entry]
@@ -61,7 +64,8 @@ class Several(Fault):
     """A Source Description that names several sources, or one that lies below it."""
 
     def __init__(self, address: str, bases: list[str]) -> None:
-        super().__init__(f"{address}: the Source Description names {len(bases):,} sources; take each by its own base: {' '.join(bases[:10])}")
+        super().__init__(f"{address}: the Source Description names {len(bases):,} sources; take each by its "
+                         f"own base: {' '.join(bases[:10])}")
         self.bases = bases
 
 
@@ -74,7 +78,8 @@ class Source:
     """A source that is asked at an address, and calls itself by its base."""
 
     def __init__(self, connections: Connections, is_at_base: bool = False, latest: str = LAST) -> None:
-        """Reads the Source Description. A source that is asked at its base has to call itself by that address.
+        """Reads the Source Description. A source that is asked at its base has to call itself by that
+        address.
 
         No moment is taken that is later than the latest one.
         """
@@ -103,7 +108,10 @@ class Source:
 
     def document(self, address: str, take: Callable[[Entry], None] | None = None) -> Element:
         """The root of a document; `take` gets each entry of a list, which the root has not then."""
-        text = self.asked(address, self.connections.longest)
+        return self.parsed(address, self.asked(address, self.connections.longest), take)
+
+    def parsed(self, address: str, text: bytes, take: Callable[[Entry], None] | None = None) -> Element:
+        """The root of the document of an address."""
         self.documents += 1
         parser = XMLParser(target=Builder(address, self.taker(take)), forbid_dtd=True)
         try:
@@ -120,7 +128,7 @@ class Source:
         wanted = take
         return lambda url: wanted(self.entry(url))
 
-    def resource(self, name: str, facts: bytes, following: str | None = None) -> bytes:
+    def resource(self, name: str, facts: Facts, following: str | None = None) -> bytes:
         """The bytes of a resource, if they are the ones that are listed. Another one may follow."""
         self.connections.expected = f"/resource/{following}" if following else ""
         address = f"{self.base}/resource/{name}"
@@ -141,23 +149,25 @@ class Source:
         moment = self.moment(said.get("datetime") or text_of(url, "lastmod"))
         if said.get("change") == "deleted":
             return Entry(name, moment, None)
-        facts = packed(said)
-        if not facts:
-            raise Fault(f"{place}: refused, as it is listed with no length of 16 MiB at most or no digest that is known: {dict(said)}"[:600])
+        facts = exact_facts(said)
+        if facts is None:
+            raise Fault(f"{place}: refused, as it is listed with no length of 16 MiB at most or no digest "
+                        f"that is known: {dict(said)}"[:600])
         return Entry(name, moment, facts)
 
     def moment(self, text: str | None) -> str:
         """A moment of a document, which is not later than the latest one."""
         moment = moment_of(text)
         if moment > self.latest:
-            raise Fault(f"{self.base}: refused, as its lists have the moment {moment}, later than {self.latest}: "
+            raise Fault(f"{self.base}: refused, as its lists have the moment {moment}, later than "
+                        f"{self.latest}: "
                         "one of the two clocks is wrong, this machine's or the source's")
         return moment
 
     def list_of(self, capability: str, most: int, take: Callable[[Entry], None],
                 parts_of: Callable[[Element], list[Element]] = pointers) -> Element:
-        """Reads a list, part by part if it is an index, and gives each entry to `take`. Gives its head, of which `parts_of` says
-        which parts are read.
+        """Reads a list, part by part if it is an index, and gives each entry to `take`. Gives its head, of
+        which `parts_of` says which parts are read.
         """
         counted = 0
 
@@ -170,11 +180,13 @@ class Source:
 
         head = self.document(named(self.lists, capability), count)
         for it in parts_of(head):
-            self.document(text_of(it, "loc"), count)
+            check_age(it, self.document(text_of(it, "loc"), count))
         return head
 
     def read_again(self, read: Callable[[], Read], lost: type[Fault], what: str) -> Read:
-        """Reads lists until they are not lost to a later publication: twice at once, then with pauses that grow, as long as the patience."""
+        """Reads lists until they are not lost to a later publication: twice at once, then with pauses that
+        grow, as long as the patience.
+        """
         end, pause = time.monotonic() + self.connections.patience, 0.0
         for turn in range(1, READINGS + 1):
             try:
@@ -188,11 +200,11 @@ class Source:
             pause = min(2 * pause or PAUSE, LONGEST_PAUSE)
         raise Fault(f"the {what.format(turn)}: {why}")
 
-    def resource_list(self) -> tuple[str, dict[str, bytes | None]]:
+    def resource_list(self) -> tuple[str, dict[str, Facts | None]]:
         """The moment of the latest publication, and the facts of each name in it."""
 
-        def read() -> tuple[str, dict[str, bytes | None]]:
-            found: dict[str, bytes | None] = {}
+        def read() -> tuple[str, dict[str, Facts | None]]:
+            found: dict[str, Facts | None] = {}
 
             def take(entry: Entry) -> None:
                 if entry.name in found:
@@ -218,10 +230,10 @@ class Source:
 
         return self.read_again(read, Unheld, "Change List was read {} times, and each time lost a part")
 
-    def lists_that_meet(self) -> tuple[str, dict[str, bytes | None], Changes]:
+    def lists_that_meet(self) -> tuple[str, dict[str, Facts | None], Changes]:
         """The moment of a publication, the facts in it, and what the Change List has after it."""
 
-        def read() -> tuple[str, dict[str, bytes | None], Changes]:
+        def read() -> tuple[str, dict[str, Facts | None], Changes]:
             at, listed = self.resource_list()
             return at, listed, self.changes(at)
 
@@ -230,16 +242,20 @@ class Source:
 
 
 class Builder(TreeBuilder):
-    """Builds the tree of a document, which has no more elements than a list may have; entries are taken out of it."""
+    """Builds the tree of a document, which has no more elements than a list may have; entries are taken out
+    of it.
+    """
 
-    def __init__(self, address: str, take: Callable[[Element], None] | None) -> None:
+    def __init__(self, address: str, take: Callable[[Element], None] | None,
+                 most_elements: int = MOST_ELEMENTS) -> None:
         super().__init__()
         self.address, self.take, self.elements, self.entries = address, take, 0, 0
+        self.most_elements = most_elements
 
     def start(self, tag: str, attributes: dict[str, str]) -> Element:
         self.elements += 1
         self.entries += tag in (SITEMAP + "url", SITEMAP + "sitemap")
-        if self.elements > MOST_ELEMENTS or self.entries > MOST_ENTRIES:
+        if self.elements > self.most_elements or self.entries > MOST_ENTRIES:
             raise Fault(f"{self.address}: refused, as it has more than {MOST_ENTRIES:,} entries")
         return super().start(tag, attributes)
 
@@ -252,13 +268,16 @@ class Builder(TreeBuilder):
 
 
 class Bounds:
-    """The moments between which the parts of a Change List lie, and which parts have changes after a moment."""
+    """The moments between which the parts of a Change List lie, and which parts have changes after a moment.
+    """
 
     def __init__(self, source: Source, after: str) -> None:
         self.source, self.after, self.start, self.latest = source, after, "", ""
 
     def wanted(self, head: Element) -> list[Element]:
-        """The parts that have changes after the moment. A list that begins later, or whose parts are not in order, is refused."""
+        """The parts that have changes after the moment. A list that begins later, or whose parts are not in
+        order, is refused.
+        """
         self.start = self.latest = self.source.moment(described_by(head).get("from"))
         if self.start > self.after:
             raise Dropped(f"the Change List begins at {self.start}, and not at {self.after} or before")
@@ -267,13 +286,24 @@ class Bounds:
         return [it for it, until in zip(parts, untils) if until > self.after]
 
     def until_of(self, part: Element, is_last: bool) -> str:
-        """The moment of the last change that a part may have. The last part may be open, and have changes of any later moment."""
+        """The moment of the last change that a part may have. The last part may be open, and have changes of
+        any later moment.
+        """
         said = described_by(part)
         start, until = self.source.moment(said.get("from")), said.get("until")
-        if start < self.latest or (until is None and not is_last) or (until is not None and self.source.moment(until) <= start):
-            raise Fault(f"{self.source.base}: refused, as the parts of its Change List are not in the order of their moments")
+        is_open_amid = until is None and not is_last
+        if start < self.latest or is_open_amid or (until is not None and self.source.moment(until) <= start):
+            raise Fault(f"{self.source.base}: refused, as the parts of its Change List are not in the order "
+                        f"of their moments")
         self.latest = start if until is None else until
         return LAST if until is None else until
+
+
+def check_age(pointer: Element, part: Element) -> None:
+    """Refuses a part that does not go as far as the list that names it says: a cache may have kept it from before it was full."""
+    wanted, own = described_by(pointer).get("until"), described_by(part).get("until")
+    if wanted is not None and (own is None or own < wanted):
+        raise Unheld(f"{text_of(pointer, 'loc')}: is older than the list that names it")
 
 
 def changes_in(bounds: Bounds, entries: list[Entry]) -> Changes:
@@ -309,7 +339,8 @@ def moment_of(text: str | None) -> str:
 
 def addresses(document: Element, capability: str) -> list[str]:
     """The addresses at which a document names lists of this kind."""
-    found = [text_of(it, "loc") for it in document.findall(SITEMAP + "url") if described_by(it).get("capability") == capability]
+    found = [text_of(it, "loc") for it in document.findall(SITEMAP + "url")
+             if described_by(it).get("capability") == capability]
     if not found:
         raise Fault(f"the source names no {capability}")
     return found

@@ -1,8 +1,10 @@
-"""Mirrors a collection: each source that a Source Description names, into a folder of its own, some of them side by side.
+"""Mirrors a collection: each source that a Source Description names, into a folder of its own, some of them
+side by side.
 
-Each folder below the one of the whole is then exactly what its source held at the moment in its line. There is no moment for all.
-What moves from one source to another is put there before it is deleted here (ropepeach-grow(1)). So nothing is removed before every
-source was read after the deletion was: what was moved is fetched first, and a mirror has it once or twice, never not at all.
+Each folder below the one of the whole is then exactly what its source held at the moment in its line. There
+is no moment for all. What moves from one source to another is put there before it is deleted here
+(ropepeach-grow(1)). So nothing is removed before every source was read after the deletion was: what was moved
+is fetched first, and a mirror has it once or twice, never not at all.
 """
 from __future__ import annotations
 
@@ -14,8 +16,10 @@ import os
 import time
 from typing import Any
 
-from ropepeach.connections import Connections
-from ropepeach.faults import Fault, Unusable, say
+from ropepeach import output
+from ropepeach.connections import Connections, connections_of
+from ropepeach.facts import Facts
+from ropepeach.faults import Fault, Unusable
 from ropepeach.fill_sending import KEPT
 from ropepeach.limits import Limits
 from ropepeach.lists import Dropped, Several, Source
@@ -24,12 +28,12 @@ from ropepeach.mirror_run import BASELINE, Forecast, Run
 from ropepeach.mirror_whole import Whole, is_whole, parts_of
 from ropepeach.moments import NEVER, latest_now
 from ropepeach.pool import Pool
-from ropepeach.progress import tell
 from ropepeach.side_by_side import Failed, failures
 
 __all__ = ["begin", "is_whole", "run"]
 
-# How often sources are read again because of what others deleted, and how often a run begins anew with other sources.
+# How often sources are read again because of what others deleted, and how often a run begins anew with other
+# sources.
 PASSES, RUNS = 50, 10
 
 
@@ -59,7 +63,7 @@ class Part(Folder):
         self.gone.add(name)
         return self.is_held(name)
 
-    def has(self, name: str, facts: bytes) -> bool:
+    def has(self, name: str, facts: Facts) -> bool:
         self.kept.pop(name, None)
         return super().has(name, facts)
 
@@ -100,8 +104,8 @@ class Message:
 
 @dataclasses.dataclass
 class Report:
-    """What a part did: whether it was a baseline, what is gone since it was asked before, how many of all that were there have to go,
-    how many these are, what it says, and its moment.
+    """What a part did: whether it was a baseline, what is gone since it was asked before, how many of all
+    that were there have to go, how many these are, what it says, and its moment.
     """
 
     is_baseline: bool = False
@@ -115,10 +119,11 @@ class Report:
 class PartRun:
     """A run of one source."""
 
-    def __init__(self, name: str, base: str, given: argparse.Namespace, within: int | None, limits: Limits) -> None:
+    def __init__(self, name: str, base: str, given: argparse.Namespace, within: int | None,
+                 limits: Limits) -> None:
         # How much may be removed is decided for the whole.
         limits = dataclasses.replace(limits, removals=None, is_sure=True)
-        connections = Connections(base, given.patience, given.certificate, given.max_time, limits)
+        connections = connections_of(given, base, limits)
         self.name, self.given = name, given
         self.folder = Part(os.path.join(given.folder, name), connections.address, within)
         if given.incremental and self.folder.until is None:
@@ -129,7 +134,8 @@ class PartRun:
     def answer(self, message: Message) -> Report:
         """Does a step."""
         try:
-            steps = {Step.FORETELL: self.foretell, Step.BEGIN: self.begin, Step.READ_ON: self.read_on, Step.RELEASE: self.release}
+            steps = {Step.FORETELL: self.foretell, Step.BEGIN: self.begin, Step.READ_ON: self.read_on,
+                     Step.RELEASE: self.release}
             return steps[message.step](message)
         finally:
             self.source.connections.rest()
@@ -172,7 +178,9 @@ class PartRun:
         return Report(going=going, held=self.folder.held, lines=lines or [], until=self.folder.until or "")
 
     def is_due(self, names: set[str]) -> bool:
-        """Whether the source has new changes that may have brought one of these names; any one, where none are given."""
+        """Whether the source has new changes that may have brought one of these names; any one, where none
+        are given.
+        """
         try:
             entries = self.source.changes(self.folder.until or NEVER).entries
         except Dropped:
@@ -192,13 +200,16 @@ def begin(given: argparse.Namespace, connections: Connections, folder: Folder) -
     """Mirrors a collection into a folder that is no mirror yet."""
     if folder.is_open:
         if folder.tree.is_there(STATE):
-            raise Unusable(f"{folder.path}: is a mirror of one source, and {connections.address} names several: take another folder")
+            raise Unusable(f"{folder.path}: is a mirror of one source, and {connections.address} names "
+                           f"several: take another folder")
         folder.close()
     return run(given, connections)
 
 
 def run(given: argparse.Namespace, connections: Connections) -> int:
-    """Mirrors all, anew where the Source Description names other sources meanwhile, and gives the exit status."""
+    """Mirrors all, anew where the Source Description names other sources meanwhile, and gives the exit
+    status.
+    """
     path = os.path.abspath(given.folder)
     whole = Whole(path, connections.address) if is_whole(given.folder) else None
     limits = dataclasses.replace(connections.limits, taken=SharedCount())
@@ -229,12 +240,13 @@ def foretold(given: argparse.Namespace, parts: dict[str, str], whole: Whole | No
             tell_of(name, it)
         else:
             for line in it.lines:
-                say(line)
+                output.result(line)
     check_removals(limits, [it for name, it in answers.items() if name not in failed])
     return status_of(failed)
 
 
-def once(given: argparse.Namespace, connections: Connections, parts: dict[str, str], whole: Whole, limits: Limits) -> int | None:
+def once(given: argparse.Namespace, connections: Connections, parts: dict[str, str], whole: Whole,
+         limits: Limits) -> int | None:
     """Mirrors these sources. Gives the exit status, or nothing where there are others by now."""
     with pool_of(given, parts, whole, limits) as pool:
         answers = pool.asked(dict.fromkeys(parts, Message(Step.BEGIN)))
@@ -242,7 +254,8 @@ def once(given: argparse.Namespace, connections: Connections, parts: dict[str, s
         for _ in range(PASSES):
             well = {name: it for name, it in answers.items() if name not in failed}
             reports |= well
-            is_baseline, gone = any(it.is_baseline for it in well.values()), set[str]().union(*(it.gone for it in well.values()))
+            is_baseline = any(it.is_baseline for it in well.values())
+            gone = set[str]().union(*(it.gone for it in well.values()))
             waiting |= {name for name, it in well.items() if it.gone}
             if not is_baseline and not gone:
                 break
@@ -271,16 +284,19 @@ def told(parts: dict[str, str], answers: dict[str, Any], failed: dict[str, Faile
     ended = {name: it for name, it in answers.items() if name not in failed}
     for name in parts:
         if name in ended:
-            say(f"{name}: {' '.join(ended[name].lines)}")
+            output.result(f"{name}: {' '.join(ended[name].lines)}")
         elif name in failed:
             tell_of(name, failed[name])
         else:
-            tell(f"{name}: keeps what its source deleted, and its old moment, until the others can be read")
+            output.message(f"{name}: keeps what its source deleted, and its old moment, until the others can "
+                           f"be read")
     moments = sorted(it.until for it in ended.values())
     if moments:
-        say(f"{len(ended):,} of {len(parts):,} sources, each at its own moment, from {moments[0]} to {moments[-1]}")
+        output.result(f"{len(ended):,} of {len(parts):,} sources, each at its own moment, from {moments[0]} "
+                      f"to {moments[-1]}")
     for it in whole.others(parts):
-        tell(f"{it}: no source of this name is in the Source Description any more; its folder stays")
+        output.message(f"{it}: no source of this name is in the Source Description any more; its folder "
+                       f"stays")
     return status_of(failed)
 
 
@@ -288,7 +304,7 @@ def tell_of(name: str, failed: Failed) -> None:
     """Writes why a source's part failed."""
     first, *more = failed.lines
     for it in (f"{name}: {first}", *more):
-        tell(it)
+        output.message(it)
 
 
 def status_of(failed: dict[str, Failed]) -> int:

@@ -1,14 +1,16 @@
 """The folder of a mirror: where each resource lies, how it gets there, and what is remembered.
 
-A name is a path of segments joined by `/`, and its bytes lie in the file of that path below the folder, byte for byte as the name is
-written, `%` too. A name that is held while another one lies below it (`a` and `a/b`) can't be a file and a folder at once: it has then a
-`#` behind it (`a#` beside `a/b`), which stands in no name. Where a resource lies follows from the names held alone. `#state` and
-`#incoming` at the top are the mirror's own: what is remembered, and what is being written. All else that begins with `#` is somebody
-else's, and stays.
+A name is a path of segments joined by `/`, and its bytes lie in the file of that path below the folder, byte
+for byte as the name is written, `%` too. A name that is held while another one lies below it (`a` and `a/b`)
+can't be a file and a folder at once: it has then a `#` behind it (`a#` beside `a/b`), which stands in no
+name. Where a resource lies follows from the names held alone. `#state` and `#incoming` at the top are the
+mirror's own: what is remembered, and what is being written. All else that begins with `#` is somebody else's,
+and stays.
 
-Each change is a rename of a synced file, so a stop at any moment, a power cut too, leaves every file whole. What a stop can leave is a
-folder with nothing in it, and a name with a `#` that needs none: opening a folder puts both right. Nothing is remembered of a run before
-its files are in their places, and synced there. No link below the folder is followed (mirror_tree.py).
+Each change is a rename of a synced file, so a stop at any moment, a power cut too, leaves every file whole.
+What a stop can leave is a folder with nothing in it, and a name with a `#` that needs none: opening a folder
+puts both right. Nothing is remembered of a run before its files are in their places, and synced there. No
+link below the folder is followed (mirror_tree.py).
 """
 from __future__ import annotations
 
@@ -22,11 +24,11 @@ import re
 import stat
 from collections.abc import Iterator
 
-from ropepeach.facts import fit, is_name, length_of
+from ropepeach import output
+from ropepeach.facts import Facts, fit, has_length, is_name, length_of
 from ropepeach.faults import Unusable
 from ropepeach.mirror_state import FRONTS, LONGEST, State
 from ropepeach.mirror_tree import FOLDER, Tree
-from ropepeach.progress import tell
 
 STATE, INCOMING = "#state", "#incoming"
 ASIDE = "#"
@@ -43,7 +45,9 @@ def above_it(name: str) -> list[str]:
 
 
 def sync_all(opened: int) -> None:
-    """Syncs the whole file system of an open folder: on Linux this waits for the disk, as fsync of each of its files would."""
+    """Syncs the whole file system of an open folder: on Linux this waits for the disk, as fsync of each of
+    its files would.
+    """
     if LIBRARY.syncfs(opened):
         raise OSError(ctypes.get_errno(), os.strerror(ctypes.get_errno()))
 
@@ -51,14 +55,18 @@ def sync_all(opened: int) -> None:
 class Folder:
     """A folder that one program at a time makes the mirror of one source."""
 
-    def __init__(self, path: str, source: str, within: int | None = None) -> None:
-        """Looks at a folder, and changes nothing: `begin` does. The last segment of a path may be one of an open folder."""
+    def __init__(self, path: str, source: str, within: int | None = None, is_any: bool = False) -> None:
+        """Looks at a folder, and changes nothing: `begin` does. The last segment of a path may be one of an
+        open folder.
+        """
         self.path, self.source, self.within, self.lock = os.path.abspath(path), source, within, -1
+        self.is_any = is_any
         self.until: str | None = None
         self.newest: str | None = None
         self.worker: concurrent.futures.ThreadPoolExecutor | None = None
         self.incoming: int | None = None
-        # What was written since the last sync began, and its bytes; how many files were written; what is being synced, and that sync.
+        # What was written since the last sync began, and its bytes; how many files were written; what is
+        # being synced, and that sync.
         self.written: list[tuple[str, str]] = []
         self.syncing: list[tuple[str, str]] = []
         self.synced: concurrent.futures.Future[None] | None = None
@@ -89,7 +97,8 @@ class Folder:
         try:
             return os.open(os.path.basename(self.path), FOLDER, dir_fd=self.within)
         except NotADirectoryError:
-            raise Unusable(f"{self.path}: is a link, or no folder, and a mirror follows no link: move it away") from None
+            raise Unusable(f"{self.path}: is a link, or no folder, and a mirror follows no link: move it "
+                           f"away") from None
 
     def open(self) -> None:
         """Locks the folder, and reads what it remembers."""
@@ -108,13 +117,18 @@ class Folder:
         state = self.state()
         if state.source != self.source and not (is_empty and state.until is None):
             raise Unusable(f"{self.path}: is a mirror of {state.source}")
+        if state.is_any != self.is_any and not is_empty:
+            raise Unusable(f"{self.path}: was made {'with' if state.is_any else 'without'} --any-source, and "
+                           f"goes on so")
         if state.is_true():
             self.until, self.newest = state.until, state.newest
         else:
-            tell(f"{self.at(STATE)}: remembers {state.until} and {state.newest}, which no source may have by now: this run is a baseline")
+            output.message(f"{self.at(STATE)}: remembers {state.until} and {state.newest}, which no source "
+                           f"may have by now: this run is a baseline")
 
     def is_begun(self) -> bool:
-        """Whether what lies where the first state is written is such a state, which a stop left, or nothing."""
+        """Whether what lies where the first state is written is such a state, which a stop left, or nothing.
+        """
         found = self.tree.status(INCOMING)
         if found is None:
             return True
@@ -185,7 +199,7 @@ class Folder:
         found = self.tree.status(self.place(name)) if self.is_open else None
         return found.st_size if found is not None and stat.S_ISREG(found.st_mode) else 0
 
-    def has(self, name: str, facts: bytes) -> bool:
+    def has(self, name: str, facts: Facts) -> bool:
         """Whether the file of a name has what a list says."""
         if not self.is_open:
             return False
@@ -197,7 +211,9 @@ class Folder:
                 number = self.tree.opened(name + ASIDE)
                 found = os.fstat(number)
             with open(number, "rb", buffering=0) as file:
-                return stat.S_ISREG(found.st_mode) and found.st_size == length_of(facts) and fit(facts, file.read())
+                is_fit = stat.S_ISREG(found.st_mode) and (not has_length(facts)
+                                                          or found.st_size == length_of(facts))
+                return is_fit and fit(facts, file.read())
         except (FileNotFoundError, NotADirectoryError):
             self.absent.add(name)
             return False
@@ -211,7 +227,7 @@ class Folder:
         """Counts what is there."""
         self.held = sum(len(it.others) for it in self.tree.levels(ASIDE)) if self.is_open else 0
 
-    def check_room(self, wanted: dict[str, bytes]) -> None:
+    def check_room(self, wanted: dict[str, Facts]) -> None:
         """Refuses what the folder's file system has no room for, if it says how much that is."""
         room = os.fstatvfs(self.lock) if self.is_open else None
         if room is None or not room.f_blocks:
@@ -219,14 +235,17 @@ class Folder:
         free, unit = room.f_bavail * room.f_frsize, room.f_frsize
         if sum(rounded(length_of(facts), unit) for facts in wanted.values()) <= free:
             return
-        more = sum(max(0, rounded(length_of(facts), unit) - rounded(self.length(name), unit)) for name, facts in wanted.items())
+        more = sum(max(0, rounded(length_of(facts), unit) - rounded(self.length(name), unit)) for name,
+                   facts in wanted.items())
         if more > free:
-            raise Unusable(f"{self.path}: has room for {free:,} bytes, and what the source lists takes {more:,} more: nothing was fetched")
+            raise Unusable(f"{self.path}: has room for {free:,} bytes, and what the source lists takes "
+                           f"{more:,} more: nothing was fetched")
 
     def write(self, name: str, body: bytes) -> None:
         """Gives a name these bytes, once `settle` has put them in their place."""
         path = str(self.number)
-        with open(os.open(path, os.O_WRONLY | os.O_CREAT | os.O_EXCL | os.O_NOFOLLOW, 0o666, dir_fd=self.enter_incoming()), "wb") as file:
+        with open(os.open(path, os.O_WRONLY | os.O_CREAT | os.O_EXCL | os.O_NOFOLLOW, 0o666,
+                          dir_fd=self.enter_incoming()), "wb") as file:
             # (it is there from now on, and goes if the run ends)
             self.written.append((path, name))
             file.write(body)
@@ -309,12 +328,14 @@ class Folder:
         """Refuses a file system that has two names of a source as one, or a name as another one."""
         folder = self.enter_incoming()
         try:
-            os.close(os.open(PROBE, os.O_WRONLY | os.O_CREAT | os.O_EXCL | os.O_NOFOLLOW, 0o666, dir_fd=folder))
+            os.close(os.open(PROBE, os.O_WRONLY | os.O_CREAT | os.O_EXCL | os.O_NOFOLLOW, 0o666,
+                             dir_fd=folder))
             found = [*os.listdir(folder), *(it for it in (FOLDED, PROBE.rstrip(".")) if is_at(folder, it))]
         except OSError as fault:
             if fault.errno not in (errno.EINVAL, errno.EILSEQ):
                 raise
-            raise Unusable(f"{self.path}: its file system does not take each name that a resource may have: {fault.strerror}") from None
+            raise Unusable(f"{self.path}: its file system does not take each name that a resource may have: "
+                           f"{fault.strerror}") from None
         finally:
             self.drop_incoming()
         if found != [PROBE]:
@@ -345,7 +366,7 @@ class Folder:
         """Writes the state, once all else is synced. What was written has to be in its place."""
         self.drop_incoming()
         sync_all(self.lock)
-        state = State(self.source, until, newest)
+        state = State(self.source, until, newest, self.is_any)
         with open(self.tree.made(INCOMING), "wb") as file:
             file.write(state.text())
             file.flush()

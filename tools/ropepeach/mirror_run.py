@@ -5,7 +5,7 @@ import dataclasses
 import time
 from collections.abc import Iterable
 
-from ropepeach.facts import length_of
+from ropepeach.facts import Facts, length_of
 from ropepeach.faults import Fault, Silent
 from ropepeach.limits import Limits, Spent
 from ropepeach.lists import Changes, Dropped, Entry, Source, Unheld
@@ -18,12 +18,14 @@ PASSES, RUNS = 50, 10
 # This many of the resources that could not be had are named.
 NAMED = 20
 # What is wanted of names: facts, or None where one is deleted.
-Wanted = dict[str, bytes | None]
+Wanted = dict[str, Facts | None]
 
 
 @dataclasses.dataclass
 class Aim:
-    """Where a run goes: which way, what it wants of each name, since which moment, and the changes that were read."""
+    """Where a run goes: which way, what it wants of each name, since which moment, and the changes that were
+    read.
+    """
 
     way: str
     wanted: Wanted
@@ -35,7 +37,8 @@ class Run:
     """Brings a folder to a point of its source's history."""
 
     def __init__(self, source: Source, folder: Folder, limits: Limits | None = None) -> None:
-        self.source, self.folder, self.limits, self.started = source, folder, limits or Limits(), time.monotonic()
+        self.source, self.folder, self.limits = source, folder, limits or Limits()
+        self.started = time.monotonic()
         self.fetched = self.bytes = self.removed = self.again = 0
         # How many are gone of what was there before.
         self.lost = 0
@@ -119,7 +122,7 @@ class Run:
         self.folder.settle()
         return left
 
-    def is_had(self, name: str, facts: bytes, bar: Progress) -> bool:
+    def is_had(self, name: str, facts: Facts, bar: Progress) -> bool:
         """Whether a file needs no fetching."""
         self.limits.check_time()
         is_had = self.folder.has(name, facts)
@@ -127,7 +130,7 @@ class Run:
             bar.add(1, length_of(facts))
         return is_had
 
-    def fetch(self, name: str, facts: bytes, following: str | None) -> None:
+    def fetch(self, name: str, facts: Facts, following: str | None) -> None:
         """Fetches one resource, and lets the source work on the one behind it meanwhile."""
         try:
             self.limits.check_next(length_of(facts))
@@ -146,7 +149,8 @@ class Run:
         again = f", {self.again:,} anew" if self.again else ""
         rate = f"{self.bytes / 1_000_000 / seconds:.1f} MB a second"
         done = f"fetched {self.fetched:,}{again} ({self.bytes:,} bytes, {rate}), removed {self.removed:,}"
-        return f"{self.way}: {done}, read {self.source.documents:,} documents, {seconds:.1f} seconds; as of {until}"
+        documents = f"read {self.source.documents:,} documents"
+        return f"{self.way}: {done}, {documents}, {seconds:.1f} seconds; as of {until}"
 
 
 class Forecast:
@@ -159,13 +163,16 @@ class Forecast:
             aim = run.aim(True)
         self.run, self.way, self.until = run, aim.way, last_of(aim.changes, aim.since)
         self.going = run.going(aim.wanted)
-        self.lacking = {name: facts for name, facts in aim.wanted.items() if facts is not None and not run.folder.has(name, facts)}
+        self.lacking = {name: facts for name, facts in aim.wanted.items()
+                        if facts is not None and not run.folder.has(name, facts)}
 
     def lines(self, front: str = "") -> list[str]:
         """A line for each resource, and one for all."""
         size = sum(map(length_of, self.lacking.values()))
-        told = f"{self.way}: {len(self.lacking):,} to fetch ({size:,} bytes), {len(self.going):,} to remove; as of {self.until}"
-        return [*(f"remove {front}{it}" for it in self.going), *(f"fetch {front}{it}" for it in self.lacking), told]
+        to_fetch = f"{len(self.lacking):,} to fetch ({size:,} bytes)"
+        told = f"{self.way}: {to_fetch}, {len(self.going):,} to remove; as of {self.until}"
+        return [*(f"remove {front}{it}" for it in self.going), *(f"fetch {front}{it}" for it in self.lacking),
+                told]
 
 
 def facts_of(entries: Iterable[Entry]) -> Wanted:

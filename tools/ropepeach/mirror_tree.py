@@ -1,7 +1,8 @@
-"""What lies below a folder, reached by the descriptors of the folders above it: no link is followed, whoever puts one there meanwhile.
+"""What lies below a folder, reached by the descriptors of the folders above it: no link is followed, whoever
+puts one there meanwhile.
 
-A path is one of segments joined by `/`, below the folder. The folders of the path that was asked for last stay open, since the next path
-mostly has them too.
+A path is one of segments joined by `/`, below the folder. The folders of the path that was asked for last
+stay open, since the next path mostly has them too.
 """
 import dataclasses
 import os
@@ -14,7 +15,8 @@ from ropepeach.room import LONGEST_NAME
 # No name that a source may have lies in more folders.
 DEEPEST = LONGEST_NAME // 2
 FOLDER = os.O_RDONLY | os.O_DIRECTORY | os.O_NOFOLLOW
-READING, MAKING = os.O_RDONLY | os.O_NOFOLLOW | os.O_NONBLOCK | os.O_NOCTTY, os.O_WRONLY | os.O_CREAT | os.O_EXCL | os.O_NOFOLLOW
+READING = os.O_RDONLY | os.O_NOFOLLOW | os.O_NONBLOCK | os.O_NOCTTY
+MAKING = os.O_WRONLY | os.O_CREAT | os.O_EXCL | os.O_NOFOLLOW
 
 
 class Linked(Unusable):
@@ -23,7 +25,9 @@ class Linked(Unusable):
 
 @dataclasses.dataclass
 class Level:
-    """What a folder holds: its path with a `/` behind it, or nothing for the top, and the last segments of folders and of all else."""
+    """What a folder holds: its path with a `/` behind it, or nothing for the top, and the last segments of
+    folders and of all else.
+    """
 
     front: str
     folders: set[str]
@@ -71,7 +75,8 @@ class Tree:
         except NotADirectoryError:
             if stat.S_ISLNK(os.stat(segment, dir_fd=above, follow_symlinks=False).st_mode):
                 path = self.shown("/".join([*(it for it, _ in self.way), segment]))
-                raise Linked(f"{path}: is a link, and none below a folder is followed: move it away") from None
+                says = "is a link, and none below a folder is followed: move it away"
+                raise Linked(f"{path}: {says}") from None
             raise
 
     def parted(self, path: str) -> tuple[int, str]:
@@ -138,7 +143,9 @@ class Tree:
         os.rmdir(last, dir_fd=above)
 
     def listed(self, path: str) -> Iterator[tuple[str, bool]]:
-        """The last segments of what a folder holds, as it comes, and whether each is a folder; a link to a folder is none."""
+        """The last segments of what a folder holds, as it comes, and whether each is a folder; a link to a
+        folder is none.
+        """
         with os.scandir(self.folder(path)) as entries:
             for it in entries:
                 yield it.name, it.is_dir(follow_symlinks=False)
@@ -149,7 +156,8 @@ class Tree:
         while due:
             front = due.pop()
             if front.count("/") > DEEPEST:
-                raise Unusable(f"{self.shown(front)[:300]}: lies deeper than any resource: a mirror has none but its own folders")
+                raise Unusable(f"{self.shown(front)[:300]}: lies deeper than any resource: a mirror has none "
+                               f"but its own folders")
             level = Level(front, set(), [])
             for it, is_folder in self.listed(front.rstrip("/")):
                 if not it.startswith(is_passed):

@@ -1,4 +1,5 @@
-"""The folder of a mirror of a collection: which collection it is of, and which folder each source has in it."""
+"""The folder of a mirror of a collection: which collection it is of, and which folder each source has in it.
+"""
 from __future__ import annotations
 
 import fcntl
@@ -73,16 +74,19 @@ class Whole:
 def parts_of(bases: list[str], address: str, is_elsewhere: bool) -> dict[str, str]:
     """The folder of each base: the path below the address of the whole, or else the base itself."""
     if len(bases) > MOST_SOURCES:
-        raise Fault(f"{address}: refused, as the Source Description names {len(bases):,} sources, more than {MOST_SOURCES:,}")
+        raise Fault(f"{address}: refused, as the Source Description names {len(bases):,} sources, more than "
+                    f"{MOST_SOURCES:,}")
     if len(set(bases)) < len(bases):
-        raise Fault(f"{address}: refused, as the Source Description names {len(bases):,} sources, and one of them twice")
+        raise Fault(f"{address}: refused, as the Source Description names {len(bases):,} sources, and one of "
+                    f"them twice")
     parts: dict[str, str] = {}
     for base in bases:
         if not BASE.fullmatch(base):
             raise Fault(f"{base[:300]}: refused, as it is no base of a source")
         path = base.removeprefix(address + "/")
         if path == base and not is_elsewhere:
-            raise Fault(f"{base}: refused, as it is not below {address}; --elsewhere takes sources of other hosts")
+            raise Fault(f"{base}: refused, as it is not below {address}; --elsewhere takes sources of other "
+                        f"hosts")
         name = urllib.parse.quote(path.partition("://")[2] if path == base else path, safe="")
         if not is_name(name) or parts.setdefault(name, base) != base:
             raise Fault(f"{base}: refused, as its folder would be {name}, which is another one's or no name")

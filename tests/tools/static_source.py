@@ -1,0 +1,169 @@
+"""Sources of other software, as static files: documents in the styles of five programs, and a server of files
+as nginx serves them.
+
+The styles are written from memory of what these programs make: none of them was run. What matters is what
+they differ in: where lists lie, which moments, digests and lengths they have, and what they leave out.
+"""
+import contextlib
+import dataclasses
+import email.utils
+import gzip
+import hashlib
+import http.server
+import threading
+import time
+from collections.abc import Iterator
+from xml.sax.saxutils import escape
+
+SPACES = ('xmlns="http://www.sitemaps.org/schemas/sitemap/0.9" '
+          'xmlns:rs="http://www.openarchives.org/rs/terms/"')
+FIRST, SECOND, THIRD = "2013-01-03T09:00:00Z", "2013-01-03T10:00:00Z", "2013-01-03T11:00:00Z"
+
+
+@dataclasses.dataclass
+class Style:
+    """How a program writes lists: where they and the resources lie, which digests, and whether lengths, types
+    and `at` are there.
+    """
+
+    lists: str = "/"
+    resources: str = "/"
+    hashes: tuple[str, ...] = ()
+    has_length: bool = False
+    kind: str = ""
+    has_at: bool = True
+    has_changes: bool = True
+    has_description: bool = True
+    has_dump: bool = False
+
+
+STYLES = {
+    "resync": Style(hashes=("md5",), has_length=True),
+    "dspace": Style("/resourcesync/", "/bitstream/123456789/1/", ("md5",), True, "application/pdf",
+                    has_dump=True),
+    "hyrax": Style("/", "/concern/works/", has_length=False),
+    "sitemap": Style("/", "/pages/", ("sha-1", "sha-512"), has_at=False, has_changes=False,
+                     has_description=False),
+    "dumps": Style("/rs/", "/data/", ("sha-256", "md5"), True, "text/plain", has_dump=True),
+}
+
+
+def md(**attributes: str) -> str:
+    """An `rs:md` of the attributes that say something."""
+    return "<rs:md" + "".join(f' {name}="{escape(text)}"' for name, text in attributes.items() if text) + "/>"
+
+
+def urlset(head: str, entries: list[str], root: str = "urlset") -> bytes:
+    """A document."""
+    front = f'<?xml version="1.0" encoding="UTF-8"?>\n<{root} {SPACES}>\n'
+    return f'{front}{head}\n{"".join(entries)}</{root}>\n'.encode()
+
+
+def url(loc: str, lastmod: str = "", inner: str = "", tag: str = "url") -> str:
+    """An entry."""
+    modified = f"<lastmod>{lastmod}</lastmod>" if lastmod else ""
+    return f"<{tag}><loc>{escape(loc)}</loc>{modified}{inner}</{tag}>\n"
+
+
+def facts(style: Style, body: bytes, **more: str) -> str:
+    """What a style says of a body."""
+    hashes = " ".join(f"{it}:{hashlib.new(it.replace('-', ''), body).hexdigest()}" for it in style.hashes)
+    return md(**more, hash=hashes, length=str(len(body)) if style.has_length else "", type=style.kind)
+
+
+def lists_of(style: Style, base: str, files: dict[str, bytes], at: str = FIRST,
+             changes: list[str] | None = None) -> dict[str, bytes]:
+    """The documents and the files of a source, by path. The changes are entries that `url` made."""
+    where, up = base + style.lists, f'<rs:ln rel="up" href="{base}{style.lists}capabilitylist.xml"/>'
+    named = ["resourcelist"] + ["changelist"] * style.has_changes + ["resourcedump"] * style.has_dump
+    listed = [url(f"{base}{style.resources}{name}", at, facts(style, body)) for name, body in files.items()]
+    head = up + md(capability="resourcelist", at=at if style.has_at else "") if style.has_description else ""
+    texts = {style.lists + "resourcelist.xml": urlset(head, listed)}
+    if style.has_changes:
+        texts[style.lists + "changelist.xml"] = urlset(up + md(capability="changelist", **{"from": at}),
+                                                       changes or [])
+    if style.has_description:
+        entries = [url(f"{where}{it}.xml", inner=md(capability=it)) for it in named]
+        texts[style.lists + "capabilitylist.xml"] = urlset(md(capability="capabilitylist"), entries)
+        lists = [url(f"{where}capabilitylist.xml", inner=md(capability="capabilitylist"))]
+        texts["/.well-known/resourcesync"] = urlset(md(capability="description"), lists)
+    else:
+        texts["/robots.txt"] = f"User-agent: *\nSitemap: {where}resourcelist.xml\n".encode()
+    return texts | {style.resources + name: body for name, body in files.items()}
+
+
+class Static(http.server.ThreadingHTTPServer):
+    """A server of files by path, with `ETag` and `Last-Modified`; documents are packed where that is asked
+    for.
+    """
+
+    daemon_threads = True
+
+    def __init__(self) -> None:
+        super().__init__(("127.0.0.1", 0), Handler)
+        self.base = f"http://127.0.0.1:{self.server_address[1]}"
+        self.files: dict[str, bytes] = {}
+        self.fields: dict[str, list[tuple[str, str]]] = {}
+        self.asked: list[tuple[str, int]] = []
+        self.has_tags = self.has_dates = True
+
+    def hold(self, style: Style, files: dict[str, bytes], at: str = FIRST,
+             changes: list[str] | None = None) -> None:
+        """Serves what a style makes of files, and nothing else."""
+        self.files = lists_of(style, self.base, files, at, changes)
+
+    def statuses(self, front: str = "/") -> dict[str, int]:
+        """The last status of each path that was asked for since this was called before."""
+        asked, self.asked = self.asked, []
+        return {path: status for path, status in asked if path.startswith(front)}
+
+    def handle_error(self, request: object, client_address: object) -> None:
+        """Says nothing of a client that leaves early."""
+
+
+class Handler(http.server.BaseHTTPRequestHandler):
+    """Answers GET."""
+
+    server: Static
+    protocol_version = "HTTP/1.1"
+    # (head and body go together: else each answer waits for an acknowledgement)
+    wbufsize = 65_536
+
+    def do_GET(self) -> None:
+        """Answers with a file, or that it is as it was."""
+        body = self.server.files.get(self.path)
+        tag = '"' + hashlib.md5(body or b"").hexdigest() + '"'
+        is_same = self.server.has_tags and self.headers.get("If-None-Match") == tag
+        status = 404 if body is None else 304 if is_same else 200
+        self.server.asked.append((self.path, status))
+        self.send_response(status)
+        for name, text in self.server.fields.get(self.path, []):
+            self.send_header(name, text)
+        if body is not None and self.server.has_tags:
+            self.send_header("ETag", tag)
+        if body is not None and self.server.has_dates:
+            self.send_header("Last-Modified", email.utils.formatdate(time.time(), usegmt=True))
+        sent = b"" if body is None or status == 304 else body
+        if "gzip" in self.headers.get("Accept-Encoding", "") and sent.startswith(b"<?xml"):
+            sent = gzip.compress(sent)
+            self.send_header("Content-Encoding", "gzip")
+        self.send_header("Content-Length", str(len(sent)))
+        self.end_headers()
+        with contextlib.suppress(OSError):
+            self.wfile.write(sent)
+
+    def log_message(self, *_: object) -> None:
+        """Logs nothing."""
+
+
+@contextlib.contextmanager
+def static() -> Iterator[Static]:
+    """A server, which ends with the block."""
+    with Static() as server:
+        thread = threading.Thread(target=server.serve_forever, args=(0.05,), daemon=True)
+        thread.start()
+        try:
+            yield server
+        finally:
+            server.shutdown()
+            thread.join(10)
