@@ -88,6 +88,7 @@ class Host:
                          ("/var/cache/ropepeach-collection levels", f"{self.room}/cache levels")]:
             same(f"places of {old!r}", 1, site.count(old))
             site = site.replace(old, new)
+        site = site.replace("/var/log/nginx/", f"{self.room}/")
         return nginx_settings(self.room, site.replace(INSTALLED_PAGE, str(self.page)) if self.page else site)
 
     def begin(self, *words):

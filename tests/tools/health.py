@@ -199,8 +199,8 @@ def the_file_for_prometheus(room, program):
 def wrong_arguments(room, program):
     for words in ([], ["ftp://a"], ["http://127.0.0.1:1", "--change-age", "0"], ["http://127.0.0.1:1", "--changes-warning", "x"]):
         it = ran("health", *words)
-        wanted(it.returncode == 2, f"{words}: status {it.returncode}: {it.stdout!r} {it.stderr!r}")
-    return "status 2"
+        wanted(it.returncode == 3, f"{words}: status {it.returncode}: {it.stdout!r} {it.stderr!r}")
+    return "status 3"
 
 
 def the_program(room, program):

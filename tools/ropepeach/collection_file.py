@@ -1,28 +1,33 @@
 """The settings of a collection: a file in TOML, which names the address of the whole and each source.
 
-    address = "https://archive.example.org"          where all are served: a host, whose description names each source
-    name = "archive"                                 the name of the whole in the site, where it is not `collection`
-    near = ["192.0.2.0/24"]                          who may change them through the site, where it is not this machine alone
-    certificate = "/etc/ssl/certs/archive.pem"       the files of TLS, if the site's own names do not do
+    address = "https://archive.example.org"      where all are served: a host, whose description names each source
+    name = "archive"                             the name of the whole in the site, where it is not `collection`
+    near = ["192.0.2.0/24"]                      who may change them through the site, if not this machine only
+    certificate = "/etc/ssl/certs/archive.pem"   the files of TLS, if the site's own names do not do
     key = "/etc/ssl/private/archive.key"
-    depositors = "/etc/ssl/certs/depositors.pem"     who vouches for clients that may change them, if there are such
+    depositors = "/etc/ssl/certs/depositors.pem"    who vouches for clients that may change them, if there are such
+    may = [["CN=alice,O=Library", "papers/"]]    which certificate may change which names only, by their prefix
 
-    [source.s1]                                      a name, which never changes: by it names of resources find their source
-    address = "http://127.0.0.1:8081"                where the program listens
-    base = "https://archive.example.org/s1"          the address below which the source is served, as it was formatted with
+    [source.s1]                                  a name, which never changes: by it names find their source
+    address = "http://127.0.0.1:8081"            where the program listens
+    base = "https://archive.example.org/s1"      the address below which the source is served, as it was formatted with
     file = "/var/lib/ropepeach/s1.disk"
 """
+from __future__ import annotations
+
 import ipaddress
 import re
 import tomllib
 from dataclasses import dataclass
+from typing import Any
 from urllib.parse import urlsplit
 
 from ropepeach.faults import Misused
 from ropepeach.rendezvous import Homes
-from ropepeach.site_text import LOOPBACK
+from ropepeach.site_text import LOOPBACK, Rule
 
-KEYS, NEEDED = {"address", "name", "near", "certificate", "key", "depositors", "source"}, {"address", "source"}
+KEYS, NEEDED = {"address", "name", "near", "certificate", "key", "depositors", "may",
+                "source"}, {"address", "source"}
 SOURCE_KEYS = {"address", "base", "file"}
 SOURCE_NAME = re.compile(r"[a-z0-9][a-z0-9-]{0,31}")
 HOST = r"[A-Za-z0-9.-]+(?::\d{1,5})?"
@@ -46,89 +51,119 @@ class Member:
     base: str
     file: str
 
-    def listens(self):
+    def listens(self) -> tuple[str, str]:
         """The address and the port on which the program listens."""
-        return LISTENS.fullmatch(self.address).groups()
+        place = urlsplit(self.address)
+        return place.netloc.rpartition(":")[0], place.netloc.rpartition(":")[2]
 
 
 class Collection:
     """A collection as its file describes it. What makes no sense is refused, and nothing is asked."""
 
-    def __init__(self, path):
-        self.path, said = path, read(path)
-        self.check_keys("", said, KEYS, NEEDED)
-        self.address = self.text("address", said["address"], WHOLE, "an address is http:// or https:// and a host, without a path")
-        self.name = self.text("name", said.get("name", "collection"), SOURCE_NAME, "a name is 1 to 32 of a-z, 0-9 and -")
-        self.near = [self.network(it) for it in self.list_of("near", said["near"])] if "near" in said else list(LOOPBACK)
-        self.files = {it: self.text(it, said[it], FILE, "a file is a whole path") for it in ("certificate", "key", "depositors") if it in said}
-        if not isinstance(said["source"], dict) or not said["source"]:
+    def __init__(self, path: str) -> None:
+        settings = read(path)
+        self.path = path
+        self.check_keys("", settings, KEYS, NEEDED)
+        self.address = self.text("address", settings["address"], WHOLE,
+                                 "an address is http:// or https:// and a host, without a path")
+        self.name = self.text("name", settings.get("name", "collection"), SOURCE_NAME,
+                              "a name is 1 to 32 of a-z, 0-9 and -")
+        self.near = [self.network(text)
+                     for text in self.list_of("near",
+                                              settings["near"])] if "near" in settings else list(LOOPBACK)
+        self.files = {key: self.text(key, settings[key], FILE, "a file is a whole path")
+                      for key in ("certificate", "key", "depositors") if key in settings}
+        self.rules = tuple(self.rule(pair) for pair in self.list_of("may", settings.get("may", [])))
+        if not isinstance(settings["source"], dict) or not settings["source"]:
             raise self.wrong("source", "a collection has a table [source.NAME] for each source")
-        self.members = {name: self.member(name, it) for name, it in said["source"].items()}
+        self.members = {name: self.member(name, table) for name, table in settings["source"].items()}
         self.check_apart()
         self.homes = Homes(self.members)
 
-    def wrong(self, where, why):
+    def wrong(self, where: str, why: str) -> Misused:
+        """What is wrong at a place of the file."""
         return Misused(f"{self.path}: {where}: {why}")
 
-    def check_keys(self, where, said, keys, needed):
-        for it in said:
-            if it not in keys:
-                raise self.wrong(f"{where}{it}", f"there is no such key; the keys are {', '.join(sorted(keys))}")
-        for it in sorted(needed):
-            if it not in said:
-                raise self.wrong(f"{where}{it}", "this key is missing")
+    def check_keys(self, where: str, table: dict[str, Any], keys: set[str], needed: set[str]) -> None:
+        """Refuses keys that are unknown, or missing."""
+        for key in table:
+            if key not in keys:
+                raise self.wrong(f"{where}{key}",
+                                 f"there is no such key; the keys are {', '.join(sorted(keys))}")
+        for key in sorted(needed):
+            if key not in table:
+                raise self.wrong(f"{where}{key}", "this key is missing")
 
-    def text(self, where, said, form, why):
-        if not isinstance(said, str) or not form.fullmatch(said):
-            raise self.wrong(where, f"{said!r}: {why}")
-        return said
+    def text(self, where: str, value: Any, form: re.Pattern[str], why: str) -> str:
+        """A value that is a text of a form."""
+        if not isinstance(value, str) or not form.fullmatch(value):
+            raise self.wrong(where, f"{value!r}: {why}")
+        return value
 
-    def list_of(self, where, said):
-        if not isinstance(said, list):
-            raise self.wrong(where, "wants a list of addresses")
-        return said
+    def list_of(self, where: str, value: Any) -> list[Any]:
+        """A value that is a list."""
+        if not isinstance(value, list):
+            raise self.wrong(where,
+                             "wants a list of addresses" if where == "near" else "wants a list of pairs")
+        return value
 
-    def network(self, said):
+    def network(self, value: Any) -> str:
+        """An address or a network, as nginx takes it."""
         try:
-            return str(ipaddress.ip_network(said))
+            return str(ipaddress.ip_network(value))
         except (ValueError, TypeError):
-            raise self.wrong("near", f"{said!r} is no address, and no network as 192.0.2.0/24 is") from None
+            raise self.wrong("near", f"{value!r} is no address, and no network as 192.0.2.0/24 is") from None
 
-    def member(self, name, said):
+    def rule(self, pair: Any) -> Rule:
+        """What a certificate may change."""
+        if not isinstance(pair, list) or len(pair) != 2 or not all(isinstance(text, str) for text in pair):
+            raise self.wrong("may", f"{pair!r} is no pair of a subject and a prefix")
+        rule = Rule(*pair)
+        if rule.fault() or "depositors" not in self.files or not self.address.startswith("https:"):
+            raise self.wrong("may", rule.fault() or "it wants https:// and depositors")
+        return rule
+
+    def member(self, name: str, table: Any) -> Member:
         """A source by its table."""
         where = f"source.{name}."
         if not SOURCE_NAME.fullmatch(name):
-            raise self.wrong(f"source.{name}", "a name is 1 to 32 of a-z, 0-9 and -, and begins with a letter or digit")
-        if not isinstance(said, dict):
+            raise self.wrong(f"source.{name}",
+                             "a name is 1 to 32 of a-z, 0-9 and -, and begins with a letter or digit")
+        if not isinstance(table, dict):
             raise self.wrong(f"source.{name}", "is no table")
-        self.check_keys(where, said, SOURCE_KEYS, SOURCE_KEYS)
-        address = self.text(where + "address", said["address"], LISTENS, "an address is http://, a host and a port, as http://127.0.0.1:8081")
+        self.check_keys(where, table, SOURCE_KEYS, SOURCE_KEYS)
+        address = self.text(where + "address", table["address"], LISTENS,
+                            "an address is http://, a host and a port, as http://127.0.0.1:8081")
         if not 0 < urlport(address) <= MOST_PORT:
             raise self.wrong(where + "address", "a port is 1 to 65535")
-        base = said["base"]
+        base = table["base"]
         path = base.removeprefix(self.address) if isinstance(base, str) else ""
         if path == base or not PATH.fullmatch(path) or len(base) > LONGEST_BASE:
-            why = f"{base!r}: a base is {self.address} and a path, as {self.address}/{name}, of {LONGEST_BASE} bytes at most"
-            raise self.wrong(where + "base", why)
+            raise self.wrong(where + "base", f"{base!r}: a base is {self.address} and a path, "
+                                             f"as {self.address}/{name}, of {LONGEST_BASE} bytes at most")
         if f"{path}/".startswith(PAGE):
             raise self.wrong(where + "base", f"{base}: the page has its files below {PAGE}")
-        return Member(name, address, base, self.text(where + "file", said["file"], FILE, "a file is a whole path, of letters, digits and ._~+@/-"))
+        file = self.text(where + "file", table["file"], FILE,
+                         "a file is a whole path, of letters, digits and ._~+@/-")
+        return Member(name, address, base, file)
 
-    def check_apart(self):
+    def check_apart(self) -> None:
         """Refuses two sources of one base, one below the other, of one address or of one file."""
         for what in ("base", "address", "file"):
-            found = {}
-            for it in self.members.values():
-                other = found.setdefault(getattr(it, what), it)
-                if other is not it:
-                    raise self.wrong(f"source.{it.name}.{what}", f"{getattr(it, what)} is the {what} of {other.name}, too")
-        for it in self.members.values():
+            known: dict[str, Member] = {}
+            for member in self.members.values():
+                other = known.setdefault(getattr(member, what), member)
+                if other is not member:
+                    raise self.wrong(f"source.{member.name}.{what}",
+                                     f"{getattr(member, what)} is the {what} of {other.name}, too")
+        for member in self.members.values():
             for other in self.members.values():
-                if it.base.startswith(other.base + "/"):
-                    raise self.wrong(f"source.{it.name}.base", f"{it.base} lies below the base of {other.name}")
+                if member.base.startswith(other.base + "/"):
+                    raise self.wrong(f"source.{member.name}.base",
+                                     f"{member.base} lies below the base of {other.name}")
 
 
-def urlport(address):
+def urlport(address: str) -> int:
     """The port of an address, or 0 where it is none."""
     try:
         return urlsplit(address).port or 0
@@ -136,7 +171,7 @@ def urlport(address):
         return 0
 
 
-def read(path):
+def read(path: str) -> dict[str, Any]:
     """What a file in TOML says."""
     try:
         with open(path, "rb") as file:
@@ -147,6 +182,6 @@ def read(path):
         raise Misused(f"{path}: is no TOML: {fault}") from None
 
 
-def is_collection(text):
+def is_collection(text: str) -> bool:
     """Whether a word of a command is the file of a collection, and no address."""
     return text.endswith(".toml")

@@ -1,6 +1,9 @@
 """What `ropepeach collection` writes: the settings of units, the site of nginx and the Source Description."""
+from __future__ import annotations
+
 from urllib.parse import urlsplit
 
+from ropepeach.collection_file import Collection, Member
 from ropepeach.site_text import Served, Site, tls_of
 
 # How many connections a program serves before it ends and its unit starts it anew.
@@ -15,27 +18,31 @@ DESCRIPTION = """<?xml version="1.0" encoding="UTF-8"?>
 PLACE = '<url><loc>{base}/capabilitylist.xml</loc><rs:md capability="capabilitylist"/></url>\n'
 
 
-def settings_of(member):
+def settings_of(member: Member) -> str:
     """What the unit of a source reads: its file, where it listens, and how many connections it serves."""
     return f"# Made by `ropepeach collection`: the source {member.name}, served at {member.base}\n" \
            f"FILE={member.file}\nPORT={member.listens()[1]}\nCOUNT={COUNT}\n"
 
 
-def description_of(collection):
+def description_of(collection: Collection) -> str:
     """The Source Description of the whole (Z39.99, section 8.1): a Capability List of each source."""
-    return DESCRIPTION + "".join(PLACE.format(base=it.base) for it in collection.members.values()) + "</urlset>\n"
+    places = "".join(PLACE.format(base=member.base) for member in collection.members.values())
+    return DESCRIPTION + places + "</urlset>\n"
 
 
-def served(collection, member):
+def served(collection: Collection, member: Member) -> Served:
     """A source as its site has it."""
     path = member.base.removeprefix(collection.address)
     return Served(f"ropepeach_{collection.name}.{member.name}", ":".join(member.listens()), path)
 
 
-def site_of(collection, folder):
+def site_of(collection: Collection, folder: str) -> str:
     """The site of nginx, whose Source Description lies in a folder."""
     place, members = urlsplit(collection.address), collection.members.values()
     is_safe = place.scheme == "https"
-    sources = tuple(served(collection, it) for it in members)
-    return Site(HEAD.format(path=collection.path), collection.name, place.hostname, place.port or (443 if is_safe else 80), sources,
-                tuple(collection.near), tls_of(place.hostname, collection.files) if is_safe else None, f"{folder}/{DESCRIPTION_FILE}").text()
+    sources = tuple(served(collection, member) for member in members)
+    host, port = place.hostname or "", place.port or (443 if is_safe else 80)
+    return Site(HEAD.format(path=collection.path), collection.name, host, port, sources,
+                tuple(collection.near),
+                tls_of(host, collection.files) if is_safe else None, f"{folder}/{DESCRIPTION_FILE}",
+                collection.rules).text()

@@ -1,4 +1,6 @@
-"""The files of a folder as resources: their names in order, their media types, and their bytes as one version."""
+"""The files of a folder as resources: their names in order, their media types, and their bytes as one
+version.
+"""
 from __future__ import annotations
 
 import contextlib
@@ -10,6 +12,7 @@ import stat
 import time
 import urllib.parse
 from collections.abc import Callable, Iterable, Iterator
+from typing import NamedTuple
 
 from ropepeach.faults import Fault, Misused
 from ropepeach.mirror_tree import Linked, Tree
@@ -19,25 +22,64 @@ Order = Callable[[Iterable[str]], Iterable[str]]
 
 # What stands for itself in a segment of a path, beside letters and digits (RFC 3986, section 3.3).
 PLAIN = "-._~!$&'()*+,;=:@"
+PLAIN_SEGMENT = re.compile(rf"[A-Za-z0-9{re.escape(PLAIN)}]+")
 UNKNOWN = "application/octet-stream"
 TOKEN = r"[A-Za-z0-9!#$%&'*+.^_`|~-]+"
 MEDIA_TYPE = re.compile(rf"(?=.{{3,100}}\Z){TOKEN}/{TOKEN}(?:[ -~]*[!-~])?")
 # A file that changed within the last second is waited for. It is read this often at most.
 YOUNG, READINGS = 1.0, 3
+# The clock of a file system may stand still for this many nanoseconds: a file that changed within them before
+# it was read may change
+# once more without a new time. (FAT counts in 2 seconds.)
+GRAIN = 2_000_000_000
 
 
 class Unfit(Exception):
-    """Why a file cannot be a resource, or not now."""
+    """Why a file cannot be a resource now."""
+
+
+class Unlawful(Unfit):
+    """Why a file can be no resource as it is, however often it is tried."""
+
+
+class Stamp(NamedTuple):
+    """What stat(2) says of the bytes of a file. Times are in nanoseconds."""
+
+    size: int
+    mtime: int
+    ctime: int
+    inode: int
+
+    def is_settled(self, moment: int) -> bool:
+        """Whether a later change of the file has later times, if the file was read from this moment on."""
+        return max(self.mtime, self.ctime) + GRAIN <= moment
+
+
+def stamp_of(status: os.stat_result) -> Stamp:
+    """The stamp in what stat(2) says of a file. The inode is a signed number here, as SQLite has no other."""
+    inode = status.st_ino if status.st_ino < 1 << 63 else status.st_ino - (1 << 64)
+    return Stamp(status.st_size, status.st_mtime_ns, status.st_ctime_ns, inode)
+
+
+class Reading(NamedTuple):
+    """What was read of a file: its bytes, whether it stayed as it was meanwhile, its stamp, and the moment
+    before.
+    """
+
+    body: bytes
+    is_still: bool
+    stamp: Stamp
+    moment: int
 
 
 def quoted(segment: str) -> str:
     """A segment of a name that stands for the one of a path."""
-    return urllib.parse.quote(os.fsencode(segment), safe=PLAIN)
+    return segment if PLAIN_SEGMENT.fullmatch(segment) else urllib.parse.quote(os.fsencode(segment), safe=PLAIN)
 
 
 def path_of(name: str) -> str:
     """The path below the folder of the file that has a name."""
-    return os.fsdecode(urllib.parse.unquote_to_bytes(name))
+    return os.fsdecode(urllib.parse.unquote_to_bytes(name)) if "%" in name else name
 
 
 def shown(path: str) -> str:
@@ -46,17 +88,19 @@ def shown(path: str) -> str:
     return "".join(it if it.isprintable() else it.encode("unicode_escape").decode() for it in text)
 
 
-def checked(found: os.stat_result) -> int:
+def checked(status: os.stat_result) -> int:
     """The size in a status, if it is one of a file that can be a resource."""
-    if not stat.S_ISREG(found.st_mode):
-        raise Unfit("it is no regular file")
-    if found.st_size > LONGEST_BODY:
-        raise Unfit(f"it has more than {LONGEST_BODY:,} bytes")
-    return found.st_size
+    if not stat.S_ISREG(status.st_mode):
+        raise Unlawful("it is no regular file")
+    if status.st_size > LONGEST_BODY:
+        raise Unlawful(f"it has more than {LONGEST_BODY:,} bytes")
+    return status.st_size
 
 
 class Files:
-    """What a folder holds, by names: read through the folders above it, so that no link leads out of the folder."""
+    """What a folder holds, by names: read through the folders above it, so that no link leads out of the
+    folder.
+    """
 
     def __init__(self, folder: str, is_following: bool = False) -> None:
         """Opens a folder. Links to files within it are followed, or none is."""
@@ -76,12 +120,28 @@ class Files:
             why = fault.strerror if isinstance(fault, OSError) else "it is a link by now"
             raise Fault(f"a folder cannot be listed: {shown(os.path.join(self.folder, path))}: {why}") from None
 
+    def count(self) -> int:
+        """How many entries the folder holds, but folders: at least as many as can be resources."""
+        total, due = 0, [""]
+        while due:
+            path = due.pop()
+            for entry in self.entries(path):
+                if entry.endswith("/") and len(path + entry) < LONGEST_NAME:
+                    due.append(path + entry)
+                else:
+                    total += 1
+        return total
+
     def names(self, order: Order = sorted) -> Iterator[str]:
-        """The names of all that the folder holds but folders, in the order of their bytes, or as they come if the order is `iter`."""
+        """The names of all that the folder holds but folders, in the order of their bytes, or as they come if
+        the order is `iter`.
+        """
         return self.names_of(self.entries(), order)
 
     def names_of(self, entries: Iterable[str], order: Order = sorted) -> Iterator[str]:
-        """The names of all that some entries at the top are or hold. A folder in which no name is short enough is one by itself."""
+        """The names of all that some entries at the top are or hold. A folder in which no name is short
+        enough is one by itself.
+        """
         due = [("", iter(order(entries)))]
         del entries
         while due:
@@ -96,32 +156,55 @@ class Files:
 
     def size(self, name: str) -> int:
         """The size of a file that can be a resource."""
+        size = self.stamp(name).size
+        self.check_readable(name)
+        return size
+
+    def stamp(self, name: str) -> Stamp:
+        """The stamp of a file that can be a resource."""
         if name.endswith("/"):
-            raise Unfit(f"what it holds has names of more than {LONGEST_NAME} bytes")
+            raise Unlawful(f"what it holds has names of more than {LONGEST_NAME} bytes")
         if len(name) > LONGEST_NAME:
-            raise Unfit(f"its name has {len(name)} bytes, more than {LONGEST_NAME}")
+            raise Unlawful(f"its name has {len(name)} bytes, more than {LONGEST_NAME}")
+        try:
+            path = path_of(name)
+            status = self.status(path)
+            if stat.S_ISLNK(status.st_mode):
+                status = self.status(self.end_of(path))
+        except (Linked, OSError) as fault:
+            raise reason_of(fault) from None
+        checked(status)
+        return stamp_of(status)
+
+    def check_readable(self, name: str) -> None:
+        """Refuses a file that this user may not read."""
         with unfit():
             above, last = self.tree.parted(self.followed(name))
-            size = checked(os.stat(last, dir_fd=above, follow_symlinks=False))
             if not os.access(last, os.R_OK, dir_fd=above):
                 raise Unfit("it cannot be read: Permission denied")
-        return size
+
+    def status(self, path: str) -> os.stat_result:
+        """What stat(2) says of a path itself."""
+        above, last = self.tree.parted(path)
+        return os.stat(last, dir_fd=above, follow_symlinks=False)
 
     def followed(self, name: str) -> str:
         """The path of a file, or that of the file within the folder that a link leads to."""
         path = path_of(name)
-        above, last = self.tree.parted(path)
-        if not stat.S_ISLNK(os.stat(last, dir_fd=above, follow_symlinks=False).st_mode):
-            return path
+        return self.end_of(path) if stat.S_ISLNK(self.status(path).st_mode) else path
+
+    def end_of(self, path: str) -> str:
+        """The path of the file within the folder that a link leads to."""
         if not self.is_following:
-            raise Unfit("it is a link, and is not followed (--links follows those that end inside FOLDER)")
+            raise Unlawful("it is a link, and is not followed (--links follows those that end inside FOLDER)")
         top, end = os.path.realpath(self.folder), os.path.realpath(os.path.join(self.folder, path))
         if os.path.commonpath([top, end]) != top or top == end:
-            raise Unfit("it is a link that leads out of FOLDER")
+            raise Unlawful("it is a link that leads out of FOLDER")
         return os.path.relpath(end, top)
 
-    def read(self, name: str) -> tuple[bytes, bool]:
-        """The bytes of a file, and whether it stayed as it was meanwhile."""
+    def read(self, name: str) -> Reading:
+        """Reads a file, and looks whether it stays as it is meanwhile."""
+        moment = time.time_ns()
         with unfit(), open(self.tree.opened(self.followed(name)), "rb") as file:
             before = os.fstat(file.fileno())
             checked(before)
@@ -129,14 +212,15 @@ class Files:
             after = os.fstat(file.fileno())
         checked(after)
         is_young = 0 <= time.time() - after.st_mtime < YOUNG
-        return body, not is_young and len(body) == before.st_size == after.st_size and before.st_mtime_ns == after.st_mtime_ns
+        is_same = stamp_of(before) == stamp_of(after) and len(body) == after.st_size
+        return Reading(body, is_same and not is_young, stamp_of(after), moment)
 
-    def body(self, name: str) -> bytes:
-        """The bytes of a file, all of one version: it has to stay as it is while it is read."""
+    def still(self, name: str) -> Reading:
+        """Reads a file whose bytes are all of one version: it has to stay as it is while it is read."""
         for _ in range(READINGS):
-            body, is_still = self.read(name)
-            if is_still:
-                return body
+            reading = self.read(name)
+            if reading.is_still:
+                return reading
             time.sleep(YOUNG)
         raise Unfit("it changes while it is read, and is left for the next run")
 
@@ -146,10 +230,15 @@ def unfit() -> Iterator[None]:
     """Turns a fault of the system into the reason why a file cannot be a resource."""
     try:
         yield
-    except Linked:
-        raise Unfit("it lies below a link") from None
-    except OSError as fault:
-        raise Unfit(f"it cannot be read: {fault.strerror}") from None
+    except (Linked, OSError) as fault:
+        raise reason_of(fault) from None
+
+
+def reason_of(fault: Exception) -> Unfit:
+    """Why a file cannot be a resource, by a fault of the system."""
+    if isinstance(fault, OSError):
+        return Unfit(f"it cannot be read: {fault.strerror}")
+    return Unlawful("it lies below a link")
 
 
 class Kinds:
@@ -167,12 +256,14 @@ class Kinds:
 
     def given_to(self, name: str) -> str:
         """The type that a pattern gives to a name, or nothing."""
-        return next((kind for pattern, kind in self.given if pattern.fullmatch(name)), "")
+        return next((kind for pattern, kind in self.given if pattern.fullmatch(name)),
+                    "") if self.given else ""
 
     def of(self, name: str) -> str:
         """The type of a name. What is compressed is not of the type of what is in it."""
         # (behind `./` nothing is taken for the scheme of a URL)
-        kind, coding = mimetypes.guess_type("./" + urllib.parse.unquote(name, errors="replace").rpartition("/")[2])
+        kind, coding = mimetypes.guess_type("./"
+                                            + urllib.parse.unquote(name, errors="replace").rpartition("/")[2])
         return self.given_to(name) or (kind if kind and not coding else UNKNOWN)
 
 
