@@ -2,7 +2,7 @@
 
 A small Debian is made by debootstrap from the registry that apt uses here, and kept for the next run; systemd-nspawn boots it. The packages
 are built of the program that is given, installed by apt, and used by the commands that docs/OPERATING.md prints. Each function of rows.py,
-door_rows.py and edge_rows.py is one thing that has to hold; they go in this order, since each stands on the ones before. At the end units that
+new_rows.py, door_rows.py and edge_rows.py is one thing that has to hold; they go in this order, since each stands on the ones before. At the end units that
 are wrong are made up (wrong.py), and have to be noticed.
 
 It needs root, debootstrap, systemd-nspawn, a registry that answers if no Debian is kept, and a kernel that lets a machine boot. Where one of
@@ -25,14 +25,16 @@ from types import SimpleNamespace
 
 from package.build import build
 from package.program_facts import Unfit
-from tests.machine import debian, door_rows, edge_rows, rows, wrong
+from tests.machine import debian, door_rows, edge_rows, new_rows, rows, wrong
 from tests.machine.debian import Missing
 from tests.machine.machine import Machine
 from tests.program import PROGRAM, ROOT, Differs
 from tests.skipped import skipped
+from tests.stamped import stamp_of
 
 # What has to be here, and which packages bring it.
-TOOLS = {"debootstrap": "debootstrap", "systemd-nspawn": "systemd-container", "nsenter": "util-linux", "dpkg-deb": "dpkg", "strip": "binutils",
+TOOLS = {"debootstrap": "debootstrap", "systemd-nspawn": "systemd-container", "nsenter": "util-linux", "dpkg-buildpackage": "dpkg-dev", "dh": "debhelper",
+         "pybuild": "dh-python", "strip": "binutils",
          "cc": "gcc"}
 FAULTS = (Differs, OSError, ValueError, LookupError, subprocess.SubprocessError)
 # What the packages are of where no git says so.
@@ -50,7 +52,8 @@ def built(program, room):
     """The packages of a program, and those of a later version."""
     os.environ.setdefault("SOURCE_DATE_EPOCH", MOMENT)
     version = (ROOT / "VERSION").read_text().strip()
-    return SimpleNamespace(first=build(program, version, f"{room}/first"), later=build(program, f"{version}+later", f"{room}/later"))
+    first, later = (build(program, it, f"{room}/{it}", stamp_of(program)) for it in (version, f"{version}+later"))
+    return SimpleNamespace(first=first, later=later)
 
 
 def begin(machine):
@@ -74,7 +77,7 @@ def tried(row, machine, packages):
 
 def looked_at(machine, packages):
     """Tries all rows, and the wrong units before the last two, which take the packages away."""
-    every, blind, count, held = [*rows.ROWS, *door_rows.ROWS, *edge_rows.ROWS], [], 0, 0
+    every, blind, count, held = [*rows.ROWS, *new_rows.ROWS, *door_rows.ROWS, *edge_rows.ROWS], [], 0, 0
     for row in every:
         if row is edge_rows.an_upgrade_keeps_the_source:
             blind, count = wrong.look(machine, packages)

@@ -109,14 +109,20 @@ def alone(path, what):
         yield
 
 
-def unpacked(to, suite=SUITE, packages=PACKAGES):
-    """Unpacks a Debian into a new folder; gives whether it had to be made first."""
+def kept(suite, packages):
+    """The archive of a Debian, and whether it had to be made first."""
     name = hashlib.sha256(" ".join([suite, *packages]).encode()).hexdigest()[:12]
     archive = cache() / f"{suite}-{name}.tar.gz"
     with alone(f"{archive}.lock", f"the archive {archive}"):
         is_new = not archive.exists()
         if is_new:
             made(archive, suite, packages)
+    return archive, is_new
+
+
+def unpacked(to, suite=SUITE, packages=PACKAGES):
+    """Unpacks a Debian into a new folder; gives whether it had to be made first."""
+    archive, is_new = kept(suite, packages)
     os.makedirs(to)
     subprocess.run(["tar", "-C", to, "-xzf", archive], check=True, timeout=MAKING)
     return is_new

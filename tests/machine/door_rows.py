@@ -25,7 +25,7 @@ while True:
 # Connection refused, and nothing received in time: statuses of curl.
 REFUSED, LATE = 7, 28
 LIMITS = {"ropepeach": ("16", "1073741824"), "ropepeach-mirror@copy": ("128", "2147483648"),
-          "ropepeach-publish": ("8", "268435456")}
+          "ropepeach-publish": ("16", "1073741824")}
 
 
 def curl(machine, user, *words):
