@@ -7,7 +7,7 @@ export const KINDS = ["created", "updated", "deleted"];
 const SECOND = 1_000;
 const MINUTE = 60 * SECOND;
 const HOUR = 60 * MINUTE;
-const DAY = 24 * HOUR;
+export const DAY = 24 * HOUR;
 const STEPS = [1, 2, 5, 10, 20, 50, 100, 200, 500, SECOND, 2 * SECOND, 5 * SECOND, 10 * SECOND, 30 * SECOND,
   MINUTE, 2 * MINUTE, 5 * MINUTE, 10 * MINUTE, 30 * MINUTE, HOUR, 2 * HOUR, 6 * HOUR, 12 * HOUR, DAY, 2 * DAY, 7 * DAY];
 const MONTHS = [1, 3, 6, 12, 24, 60, 120, 240, 600, 1_200, 6_000, 12_000];
@@ -42,12 +42,18 @@ export class Counted {
     return this.sums.map((it) => it[last] - it[first]);
   }
 
-  /** The span of all changes, with a little room at its ends. */
-  span() {
-    if (!this.times.length) return [0, 1];
-    const [first, last] = [this.times[0], this.times.at(-1)];
-    const room = Math.max(20, Math.ceil((last - first) / 50));
-    return [Math.max(first - room, 0), Math.min(last + room, LAST)];
+  /** The end of what is shown: now, or a little after the last change where a clock is ahead. */
+  end(now) {
+    const last = this.times.at(-1) ?? 0;
+    return last >= now && last < now + DAY ? last + 1 : now;
+  }
+
+  /** The span of all changes up to an end, with a little room before the first; no shorter than `least`. */
+  span(end, least) {
+    const first = this.times[0] ?? end;
+    const room = Math.max(20, Math.ceil((end - first) / 50));
+    const until = Math.min(Math.max(end, (this.times.at(-1) ?? 0) + 1), LAST);
+    return [Math.max(Math.min(first - room, end - least), 0), until];
   }
 }
 
@@ -91,5 +97,6 @@ export function spanText(from, until) {
   const [start, end] = [from, until].map((it) => new Date(it).toISOString());
   const digits = until - from < 10 * SECOND ? 23 : until - from < 2 * HOUR ? 19 : 16;
   const read = (it) => it.slice(0, digits).replace("T", " ");
-  return start.slice(0, 10) === end.slice(0, 10) ? `${read(start)} – ${end.slice(11, digits)}` : `${read(start)} – ${read(end)}`;
+  const isOneDay = start.slice(0, 10) === end.slice(0, 10);
+  return `${read(start)} – ${isOneDay ? end.slice(11, digits) : read(end)}`;
 }

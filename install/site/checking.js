@@ -5,27 +5,31 @@ import { Trouble, asked } from "./documents.js";
 // How many bodies are asked for side by side: fewer than the site sends to one visitor.
 const LANES = 3;
 
-/** Whether this browser can check at all: WebCrypto is there over HTTPS and on this machine alone. */
+/** Whether this browser can check at all: WebCrypto is there over HTTPS, and on this machine, only. */
 export const canCheck = Boolean(globalThis.crypto?.subtle);
 
-/** What came of a check: `agrees`, `differs`, `unasked` (no body came), and why. */
+const UNASKABLE = "A browser asks for another address than this name has: use a mirror.";
+
+/** The outcome of a check: `agrees`, `differs`, `unasked` (no body came), and why. */
 const result = (kind, why) => ({ kind, why, when: Date.now() });
 
 /** Fetches a body and compares it with what the list says. */
 export async function check(resource) {
-  if (!isAskable(resource.loc)) return result("unasked", "A browser asks for another address than this name has: use a mirror.");
+  if (!isAskable(resource.loc)) return result("unasked", UNASKABLE);
   if (!/^[0-9a-f]{64}$/.test(resource.sha256)) return result("unasked", "The list has no SHA-256 of it.");
   let body;
   try {
     body = await bodyOf(resource);
   } catch (fault) {
     if (!(fault instanceof Trouble)) return result("unasked", "Its answer ended early.");
-    return fault.kind === "dropped" ? result("differs", "It is listed, and the source answers 404.") : result("unasked", fault.message);
+    const isGone = fault.kind === "dropped";
+    return isGone ? result("differs", "It is listed, and the source answers 404.") : result("unasked", fault.message);
   }
   if (body.length !== resource.length) return result("differs", `${told(body.length)} came, ${resource.length} are listed.`);
   const digest = new Uint8Array(await crypto.subtle.digest("SHA-256", body));
   const found = Array.from(digest, (it) => it.toString(16).padStart(2, "0")).join("");
-  return found === resource.sha256 ? result("agrees", "Length and SHA-256 are the listed ones.") : result("differs", `Its SHA-256 is ${found}.`);
+  return found === resource.sha256 ? result("agrees", "Length and SHA-256 are the listed ones.")
+    : result("differs", `Its SHA-256 is ${found}.`);
 }
 
 const told = (length) => (length === null ? "More bytes" : `${length} bytes`);

@@ -1,36 +1,50 @@
 // The checks of one source's bodies: what came of each, one by one or many at random, with a bar.
 
 import { canCheck, check, checkAll, someOf } from "./checking.js";
-import { given, made, tell } from "./elements.js";
+import { made, showName, tell } from "./elements.js";
 import { count, counted, size } from "./formats.js";
+import { readable } from "./names.js";
 
 const SOME = 100;
 // A check of many fetches at most these bytes, and offers the others: each byte is work for the source.
-const MOST_BYTES = 64 * 1_048_576;
+export const MOST_BYTES = 64 * 1_048_576;
 // This many of the resources that differ are named.
 const NAMED = 20;
 // The site serves lists that are up to two seconds old (install/ropepeach.nginx).
 const OLDEST = 2_500;
 
 export class Checks {
-  /** `checked` is called with each resource that was checked; `ended` after the last, and reads the lists anew where one differs. */
+  /**
+   * `checked` is called with each resource that was checked; `ended` after the last, and reads the lists again where
+   * one differs.
+   */
   constructor(parts, say, checked, ended) {
-    Object.assign(this, { parts, say, checked, ended, outcomes: new Map(), rest: [] });
+    Object.assign(this, { parts, say, checked, ended, outcomes: new Map(), rest: [], sample: [], first: 0 });
+    parts["check-some"].addEventListener("click", () => this.some());
     parts.stop.addEventListener("click", () => this.stopping?.abort());
     parts["check-rest"].addEventListener("click", () => this.all(this.rest));
     if (!canCheck) {
       parts["check-some"].disabled = true;
-      tell(parts.checked, "A browser checks over HTTPS alone.");
+      tell(parts.checked, "A browser checks over HTTPS only.");
     }
   }
 
-  /** What came of the check of this very body. */
+  /** Draws the resources of the next check, and says how many bytes it will fetch. */
+  draw(resources) {
+    this.sample = someOf(resources, SOME);
+    this.first = withinBytes(this.sample, MOST_BYTES);
+    const isAll = this.first === resources.length;
+    const which = isAll ? `Check all ${count(this.first)}` : `Check ${count(this.first)} at random`;
+    tell(this.parts["check-some"], `${which} (${size(sum(this.sample.slice(0, this.first)))})`);
+  }
+
+  /** The outcome of the check of this very body. */
   of(resource) {
     const found = this.outcomes.get(resource.name);
     return found?.moment === resource.moment ? found.outcome : undefined;
   }
 
-  /** Forgets what came of bodies that are no longer held. */
+  /** Forgets the outcomes of bodies that are no longer held. */
   keep(holding) {
     for (const [name, { moment }] of this.outcomes) {
       if (holding.byName.get(name)?.moment !== moment) this.outcomes.delete(name);
@@ -48,7 +62,7 @@ export class Checks {
     this.checked(resource);
   }
 
-  /** Whether a body differs is known once the lists were read anew: a later change may explain it. */
+  /** Whether a body differs is known once the lists were read again: a later change may explain it. */
   async settle(isDifferent) {
     if (isDifferent) await new Promise((go) => setTimeout(go, OLDEST));
     await this.ended(isDifferent);
@@ -60,15 +74,12 @@ export class Checks {
     this.note(resource, outcome);
     await this.settle(outcome.kind === "differs");
     const { kind, why } = this.of(resource) ?? { kind: "changed meanwhile", why: "Check it again." };
-    this.say(`${resource.name}: ${kind}. ${why}`);
+    this.say(`${readable(resource.name).text}: ${kind}. ${why}`);
   }
 
-  /** Checks some at random, and leaves out those that are beyond the limit of bytes. */
-  async some(resources) {
-    if (this.stopping) return;
-    const chosen = someOf(resources, SOME);
-    const first = withinBytes(chosen, MOST_BYTES);
-    await this.all(chosen.slice(0, first), chosen.slice(first));
+  /** Checks those that were drawn, and leaves out those that are beyond the limit of bytes. */
+  async some() {
+    await this.all(this.sample.slice(0, this.first), this.sample.slice(this.first));
   }
 
   /** Checks these; `rest` are offered afterwards. */
@@ -107,17 +118,26 @@ export class Checks {
     const button = this.parts["check-rest"];
     this.rest = rest;
     button.hidden = !rest.length;
-    button.textContent = `Check the other ${count(rest.length)} (${size(rest.reduce((sum, it) => sum + it.length, 0))})`;
+    button.textContent = `Check the other ${count(rest.length)} (${size(sum(rest))})`;
   }
 
   /** Names what differs. */
   showDiffering() {
     const all = this.differing();
-    const rows = all.slice(0, NAMED).map(([name, { outcome }]) => made("li", "", given(name, "name"), ` ${outcome.why}`));
+    const rows = all.slice(0, NAMED).map(([name, { outcome }]) => {
+      const shown = made("bdi", "name");
+      showName(shown, name);
+      return made("li", "", shown, ` ${outcome.why}`);
+    });
     if (all.length > NAMED) rows.push(made("li", "", `And ${count(all.length - NAMED)} more.`));
     this.parts.differing.hidden = !rows.length;
     this.parts.differing.replaceChildren(...rows);
   }
+}
+
+/** The bytes of these together. */
+function sum(resources) {
+  return resources.reduce((bytes, it) => bytes + it.length, 0);
 }
 
 /** How many of these, from the first on, have at most so many bytes together. */
@@ -130,9 +150,10 @@ function withinBytes(resources, most) {
   return resources.length;
 }
 
-/** What came of many checks. */
+/** The outcomes of many checks in words. */
 function summary({ agrees, differs, unasked, changed }) {
   const more = [[unasked, "not checked"], [changed, "changed meanwhile"]].filter(([number]) => number);
   const rest = more.map(([number, what]) => `${count(number)} ${what}`);
-  return [counted(agrees, "agrees", "agree"), ...(differs ? [counted(differs, "differs", "differ")] : []), ...rest].join(", ");
+  const bad = differs ? [counted(differs, "differs", "differ")] : [];
+  return [counted(agrees, "agrees", "agree"), ...bad, ...rest].join(", ");
 }

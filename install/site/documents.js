@@ -1,5 +1,6 @@
 // One document of a source, asked by fetch (docs/DOCUMENTS.md has the form).
 
+import { plain } from "./names.js";
 import { NoDocument, attributesOf, read, resolved } from "./xml.js";
 
 const SITEMAP = "http://www.sitemaps.org/schemas/sitemap/0.9";
@@ -9,10 +10,13 @@ const MOMENT = /^\d{4}-\d\d-\d\dT\d\d:\d\d:\d\d\.\d{3}Z$/;
 const MILLISECONDS = 60_000;
 const MOST_ENTRIES = 50_000;
 
-/** Why a source cannot be read: it is `closed`, `gone`, has `dropped` a part meanwhile, calls itself `elsewhere`, or its documents are `wrong`. */
+/**
+ * Why a source cannot be read: it is `closed`, `unreachable` or `gone`, has `dropped` a part meanwhile, calls itself
+ * `elsewhere`, or its documents are `wrong`.
+ */
 export class Trouble extends Error {
   constructor(kind, message) {
-    super(message);
+    super(plain(message));
     this.kind = kind;
   }
 }
@@ -23,19 +27,21 @@ export async function asked(address, cache = "no-cache") {
   try {
     answer = await fetch(address, { cache, redirect: "error", signal: AbortSignal.timeout(MILLISECONDS) });
   } catch (fault) {
-    throw new Trouble("gone", fault.name === "TimeoutError" ? "It did not answer within a minute." : "It does not answer this browser.");
+    const isLate = fault.name === "TimeoutError";
+    throw new Trouble("unreachable", isLate ? "It did not answer within a minute." : "It does not answer this browser.");
   }
   if (answer.ok) return answer;
   await refuse(address, answer);
 }
 
-/** Tells what a status means. */
+/** Says what a status means. */
 async function refuse(address, answer) {
-  const word = answer.headers.get("content-type")?.startsWith("text/plain") ? (await answer.text().catch(() => "")).trim().slice(0, 60) : "";
+  const isText = answer.headers.get("content-type")?.startsWith("text/plain");
+  const word = isText ? (await answer.text().catch(() => "")).trim().slice(0, 60) : "";
   const told = `${answer.status}${word ? ` ${word}` : ""}`;
   if (answer.status === 503 && word === "Closed") throw new Trouble("closed", "It answers 503 Closed.");
   if (answer.status === 404) throw new Trouble("dropped", `${address} answers ${told}.`);
-  if (answer.status >= 500) throw new Trouble("gone", `It answers ${told}.`);
+  if (answer.status >= 500) throw new Trouble("unreachable", `It answers ${told}.`);
   throw new Trouble("wrong", `${address} answers ${told}.`);
 }
 
@@ -46,7 +52,7 @@ export async function documentAt(address, cache) {
   try {
     text = await answer.text();
   } catch {
-    throw new Trouble("gone", "Its answer ended early.");
+    throw new Trouble("unreachable", "Its answer ended early.");
   }
   return documentOf(text, address);
 }
@@ -77,8 +83,8 @@ export function documentOf(text, address) {
     if (!(fault instanceof NoDocument)) throw fault;
     throw new Trouble("wrong", `${address} has no document of ResourceSync.`);
   }
-  if (found.entries.length > MOST_ENTRIES) throw new Trouble("wrong", `${address} has more than ${MOST_ENTRIES} entries.`);
-  return found;
+  if (found.entries.length <= MOST_ENTRIES) return found;
+  throw new Trouble("wrong", `${address} has more than ${MOST_ENTRIES} entries.`);
 }
 
 /** The names of what is looked for, with the prefixes that the root gives to the two vocabularies. */
@@ -91,7 +97,8 @@ function namesOf(root, spaces, found) {
   const [sitemap, terms] = [prefix(SITEMAP), prefix(TERMS)];
   if (root !== `${sitemap}urlset` && root !== `${sitemap}sitemapindex`) throw new NoDocument(root);
   found.isIndex = root === `${sitemap}sitemapindex`;
-  return { entry: `${sitemap}${found.isIndex ? "sitemap" : "url"}`, loc: `${sitemap}loc`, lastmod: `${sitemap}lastmod`, md: `${terms}md` };
+  const entry = `${sitemap}${found.isIndex ? "sitemap" : "url"}`;
+  return { entry, loc: `${sitemap}loc`, lastmod: `${sitemap}lastmod`, md: `${terms}md` };
 }
 
 /** An attribute of an entry's `rs:md`. */
@@ -101,6 +108,6 @@ export function said(entry, name) {
 
 /** A moment as this source writes it, which is in the order of time as text too. */
 export function momentOf(text) {
-  if (!MOMENT.test(text ?? "") || Number.isNaN(Date.parse(text))) throw new Trouble("wrong", `“${String(text).slice(0, 60)}” is no moment.`);
-  return text;
+  if (MOMENT.test(text ?? "") && !Number.isNaN(Date.parse(text))) return text;
+  throw new Trouble("wrong", `“${String(text).slice(0, 60)}” is no moment.`);
 }

@@ -1,4 +1,6 @@
-// Elements that are made from text alone. What a source tells is never read as markup.
+// Elements that are made from text only. What a source says is never read as markup.
+
+import { plain, readable } from "./names.js";
 
 /** An element with a class, and a text or children. */
 export function made(tag, kind = "", ...inside) {
@@ -13,11 +15,16 @@ export function tell(element, text) {
   if (element.textContent !== text) element.textContent = text;
 }
 
-/** A name or a type as it was given, which cannot turn the text around it. */
+/** A text of a source, which cannot turn the text around it. */
 export function given(text, kind = "") {
-  const it = made("bdi", kind);
-  it.textContent = text;
-  return it;
+  return made("bdi", kind, plain(text));
+}
+
+/** Shows a name in an element, as people read it; `whole` has the mark of one that stays encoded. */
+export function showName(element, name, whole = element) {
+  const { text, isMarked } = readable(name);
+  tell(element, text);
+  whole.classList.toggle("is-encoded", isMarked);
 }
 
 /** A link, if the address is one of the web. */

@@ -2,7 +2,10 @@
 
 const counts = new Intl.NumberFormat("en");
 const UNITS = ["bytes", "kB", "MB", "GB", "TB"];
-const AGES = [[31_557_600_000, "year"], [2_629_800_000, "month"], [86_400_000, "day"], [3_600_000, "hour"], [60_000, "minute"], [1_000, "second"]];
+const AGES = [
+  [31_557_600_000, "year"], [2_629_800_000, "month"], [86_400_000, "day"], [3_600_000, "hour"], [60_000, "minute"],
+  [1_000, "second"],
+];
 /** The moment of a source that was never published, or never changed: that of its formatting. */
 export const NEVER = "1970-01-01T00:00:00.000Z";
 

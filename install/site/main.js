@@ -1,48 +1,121 @@
-// The page: finds the sources from the Source Description beside it, shows a panel for each, and asks anew every so often.
+// The page: finds the sources from the Source Description beside it, shows a panel for each, keeps the address at what
+// is shown, and asks again every so often.
 
+import { Navigation } from "./address.js";
+import { aboutAt, showAbout } from "./about.js";
 import { tell } from "./elements.js";
 import { Panel } from "./panel.js";
 import { basesOf } from "./source.js";
+import { troubleText, troubleWord } from "./state.js";
 import { Sums } from "./sums.js";
 import { Tabs } from "./tabs.js";
 
 // How often the lists are asked for while the page is looked at, in milliseconds.
 const EVERY = 30_000;
-const LEAD = "All that it holds can be mirrored. Its lists name each resource, and each change.";
+const LEAD = "Its lists name each resource that it holds, and each change.";
+const LEADS = "Their lists name each resource that they hold, and each change.";
 const place = (id) => document.getElementById(id);
 const here = new URL(".", location.href).href.slice(0, -1);
+const hostOf = (base) => base.replace(/^https?:\/\//, "");
+const about = aboutAt(here);
 
-/** Tells something to those who hear the page. */
+/** Says something to those who hear the page. */
 function say(text) {
   place("live").textContent = text;
 }
 
-/** Shows one source, or many in tabs. */
-function show(bases) {
-  const isCollection = bases.length > 1;
-  let sums = null;
-  // A source alone is asked at its own address, which may lie below the page's, and not at another one that leads to it.
-  const isElsewhere = !isCollection && !`${bases[0]}/`.startsWith(`${here}/`);
-  const panels = bases.map((it) => new Panel(it, { here, isElsewhere, say, changed: () => sums?.show() }));
-  tell(place("kind"), isCollection ? "ResourceSync collection" : "ResourceSync source");
-  tell(place("title"), hostOf(isCollection ? here : bases[0]));
-  tell(place("lead"), isCollection ? `A collection of ${bases.length} sources. All that they hold can be mirrored.` : LEAD);
-  document.title = `${hostOf(here)} – ${isCollection ? "a collection" : "a source"} to mirror`;
-  if (isCollection) sums = showTabs(panels);
-  else place("main").append(panels[0].root);
-  return panels;
-}
+/** The page of one source, or of many in tabs. */
+class Page {
+  constructor(bases) {
+    this.isCollection = bases.length > 1;
+    this.panels = bases.map((base) => this.panel(base));
+    this.navigation = new Navigation(() => this.place(), (it) => this.goTo(it));
+    if (this.isCollection) this.showTabs();
+    else place("main").append(this.panels[0].root);
+    this.showHead(bases);
+    this.navigation.follow(true);
+  }
 
-function showTabs(panels) {
-  const tabs = new Tabs(place("tabs"));
-  const sums = new Sums(panels, (it) => tabs.show(panels.indexOf(it) + 1));
-  place("main").append(tabs.add("All", sums.root), ...panels.map((it) => tabs.add(hostOf(it.base), it.root)));
-  place("tabs").hidden = false;
-  tabs.show(0);
-  return sums;
-}
+  panel(base) {
+    // Below the page's address a source is known by its path.
+    const isBelow = `${base}/`.startsWith(`${here}/`);
+    const label = isBelow && base !== here ? base.slice(here.length + 1) : hostOf(base);
+    const panel = new Panel(base, {
+      here, say,
+      key: this.isCollection ? label : "",
+      // A source that is the only one is asked at its own address, and not at another one that leads to it.
+      isElsewhere: !this.isCollection && !isBelow,
+      changed: () => this.sums?.show(),
+      moved: (isTyping) => this.navigation.note(isTyping),
+    });
+    return Object.assign(panel, { label });
+  }
 
-const hostOf = (base) => base.replace(/^https?:\/\//, "");
+  showTabs() {
+    this.tabs = new Tabs(place("tabs"), () => this.tabShown());
+    this.sums = new Sums(this.panels, {
+      open: (panel, name) => this.open(panel, name),
+      say,
+      moved: (isTyping) => this.navigation.note(isTyping),
+    });
+    const all = this.tabs.add("All", this.sums.root);
+    place("main").append(all, ...this.panels.map((it) => this.tabs.add(it.label, it.root)));
+    place("tabs").hidden = false;
+  }
+
+  /** Shows the source, or the collection, in the page's head, and who runs it. */
+  showHead(bases) {
+    const { isCollection } = this;
+    const [host, number] = [hostOf(isCollection ? here : bases[0]), bases.length];
+    const kind = isCollection ? "ResourceSync collection" : "ResourceSync source";
+    tell(place("kind"), kind);
+    tell(place("title"), host);
+    tell(place("lead"), isCollection ? `A collection of ${number} sources. ${LEADS}` : LEAD);
+    document.title = `${host} – ${isCollection ? "a collection" : "a source"} to mirror`;
+    about.then((it) => {
+      showAbout(place("about"), it);
+      for (const panel of this.panels) panel.showTools(it.tools_address);
+      if (!it.title) return;
+      tell(place("kind"), `${kind} at ${host}`);
+      tell(place("title"), it.title);
+      document.title = `${it.title} – ${host}`;
+    });
+  }
+
+  /** The panel that is shown, or nothing where the sums are. */
+  get panelShown() {
+    return this.isCollection ? this.panels[this.tabs.shown - 1] : this.panels[0];
+  }
+
+  /** The place that is shown. */
+  place() {
+    return (this.panelShown ?? this.sums).place();
+  }
+
+  goTo(wanted) {
+    if (this.isCollection) this.tabs.show(this.panels.findIndex((it) => it.key === wanted.source) + 1);
+    (this.panelShown ?? this.sums).goTo(wanted);
+  }
+
+  /** The reader opens a source, or a resource of it, in its tab. */
+  async open(panel, name) {
+    this.tabs.show(this.panels.indexOf(panel) + 1);
+    if (name !== undefined) panel.open(name);
+  }
+
+  /** A source is read when it is looked at. */
+  tabShown() {
+    if (this.panelShown && !this.panelShown.isBegun) this.panelShown.read();
+    this.navigation.note();
+  }
+
+  /** Reads what is looked at again; the sums look at all that were read. */
+  async read() {
+    for (const it of this.panelShown ? [this.panelShown] : this.panels) {
+      if (it.isBegun || it === this.panelShown) await it.read();
+    }
+  }
+}
 
 /** Finds the sources, however long they do not answer. */
 async function find() {
@@ -50,11 +123,10 @@ async function find() {
     try {
       const bases = await basesOf(here);
       place("notice").hidden = true;
-      return show(bases);
+      return bases;
     } catch (fault) {
-      const isClosed = fault.kind === "closed";
-      const text = isClosed ? "Closed. A call on its disk failed, and it answers nothing until its keeper starts it again."
-        : `${fault.kind === "gone" ? "Gone" : "Unreadable"}. ${fault.message} This page asks again every half minute.`;
+      const trouble = fault.kind ? fault : { kind: "wrong", message: `This page failed: ${fault}` };
+      const text = `${troubleWord(trouble)}. ${troubleText(trouble)}`;
       tell(place("title"), hostOf(here));
       Object.assign(place("notice"), { hidden: false, textContent: text });
       place("notice").dataset.tone = "bad";
@@ -70,8 +142,8 @@ async function pause() {
   while (document.hidden) await new Promise((go) => document.addEventListener("visibilitychange", go, { once: true }));
 }
 
-const panels = await find();
+const page = new Page(await find());
 for (;;) {
-  for (const it of panels) await it.read();
+  await page.read();
   await pause();
 }

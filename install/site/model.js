@@ -1,6 +1,8 @@
-// What a source holds by its lists, and whether these agree with each other.
+// What a source holds by its lists, whether these agree with each other, and whether a mirror takes its names.
 //
 // The Resource List, followed by the changes after its moment in their order, is what is held (docs/DOCUMENTS.md).
+
+import { isLawful, plain, readable, searchable } from "./names.js";
 
 const BY_NAME = (a, b) => (a.name < b.name ? -1 : a.name > b.name ? 1 : 0);
 // How many contradictions the page puts into words.
@@ -16,6 +18,7 @@ export class Holding {
     if (held.size !== this.listed.length) this.contradict("The Resource List has a name twice");
     this.compareListed(held);
     this.since = this.follow(held);
+    this.unlawful = unlawful(this.listed, this.changes);
     this.resources = [...held.values()];
     if (this.since) this.resources.sort(BY_NAME);
     this.byName = held;
@@ -25,7 +28,7 @@ export class Holding {
 
   contradict(what) {
     this.contradictions += 1;
-    if (this.told.length < TOLD) this.told.push(what);
+    if (this.told.length < TOLD) this.told.push(plain(what));
   }
 
   /** Compares the Resource List with the last change of each name up to its moment. */
@@ -37,7 +40,7 @@ export class Holding {
     for (const [name, change] of last) {
       const listed = held.get(name);
       if (change.change === "deleted" ? listed : !listed || !isSame(listed, change)) {
-        this.contradict(`The Resource List and the Change List tell different things of ${name}`);
+        this.contradict(`The Resource List and the Change List have different facts of ${name}`);
       }
     }
   }
@@ -46,11 +49,15 @@ export class Holding {
   follow(held) {
     let [before, since] = [this.from, 0];
     for (const it of this.changes) {
-      if (it.moment <= before) this.contradict(`The Change List is not in the order of its moments at ${it.moment}`);
+      if (it.moment <= before) {
+        this.contradict(`The Change List is not in the order of its moments at ${it.moment}`);
+      }
       before = it.moment;
       if (it.moment <= this.at) continue;
       since += 1;
-      if ((it.change === "created") === held.has(it.name)) this.contradict(`The Change List has ${it.name} as ${it.change}, which it cannot be`);
+      if ((it.change === "created") === held.has(it.name)) {
+        this.contradict(`The Change List has ${it.name} as ${it.change}, which it cannot be`);
+      }
       if (it.change === "deleted") held.delete(it.name);
       else held.set(it.name, it);
     }
@@ -62,11 +69,17 @@ export class Holding {
     return this.changes.filter((it) => it.name === name).reverse();
   }
 
-  /** Whether another reading tells the same. */
+  /** Whether another reading says the same. */
   isAs(other) {
-    return this.at === other.at && this.from === other.from && this.changes.length === other.changes.length && this.changed === other.changed
-      && this.listed.length === other.listed.length && this.contradictions === other.contradictions;
+    const figures = ({ at, from, changed, contradictions, changes, listed }) =>
+      [at, from, changed, contradictions, changes.length, listed.length].join(" ");
+    return figures(this) === figures(other);
   }
+}
+
+/** The names that no mirror takes, each once: a mirror refuses the lists that have one. */
+function unlawful(...lists) {
+  return [...new Set(lists.flatMap((list) => list.map((it) => it.name).filter((it) => !isLawful(it))))];
 }
 
 /** Whether two entries have the same facts. */
@@ -89,16 +102,26 @@ export function sums(holdings) {
   };
 }
 
-/** The resources that have some words in their name or type, in an order. */
+/** What tells whether a resource has some words in its name, as it is read or as it is in the lists, or in its type. */
+export function search(words) {
+  const wanted = searchable(words).split(/\s+/).filter(Boolean);
+  return (resource) => wanted.every((word) => searched(resource).includes(word));
+}
+
+/** The resources that a search finds, in an order. */
 export function chosen(resources, words, key, isDown) {
-  const wanted = words.trim().toLowerCase().split(/\s+/).filter(Boolean);
-  const found = wanted.length ? resources.filter((it) => wanted.every((word) => searched(it).includes(word))) : [...resources];
+  const found = words.trim() ? resources.filter(search(words)) : [...resources];
   if (key !== "name") found.sort((a, b) => (a[key] < b[key] ? -1 : a[key] > b[key] ? 1 : 0));
-  else if (wanted.length === 0 || found.length > 1) found.sort(BY_NAME);
+  else if (found.length > 1) found.sort(BY_NAME);
   return isDown ? found.reverse() : found;
 }
 
 /** What is searched of a resource. */
-function searched(it) {
-  return (it.searched ??= `${it.name}\n${it.type}`.toLowerCase());
+function searched(resource) {
+  if (resource.searched === undefined) {
+    const { text } = readable(resource.name);
+    const names = text === resource.name ? text : `${text}\n${resource.name}`;
+    resource.searched = searchable(`${names}\n${resource.type}`);
+  }
+  return resource.searched;
 }

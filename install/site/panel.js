@@ -1,5 +1,6 @@
 // The panel of one source: its state, its figures, how to mirror it, its time line, its lists and its checks.
 
+import { fragmentOf } from "./address.js";
 import { Checks } from "./checks.js";
 import { Trouble } from "./documents.js";
 import { made, tell } from "./elements.js";
@@ -11,69 +12,114 @@ import { DESCRIPTION, Source } from "./source.js";
 import { showElsewhere, showState, stateOf } from "./state.js";
 import { Timeline } from "./timeline.js";
 
+const ELSEWHERE = "This source calls itself by another address, at which it can be looked at:";
+const HINT = "Choose a resource to see its facts and its history, and to check it.";
+
 export class Panel {
-  /** `here` is the page's address; `say` tells something to those who hear the page; `changed` is called when something may be another one. */
-  constructor(base, { here, isElsewhere, say, changed }) {
-    Object.assign(this, { base, here, isElsewhere, say, changed, source: new Source(base), holding: null, trouble: null, readAt: 0, chosen: null });
+  /**
+   * `here` is the page's address, `key` the source's name in addresses; `say` says something to those who hear the
+   * page; `changed` is called when something may be another one, `moved` when the reader has gone elsewhere.
+   */
+  constructor(base, { here, key, isElsewhere, say, changed, moved }) {
+    Object.assign(this, { base, here, key, isElsewhere, say, changed, moved, source: new Source(base) });
+    Object.assign(this, { holding: null, trouble: null, readAt: 0, chosen: null, wanted: null, isBegun: false });
     this.root = document.getElementById("source").content.cloneNode(true).firstElementChild;
     this.parts = Object.fromEntries([...this.root.querySelectorAll("[data-part]")].map((it) => [it.dataset.part, it]));
-    for (const it of this.root.querySelectorAll("[data-name]")) it.setAttribute("aria-label", it.dataset.name);
-    this.checks = new Checks(this.parts, say, (it) => this.checked(it), (isDifferent) => this.settle(isDifferent));
-    this.listed = new Listed(this.root, { open: (it) => this.open(it.name), outcome: (it) => this.checks.of(it), say });
-    this.changes = changeRows(this.parts["changes-grid"], (it) => this.open(it.name, this.changes));
-    this.timeline = new Timeline(this.parts.timeline, (...range) => this.inView(...range));
-    this.parts.anew.addEventListener("click", () => this.read());
-    this.parts["check-some"].addEventListener("click", () => this.checks.some(this.holding?.resources ?? []));
-    this.parts.card.addEventListener("keydown", (event) => {
-      if (event.key === "Escape") this.back();
-    });
+    for (const element of this.root.querySelectorAll("[data-name]")) {
+      element.setAttribute("aria-label", element.dataset.name);
+    }
+    this.makeLists();
+    this.parts.again.addEventListener("click", () => this.read());
     this.showMirror();
     this.showEmptyCard();
-    this.state = stateOf(null, null, []);
-    showState(this.parts, this.state, 0);
+    this.state = stateOf(null, null, [], true);
+    showState(this.root, this.parts, this.state, 0, false);
+  }
+
+  makeLists() {
+    const address = (name) => fragmentOf({ source: this.key, resource: name });
+    this.checks = new Checks(this.parts, this.say, (it) => this.checked(it), (isDifferent) => this.settle(isDifferent));
+    this.listed = new Listed(this.root, {
+      open: (it) => this.open(it.name),
+      outcome: (it) => this.checks.of(it),
+      isChosen: (name) => name === this.chosen,
+      say: this.say,
+      moved: (isTyping) => this.searched(isTyping),
+      address,
+    });
+    this.changes = changeRows(this.parts["changes-grid"], { open: (it) => this.open(it.name, this.changes), address });
+    this.timeline = new Timeline(this.parts.timeline, {
+      chosen: (...range) => this.inView(...range),
+      moved: () => this.moved(),
+    });
+    const { card } = this.parts;
+    card.addEventListener("keydown", (event) => {
+      if (event.key === "Escape") this.back();
+    });
+    document.addEventListener("focusin", () => this.uncover());
+  }
+
+  /** A sheet over the list would hide what has the focus, so it goes when the focus is elsewhere. */
+  uncover() {
+    const { chosen: name, parts: { card } } = this;
+    if (name === null || getComputedStyle(card).position !== "fixed") return;
+    setTimeout(() => {
+      if (this.chosen === name && !card.contains(document.activeElement)) this.close();
+    });
   }
 
   showMirror() {
-    const { command, copy, description, capabilities } = this.parts;
+    const { command, copy, description, capabilities, filling } = this.parts;
     command.textContent = `ropepeach mirror ${this.base} mirror`;
-    copy.addEventListener("click", () => this.copy(command, copy));
+    filling.textContent = `ropepeach fill FOLDER ${this.base}`;
+    copy.addEventListener("click", () => this.copy(command.textContent, copy, "The command is copied."));
     description.href = `${this.here}${DESCRIPTION}`;
     capabilities.href = `${this.base}/capabilitylist.xml`;
   }
 
-  /** Copies the command, or marks it where the browser does not let a page copy. */
-  async copy(command, button) {
+  /** Shows where the command comes from, if the site's keeper says it. */
+  showTools(address = "") {
+    if (/^https?:\/\//.test(address)) this.parts.tools.href = address;
+  }
+
+  /** Copies a text, or says that the browser does not let a page copy. */
+  async copy(text, button, message) {
+    const label = button.dataset.label ?? button.textContent;
+    button.dataset.label = label;
     try {
-      await navigator.clipboard.writeText(command.textContent);
+      await navigator.clipboard.writeText(text);
       tell(button, "Copied");
-      this.say("The command is copied.");
-      setTimeout(() => tell(button, "Copy"), 2_000);
+      this.say(message);
     } catch {
-      getSelection().selectAllChildren(command);
+      tell(button, "Not copied");
+      this.say("This browser does not let the page copy.");
     }
+    setTimeout(() => tell(button, label), 2_000);
   }
 
   /** Reads the lists, and shows what is new; never twice at once. */
   async read() {
     if (this.isReading) return;
-    this.isReading = true;
-    this.parts.anew.setAttribute("aria-disabled", "true");
+    [this.isReading, this.isBegun] = [true, true];
+    this.parts.again.setAttribute("aria-disabled", "true");
+    if (this.state.kind === "unread") this.showTrouble();
     try {
       await this.readOnce();
     } finally {
       this.isReading = false;
-      this.parts.anew.removeAttribute("aria-disabled");
+      this.parts.again.removeAttribute("aria-disabled");
     }
   }
 
   async readOnce() {
     let trouble = null;
     try {
-      if (this.isElsewhere) throw new Trouble("elsewhere", "This source calls itself by another address, at which it can be looked at:");
+      if (this.isElsewhere) throw new Trouble("elsewhere", ELSEWHERE);
       const holding = new Holding(await this.source.read((done, all) => this.progress(done, all)));
       performance.mark("read");
       this.readAt = Date.now();
       if (!this.holding?.isAs(holding)) this.show(holding);
+      else this.timeline.passed();
     } catch (fault) {
       trouble = fault instanceof Trouble ? fault : new Trouble("wrong", `This page failed: ${fault}`);
     }
@@ -87,80 +133,147 @@ export class Panel {
 
   /** Shows the state, and says it where it is another one. */
   showTrouble() {
-    const state = stateOf(this.trouble, this.holding, this.checks.differing());
-    if (state.kind !== this.state.kind) this.say(`${this.base}: ${state.word}. ${state.why}`);
+    const state = stateOf(this.trouble, this.holding, this.checks.differing(), !this.isBegun);
+    const isNews = state.kind !== this.state.kind && state.kind !== "reading";
+    if (isNews) this.say(`${this.base}: ${state.word}. ${state.why}`);
     this.state = state;
-    showState(this.parts, state, this.readAt);
+    showState(this.root, this.parts, state, this.readAt, Boolean(this.trouble && this.holding));
     if (state.kind === "elsewhere") showElsewhere(this.parts, this.base);
     if (this.holding) this.showAges();
     this.changed();
   }
 
-  /** Shows another reading. */
+  /** Shows another reading, and the place that the reader wanted before it came. */
   show(holding) {
     this.holding = holding;
+    this.root.dataset.holds = holding.resources.length ? "resources" : holding.changes.length ? "changes" : "nothing";
     this.checks.keep(holding);
+    this.checks.draw(holding.resources);
     this.showFigures(holding);
     this.listed.show(holding);
     this.timeline.show(holding.changes, holding.at);
-    if (this.chosen) this.showCard(this.chosen);
+    const { wanted } = this;
+    this.wanted = null;
+    if (wanted) this.goTo(wanted);
+    else if (this.chosen !== null) this.showCard(this.chosen);
+    if (wanted?.resource) this.parts.card.scrollIntoView({ block: "nearest" });
     performance.mark("shown");
   }
 
-  showFigures(it) {
+  showFigures(holding) {
     const { parts } = this;
-    tell(parts.resources, count(it.resources.length));
-    tell(parts.since, it.since ? `${count(it.listed.length)} listed, ${counted(it.since, "change")} since` : "all are listed");
-    tell(parts.size, size(it.bytes));
-    tell(parts.bytes, it.bytes >= 1_000 ? `${count(it.bytes)} bytes` : "");
-    tell(parts.changes, count(it.changes.length));
-    tell(parts.from, it.from === NEVER ? "all so far" : `since ${moment(it.from)}`);
-    tell(parts.changed, moment(it.changed));
-    tell(parts.published, moment(it.at));
-    parts.listed.href = it.addresses.listed;
-    parts.changelist.href = it.addresses.changed;
+    tell(parts.resources, count(holding.resources.length));
+    const since = `${count(holding.listed.length)} listed, ${counted(holding.since, "change")} since`;
+    tell(parts.since, holding.since ? since : "all are listed");
+    tell(parts.size, size(holding.bytes));
+    tell(parts.bytes, holding.bytes >= 1_000 ? `${count(holding.bytes)} bytes` : "");
+    tell(parts.changes, count(holding.changes.length));
+    tell(parts.from, holding.from === NEVER ? "all so far" : `since ${moment(holding.from)}`);
+    showMoment(parts.changed, holding.changed);
+    showMoment(parts.published, holding.at);
+    parts.listed.href = holding.addresses.listed;
+    parts.changelist.href = holding.addresses.changed;
   }
 
-  /** How long ago things were, anew with each reading. */
+  /** How long ago things were, again with each reading. */
   showAges() {
     const { at, changed, publication } = this.holding;
     tell(this.parts["changed-age"], changed === NEVER ? "" : age(changed));
-    tell(this.parts["published-age"], [publication && `number ${publication}`, at === NEVER ? "" : age(at)].filter(Boolean).join(", "));
+    const number = publication && `number ${publication}`;
+    tell(this.parts["published-age"], [number, at === NEVER ? "" : age(at)].filter(Boolean).join(", "));
   }
 
   /** Shows the changes that the time line has in view. */
-  inView(first, last, isWhole) {
-    const changes = this.holding.changes.slice(first, last).reverse();
-    this.changes.show(changes, isWhole);
+  inView(first, last, isSamePlace) {
+    this.parts["changes-grid"].hidden = first === last;
+    this.changes.show(this.holding.changes.slice(first, last).reverse(), isSamePlace);
   }
 
-  /** Shows a resource beside the list, and goes there; `rows` is where its reader came from. */
+  /** The place that is shown. */
+  place() {
+    if (this.wanted) return { ...this.wanted, source: this.key };
+    const { listed, timeline } = this;
+    const range = this.holding ? timeline.range() : "";
+    const search = listed.search.value.trim();
+    return { source: this.key, resource: this.chosen ?? "", search, sort: listed.order(), range };
+  }
+
+  /** Shows a place, now or once the lists came. */
+  goTo(place) {
+    if (!this.holding) {
+      this.wanted = place;
+      return;
+    }
+    const { listed, timeline } = this;
+    const isOther = place.search !== listed.search.value.trim() || place.sort !== listed.order();
+    if (isOther) listed.goTo(place.search, place.sort);
+    if (place.range !== timeline.range()) timeline.goTo(place.range);
+    if (place.resource) this.choose(place.resource);
+    else this.close();
+  }
+
+  /** A resource is chosen by the reader; `rows` is where the reader came from. */
   open(name, rows = this.listed.rows) {
-    this.chosen = name;
     this.cameFrom = rows;
-    this.showCard(name);
+    this.choose(name);
+    this.moved();
     this.parts.card.querySelector("h3").focus();
     this.parts.card.scrollIntoView({ block: "nearest" });
+  }
+
+  /** Shows the card of a resource, and marks its row. */
+  choose(name) {
+    this.chosen = name;
+    this.showCard(name);
+    const held = this.holding.byName.get(name);
+    if (held) this.listed.rows.reveal(held);
+    else this.listed.rows.redraw();
+  }
+
+  /** Closes the card. */
+  close() {
+    if (this.chosen === null) return;
+    this.chosen = null;
+    this.showEmptyCard();
+    this.listed.rows.redraw();
+    this.moved();
+  }
+
+  /** The reader has searched or sorted: the card of a resource that is hidden now is closed. */
+  searched(isTyping = false) {
+    const { chosen: name, listed, wanted } = this;
+    if (wanted) this.wanted = { ...wanted, search: listed.search.value.trim(), sort: listed.order() };
+    const isHidden = name !== null && listed.hides(this.holding.byName.get(name) ?? { name, type: "" });
+    if (isHidden) this.close();
+    this.moved(isTyping);
   }
 
   showCard(name) {
     const held = this.holding.byName.get(name);
     const { card } = this.parts;
     const focused = card.contains(document.activeElement) ? document.activeElement.dataset.part : undefined;
+    card.dataset.isOpen = true;
     showResource(card, {
-      name, held, back: () => this.back(), history: this.holding.history(name), from: this.holding.from,
-      outcome: held && this.checks.of(held), check: () => this.checks.one(held),
+      name, held, history: this.holding.history(name), from: this.holding.from,
+      outcome: held && this.checks.of(held),
+      check: () => this.checks.one(held),
+      copy: (event) => this.copy(name, event.currentTarget, "The name is copied."),
+      back: () => this.back(),
+      close: () => this.back(),
     });
     if (focused) this.root.querySelector(`.card [data-part="${focused}"]`)?.focus();
   }
 
-  /** Goes back to the row from which a resource was chosen. */
+  /** Goes back to the row from which a resource was chosen, and closes its card. */
   back() {
-    this.cameFrom?.goTo(this.cameFrom.active);
+    const rows = this.cameFrom ?? this.listed.rows;
+    this.close();
+    rows.goTo(rows.active);
   }
 
   showEmptyCard() {
-    this.parts.card.replaceChildren(made("p", "hint", "Choose a resource to see its facts, its history, and to check it."));
+    this.parts.card.dataset.isOpen = false;
+    this.parts.card.replaceChildren(made("p", "hint", HINT));
   }
 
   /** A resource was checked. */
@@ -174,4 +287,10 @@ export class Panel {
     if (isDifferent) await this.read();
     this.showTrouble();
   }
+}
+
+/** Shows a moment as its day, and its time of day below. */
+export function showMoment(element, text) {
+  if (text === NEVER) tell(element, moment(text));
+  else element.replaceChildren(made("span", "day", text.slice(0, 10)), " ", made("span", "time", text.slice(11, 19)));
 }

@@ -1,36 +1,54 @@
 // The facts of one resource, its history in the Change List, and its check.
 
 import { canCheck } from "./checking.js";
-import { given, made, part, tell } from "./elements.js";
+import { given, made, part, showName, tell } from "./elements.js";
 import { NEVER, age, count, moment, size } from "./formats.js";
+import { isLawful, plain, readable } from "./names.js";
 
 // The newest changes of one name that are shown.
 const MOST_CHANGES = 50;
+const DELETED = "It was deleted. The source does not hold it now.";
+const UNKNOWN = "The lists have nothing of this name.";
 
 /** Fills a card with a resource. `held` is what is held of the name now, or nothing where it is deleted. */
-export function showResource(card, { name, held, history, from, outcome, check, back }) {
+export function showResource(card, { name, held, history, from, outcome, check, copy, back, close }) {
   card.replaceChildren(document.getElementById("resource").content.cloneNode(true));
   const it = (which) => part(card, which);
-  it("name").textContent = name;
+  showTitle(it, name);
   it("gone").hidden = Boolean(held);
-  card.querySelector(".facts").hidden = !held;
+  tell(it("gone"), history.length ? DELETED : UNKNOWN);
+  it("held").hidden = !held;
   if (held) showFacts(it, held);
   it("check").disabled = !held || !canCheck;
-  it("check").addEventListener("click", check);
-  it("back").addEventListener("click", back);
+  for (const [which, act] of Object.entries({ check, back, close, copyname: copy })) {
+    it(which).addEventListener("click", act);
+  }
   it("open").hidden = !held;
-  if (held && /^https?:/.test(held.loc)) Object.assign(it("open"), { href: held.loc, rel: "noreferrer noopener", target: "_blank" });
+  if (held && /^https?:/.test(held.loc)) {
+    Object.assign(it("open"), { href: held.loc, rel: "noreferrer noopener", target: "_blank" });
+  }
   showOutcome(card, outcome);
-  if (!canCheck) tell(it("outcome"), "A browser checks over HTTPS alone.");
+  if (!canCheck) tell(it("outcome"), "A browser checks over HTTPS only.");
   showHistory(it, history, from);
 }
 
+/** The name as people read it, and as the lists have it where that is another text. */
+function showTitle(it, name) {
+  const { text, isMarked } = readable(name);
+  showName(it("name"), name, it("title"));
+  it("lawful-part").hidden = text === name;
+  tell(it("lawful"), plain(name));
+  it("encoded").hidden = !isMarked;
+  it("unlawful").hidden = isLawful(name);
+}
+
 function showFacts(it, held) {
-  it("type").textContent = held.type || "none is listed";
-  it("length").textContent = held.length >= 1_000 ? `${count(held.length)} bytes (${size(held.length)})` : size(held.length);
-  it("moment").textContent = `${held.moment.slice(0, 10)} ${held.moment.slice(11, 23)}, ${age(held.moment)}`;
-  it("sha256").textContent = held.sha256 || "none is listed";
-  it("md5").textContent = held.md5 || "none is listed";
+  tell(it("type"), plain(held.type) || "none is listed");
+  tell(it("length"), held.length >= 1_000 ? `${count(held.length)} bytes (${size(held.length)})` : size(held.length));
+  it("moment").replaceChildren(made("span", "whole", `${held.moment.slice(0, 10)} ${held.moment.slice(11, 23)}`),
+    made("span", "more", `, ${age(held.moment)}`));
+  tell(it("sha256"), plain(held.sha256) || "none is listed");
+  tell(it("md5"), plain(held.md5) || "none is listed");
 }
 
 function showHistory(it, history, from) {
@@ -40,11 +58,11 @@ function showHistory(it, history, from) {
   });
   it("history").replaceChildren(...rows);
   const more = history.length > MOST_CHANGES ? `And ${count(history.length - MOST_CHANGES)} earlier ones. ` : "";
-  const kept = from === NEVER ? "The list has every change so far." : `The list has the changes since ${moment(from)}.`;
-  it("earlier").textContent = `${history.length ? "" : "It has no change of this name. "}${more}${kept}`;
+  const kept = `The list has ${from === NEVER ? "every change so far" : `the changes since ${moment(from)}`}.`;
+  tell(it("earlier"), `${history.length ? "" : "It has no change of this name. "}${more}${kept}`);
 }
 
-/** Shows what came of a check. */
+/** Shows the outcome of a check. */
 export function showOutcome(card, outcome) {
   const place = part(card, "outcome");
   if (!place) return;

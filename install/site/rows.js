@@ -1,4 +1,5 @@
-// A list of any length, of which only the rows in view are drawn. One row is in the order of the tab key, and the arrows move from it.
+// A list of any length, of which only the rows in view are drawn. One row is in the order of the tab key, and the arrows
+// move from it.
 
 // Rows beyond the edges of the view that are drawn too, and rows that are printed.
 const BESIDE = 6;
@@ -6,8 +7,9 @@ const PRINTED = 100;
 
 export class Rows {
   /** `make` gives an empty row, `fill` puts an item into one, `open` is what a click or Enter does. */
-  constructor(grid, { make, fill, open }) {
-    Object.assign(this, { grid, make, fill, open, items: [], drawn: new Map(), free: [], active: 0, height: 0, isPrinting: false });
+  constructor(grid, { make, fill, open, isChosen = () => false }) {
+    Object.assign(this, { grid, make, fill, open, isChosen, items: [], drawn: new Map(), free: [] });
+    Object.assign(this, { active: 0, height: 0, isPrinting: false });
     this.view = grid.querySelector(".view");
     this.room = grid.querySelector(".room");
     this.view.addEventListener("scroll", () => this.drawSoon(), { passive: true });
@@ -27,7 +29,7 @@ export class Rows {
     this.redraw();
   }
 
-  /** Draws all rows anew. */
+  /** Draws all rows again. */
   redraw() {
     for (const [index, row] of this.drawn) {
       if (index < this.items.length) this.put(row, index);
@@ -58,7 +60,8 @@ export class Rows {
   wanted() {
     if (this.isPrinting) return Array.from({ length: Math.min(PRINTED, this.items.length) }, (_, it) => it);
     const first = Math.max(0, Math.floor(this.view.scrollTop / this.height) - BESIDE);
-    const last = Math.min(this.items.length, Math.ceil((this.view.scrollTop + this.view.clientHeight) / this.height) + BESIDE);
+    const end = this.view.scrollTop + this.view.clientHeight;
+    const last = Math.min(this.items.length, Math.ceil(end / this.height) + BESIDE);
     const found = Array.from({ length: Math.max(0, last - first) }, (_, it) => first + it);
     // The row that the tab key leads to is always there.
     if (this.active < this.items.length && this.active < first) found.unshift(this.active);
@@ -95,8 +98,20 @@ export class Rows {
     row.index = index;
     row.setAttribute("aria-rowindex", index + 2);
     row.tabIndex = index === this.active ? 0 : -1;
+    row.setAttribute("aria-selected", this.isChosen(this.items[index]));
     this.place(row, index);
     this.fill(row, this.items[index]);
+  }
+
+  /** Brings an item into view, and makes its row the one of the tab key. */
+  reveal(item) {
+    const index = this.items.indexOf(item);
+    if (index < 0) return;
+    this.active = index;
+    const top = index * this.height;
+    const isInView = top >= this.view.scrollTop && top + this.height <= this.view.scrollTop + this.view.clientHeight;
+    if (!isInView) this.view.scrollTop = Math.max(0, top - this.view.clientHeight / 3);
+    this.redraw();
   }
 
   place(row, index) {
@@ -110,9 +125,9 @@ export class Rows {
     const before = this.drawn.get(this.active);
     if (before) before.tabIndex = -1;
     this.active = to;
-    const top = to * this.height;
+    const [top, high] = [to * this.height, this.view.clientHeight];
     if (top < this.view.scrollTop) this.view.scrollTop = top;
-    if (top + this.height > this.view.scrollTop + this.view.clientHeight) this.view.scrollTop = top + this.height - this.view.clientHeight;
+    if (top + this.height > this.view.scrollTop + high) this.view.scrollTop = top + this.height - high;
     this.draw();
     const row = this.drawn.get(to);
     row.tabIndex = 0;
@@ -130,9 +145,11 @@ export class Rows {
     event.preventDefault();
   }
 
+  /** A row was clicked. A link in it that is opened elsewhere is the browser's. */
   clicked(event) {
     const row = event.target.closest("[role=row]");
-    if (!row) return;
+    if (!row || event.ctrlKey || event.metaKey || event.shiftKey) return;
+    event.preventDefault();
     this.goTo(row.index);
     this.open(this.items[row.index]);
   }

@@ -4,7 +4,7 @@ import { Trouble, documentAt, momentOf, said } from "./documents.js";
 
 export const DESCRIPTION = "/.well-known/resourcesync";
 const CAPABILITIES = "/capabilitylist.xml";
-// How often the lists are read anew, if a publication comes meanwhile; how many parts are asked for side by side.
+// How often the lists are read again, if a publication comes meanwhile; how many parts are asked for side by side.
 const READINGS = 6;
 const LANES = 3;
 // No source holds more, or a longer body.
@@ -14,10 +14,12 @@ const MOST_BYTES = 16_777_216;
 /** The bases of the sources that the Source Description below this address names. */
 export async function basesOf(address) {
   const description = await documentAt(address + DESCRIPTION).catch((fault) => {
-    throw fault.kind === "dropped" ? new Trouble("gone", `There is no Source Description at ${address + DESCRIPTION}.`) : fault;
+    if (fault.kind !== "dropped") throw fault;
+    throw new Trouble("gone", `There is no Source Description at ${address + DESCRIPTION}.`);
   });
   const named = description.entries.filter((it) => said(it, "capability") === "capabilitylist");
-  const bases = named.map((it) => it.loc).filter((it) => it.endsWith(CAPABILITIES)).map((it) => it.slice(0, -CAPABILITIES.length));
+  const addresses = named.map((it) => it.loc).filter((it) => it.endsWith(CAPABILITIES));
+  const bases = addresses.map((it) => it.slice(0, -CAPABILITIES.length));
   if (!bases.length) throw new Trouble("wrong", "The Source Description names no Capability List.");
   return [...new Set(bases)];
 }
@@ -57,7 +59,8 @@ export class Source {
     const at = momentOf(resources.said.at);
     const from = momentOf(changes.said.from);
     if (from > at) throw new Trouble("dropped", `the Change List begins at ${from}, after the Resource List of ${at}`);
-    return { at, from, addresses: { listed, changed }, publication: publicationOf(resources), listed: resources.found, changes: changes.found };
+    const [addresses, publication] = [{ listed, changed }, publicationOf(resources)];
+    return { at, from, addresses, publication, listed: resources.found, changes: changes.found };
   }
 
   /** The address at which the Capability List names a list. */
@@ -69,7 +72,9 @@ export class Source {
 
   /** An address of this source: nothing else is asked for. */
   own(address) {
-    if (!address.startsWith(`${this.base}/`)) throw new Trouble("wrong", `${address.slice(0, 200)} is not below its base ${this.base}.`);
+    if (!address.startsWith(`${this.base}/`)) {
+      throw new Trouble("wrong", `${address.slice(0, 200)} is not below its base ${this.base}.`);
+    }
     return address;
   }
 
@@ -117,13 +122,16 @@ export class Source {
     const change = said(read, "change");
     const name = read.loc.slice(this.front.length);
     const moment = momentOf(said(read, "datetime") || read.lastmod);
-    if (change === "deleted") return { name, loc: read.loc, change, moment, length: 0, type: "", sha256: "", md5: "" };
+    if (change === "deleted") {
+      return { name, loc: read.loc, change, moment, length: 0, type: "", sha256: "", md5: "" };
+    }
     const length = said(read, "length");
     if (!/^\d{1,8}$/.test(length) || Number(length) > MOST_BYTES) {
       throw new Trouble("wrong", `${read.loc} is listed with no length of 16 MiB at most.`);
     }
     const { sha256, md5 } = digestsIn(said(read, "hash"));
-    return { name, loc: read.loc, change, moment, length: Number(length), type: said(read, "type"), sha256, md5 };
+    const type = said(read, "type");
+    return { name, loc: read.loc, change, moment, length: Number(length), type, sha256, md5 };
   }
 }
 

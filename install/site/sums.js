@@ -1,34 +1,99 @@
-// The first tab of a collection: the sums over all its sources, and each source in a row.
+// The first tab of a collection: the sums over the sources that were read, each source in a row, and a search over all.
 
+import { fragmentOf } from "./address.js";
 import { given, made, part, tell } from "./elements.js";
 import { age, count, counted, moment, size } from "./formats.js";
-import { sums } from "./model.js";
+import { cell, fillName, nameCell, row } from "./listed.js";
+import { search, sums } from "./model.js";
+import { plain } from "./names.js";
+import { showMoment } from "./panel.js";
+import { Rows } from "./rows.js";
 
 export class Sums {
-  /** `open` shows the tab of a panel. */
-  constructor(panels, open) {
-    Object.assign(this, { panels, open });
+  /** `open` shows the tab of a panel, and a resource there; `moved` hears of another search. */
+  constructor(panels, { open, say, moved }) {
+    Object.assign(this, { panels, open, say, moved });
     this.root = document.getElementById("sums").content.cloneNode(true).firstElementChild;
+    this.search = part(this.root, "search-all");
+    this.search.addEventListener("input", () => {
+      this.find();
+      this.moved(true);
+    });
+    part(this.root, "read-all").addEventListener("click", () => this.readAll());
+    this.rows = new Rows(part(this.root, "found-grid"), {
+      open: ({ panel, resource }) => this.open(panel, resource.name),
+      make: () => row(nameCell(), cell("source", given("")), cell("type", given("")), cell("number"), cell("moment")),
+      fill: (element, item) => fill(element, item),
+    });
     this.show();
+  }
+
+  /** Reads each source that was not read yet, one after another. */
+  async readAll() {
+    if (this.isReading) return;
+    this.isReading = true;
+    const button = part(this.root, "read-all");
+    button.setAttribute("aria-disabled", "true");
+    for (const panel of this.panels) {
+      if (!panel.holding) await panel.read();
+    }
+    this.isReading = false;
+    button.removeAttribute("aria-disabled");
+    this.say(part(this.root, "read").textContent);
+  }
+
+  /** The place that is shown. */
+  place() {
+    return { search: this.search.value.trim() };
+  }
+
+  goTo(place) {
+    if (this.search.value.trim() === place.search) return;
+    this.search.value = place.search;
+    this.find();
+  }
+
+  /** Searches all sources; those that were not read yet are read for it. */
+  find() {
+    const words = this.search.value.trim();
+    part(this.root, "found-part").hidden = !words;
+    if (!words) return;
+    if (this.panels.some((it) => !it.isBegun)) this.readAll();
+    this.showFound(words);
+  }
+
+  showFound(words) {
+    const isFound = search(words);
+    const items = this.panels.flatMap((panel) =>
+      (panel.holding?.resources ?? []).filter(isFound).map((resource) => ({ panel, resource })));
+    const read = this.panels.filter((it) => it.holding).length;
+    this.rows.show(items, words === this.words && read === this.read);
+    [this.words, this.read] = [words, read];
+    const text = `${counted(items.length, "resource")} in ${count(read)} of ${counted(this.panels.length, "source")}`;
+    if (part(this.root, "found-all").textContent === text) return;
+    tell(part(this.root, "found-all"), text);
+    this.say(text);
   }
 
   show() {
     const all = sums(this.panels.map((it) => it.holding));
     const put = (name, text) => tell(part(this.root, name), text);
-    put("resources", count(all.resources));
+    put("resources", all.read ? count(all.resources) : "–");
     const sources = counted(this.panels.length, "source");
-    put("read", all.read === this.panels.length ? `in ${sources}` : `in ${count(all.read)} of ${sources}`);
-    put("size", size(all.bytes));
+    put("read", all.read === this.panels.length ? `in ${sources}` : `in ${count(all.read)} of ${sources} that were read`);
+    put("size", all.read ? size(all.bytes) : "–");
     put("bytes", all.bytes >= 1_000 ? `${count(all.bytes)} bytes` : "");
-    put("changes", count(all.changes));
+    put("changes", all.read ? count(all.changes) : "–");
     for (const name of ["changed", "published"]) {
-      put(name, all[name] ? moment(all[name]) : "–");
+      if (all[name]) showMoment(part(this.root, name), all[name]);
       put(`${name}-age`, all[name] ? age(all[name]) : "");
     }
+    part(this.root, "read-all").hidden = this.panels.every((it) => it.isBegun);
     // (a row that stays keeps the focus of its button)
     const rows = this.panels.map((it) => this.row(it));
     const body = part(this.root, "sources");
     if (body.textContent !== rows.map((it) => it.textContent).join("")) body.replaceChildren(...rows);
+    if (this.search.value.trim()) this.showFound(this.search.value.trim());
   }
 
   row(panel) {
@@ -40,7 +105,17 @@ export class Sums {
     head.scope = "row";
     const word = made("td", "tone", state.word);
     word.dataset.tone = state.tone;
-    const figures = holding ? [count(holding.resources.length), count(holding.bytes), moment(holding.changed)] : ["–", "–", "–"];
+    const { resources, bytes, changed } = holding ?? {};
+    const figures = holding ? [count(resources.length), count(bytes), moment(changed)] : ["–", "–", "–"];
     return made("tr", "", head, word, ...figures.map((it) => made("td", "", it)));
   }
+}
+
+function fill(element, { panel, resource }) {
+  const [name, source, type, length, put] = element.children;
+  fillName(name, resource.name, fragmentOf({ source: panel.key, resource: resource.name }));
+  tell(source.firstChild, panel.label);
+  tell(type.firstChild, plain(resource.type));
+  tell(length, count(resource.length));
+  tell(put, moment(resource.moment).slice(0, 10));
 }

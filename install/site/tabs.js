@@ -3,9 +3,10 @@
 import { given, made } from "./elements.js";
 
 export class Tabs {
-  constructor(bar) {
-    Object.assign(this, { bar, tabs: [] });
-    bar.addEventListener("keydown", (it) => this.move(it));
+  /** `shown` hears which tab is shown by the reader. */
+  constructor(bar, shown) {
+    Object.assign(this, { bar, tabs: [], shown: 0, hear: shown });
+    bar.addEventListener("keydown", (event) => this.move(event));
   }
 
   /** A tab with a label, and what it shows. */
@@ -32,11 +33,14 @@ export class Tabs {
       tab.tabIndex = at === number ? 0 : -1;
       panel.hidden = at !== number;
     });
+    this.hear(number);
   }
 
   move(event) {
     const last = this.tabs.length - 1;
-    const to = { ArrowRight: this.shown < last ? this.shown + 1 : 0, ArrowLeft: this.shown ? this.shown - 1 : last, Home: 0, End: last }[event.key];
+    const after = this.shown < last ? this.shown + 1 : 0;
+    const before = this.shown ? this.shown - 1 : last;
+    const to = { ArrowRight: after, ArrowLeft: before, Home: 0, End: last }[event.key];
     if (to === undefined) return;
     event.preventDefault();
     this.show(to);

@@ -1,8 +1,9 @@
-// A time line of changes, which can be zoomed by buttons, keys, a drag and Ctrl with the wheel. What is drawn also stands in a table.
+// A time line of changes, which can be zoomed by buttons, keys, a drag and Ctrl with the wheel. At first it has the last
+// 30 days. What is drawn is also in a table.
 
-import { Counted, KINDS, binsOf, marks, spanText } from "./bins.js";
+import { Counted, DAY, KINDS, binsOf, marks, spanText } from "./bins.js";
 import { made, part, tell } from "./elements.js";
-import { NEVER, count, counted as told } from "./formats.js";
+import { NEVER, age, count, counted as told } from "./formats.js";
 
 const SVG = "http://www.w3.org/2000/svg";
 // The drawing in its own units; a span is never shorter than this.
@@ -10,8 +11,17 @@ const HIGH = 150;
 const AXIS = 22;
 const BAR = 9;
 const SHORTEST = 20;
-// Rows of the table beside the drawing.
+// What is shown at first, in milliseconds.
+const RECENT = 30 * DAY;
+// Rows of the table with the drawing.
 const ROWS = 24;
+// A range of an address.
+const RANGE = /^(\d{4}-\d\d-\d\dT[\d:.]+Z)\.\.(\d{4}-\d\d-\d\dT[\d:.]+Z)$/;
+
+// What the keys do.
+const KEYS = { "+": "in", "=": "in", "-": "out", ArrowLeft: "earlier", ArrowRight: "later", Home: "whole", 0: "whole" };
+
+const isSame = (one, other) => one[0] === other[0] && one[1] === other[1];
 
 function drawn(name, attributes, ...inside) {
   const it = document.createElementNS(SVG, name);
@@ -21,11 +31,13 @@ function drawn(name, attributes, ...inside) {
 }
 
 export class Timeline {
-  /** `chosen` gets the span in view as it changes. */
-  constructor(root, chosen) {
-    Object.assign(this, { root, chosen, counted: new Counted([]), at: null, wide: 0, bins: [] });
+  /** `chosen` gets the span in view as it changes; `moved` hears that the reader changed it. */
+  constructor(root, { chosen, moved }) {
+    Object.assign(this, { root, chosen, moved, counted: new Counted([]), at: null, wide: 0, bins: [] });
     this.field = part(root, "field");
-    for (const button of root.querySelectorAll("[data-zoom]")) button.addEventListener("click", () => this.act(button.dataset.zoom));
+    for (const button of root.querySelectorAll("[data-zoom]")) {
+      button.addEventListener("click", () => this.act(button.dataset.zoom));
+    }
     this.field.addEventListener("keydown", (it) => this.pressed(it));
     this.field.addEventListener("wheel", (it) => this.wheeled(it), { passive: false });
     this.field.addEventListener("pointerdown", (it) => this.begin(it));
@@ -38,16 +50,42 @@ export class Timeline {
 
   /** Takes changes, in their order, and the moment of the latest publication. */
   show(changes, at) {
-    const wasWhole = !this.span || this.isWhole();
     this.counted = new Counted(changes);
     this.at = at === NEVER ? null : Date.parse(at);
-    this.whole = this.counted.span();
-    if (wasWhole) this.span = this.whole;
-    this.changed();
+    this.passed();
+  }
+
+  /** Time has passed: what ends now goes on. */
+  passed(now = Date.now()) {
+    const range = this.span ? this.range() : "";
+    const end = this.counted.end(now);
+    this.whole = this.counted.span(end, RECENT);
+    this.recent = [end - RECENT, end];
+    this.span = this.spanOf(range);
+    this.changed(true);
   }
 
   isWhole() {
-    return this.span[0] === this.whole[0] && this.span[1] === this.whole[1];
+    return isSame(this.span, this.whole);
+  }
+
+  /** The span in view as an address has it: nothing for the last 30 days, `all`, or two moments. */
+  range() {
+    if (isSame(this.span, this.recent)) return "";
+    return this.isWhole() ? "all" : this.span.map((it) => new Date(it).toISOString()).join("..");
+  }
+
+  /** The span of an address. */
+  spanOf(range) {
+    if (range === "all") return this.whole;
+    const [from, until] = (RANGE.exec(range) ?? []).slice(1).map((it) => Date.parse(it));
+    return from < until ? this.within(from, until) : this.recent;
+  }
+
+  /** Shows the span of an address. */
+  goTo(range) {
+    this.span = this.spanOf(range);
+    this.changed();
   }
 
   resized() {
@@ -55,19 +93,25 @@ export class Timeline {
     this.draw();
   }
 
-  changed() {
+  changed(isSamePlace = false) {
     this.draw();
     this.list();
     const [first, last] = this.span.map((it) => this.counted.before(it));
-    this.chosen(first, last, this.isWhole());
+    this.chosen(first, last, isSamePlace);
   }
 
-  /** Goes to another span, within the whole one. */
-  go(from, until) {
+  /** A span within the whole one. */
+  within(from, until) {
     const length = Math.min(Math.max(until - from, SHORTEST), this.whole[1] - this.whole[0]);
     const start = Math.min(Math.max((from + until - length) / 2, this.whole[0]), this.whole[1] - length);
-    this.span = [Math.round(start), Math.round(start + length)];
+    return [Math.round(start), Math.round(start + length)];
+  }
+
+  /** The reader goes to another span. */
+  go(from, until) {
+    this.span = this.within(from, until);
     this.changed();
+    this.moved();
   }
 
   /** Makes the span longer or shorter around a place of it, from 0 to 1. */
@@ -86,12 +130,13 @@ export class Timeline {
   act(what) {
     if (!this.counted.times.length) return;
     if (what === "whole") this.go(...this.whole);
+    else if (what === "recent") this.go(...this.recent);
     else if (what === "in" || what === "out") this.zoom(what === "in" ? 0.5 : 2);
     else this.move(what === "earlier" ? -0.4 : 0.4);
   }
 
   pressed(event) {
-    const what = { "+": "in", "=": "in", "-": "out", ArrowLeft: "earlier", ArrowRight: "later", Home: "whole", 0: "whole" }[event.key];
+    const what = KEYS[event.key];
     if (!what || event.ctrlKey || event.metaKey || event.altKey) return;
     event.preventDefault();
     this.act(what);
@@ -146,7 +191,8 @@ export class Timeline {
     const downs = Math.max(0, ...this.bins.map((it) => it.counts[2]));
     const scale = (HIGH - 8) / (ups + downs);
     const base = 4 + ups * scale;
-    const svg = drawn("svg", { viewBox: `0 0 ${this.wide} ${HIGH + AXIS}`, width: this.wide, height: HIGH + AXIS, "aria-hidden": "true" });
+    const [width, height] = [this.wide, HIGH + AXIS];
+    const svg = drawn("svg", { viewBox: `0 0 ${width} ${height}`, width, height, "aria-hidden": "true" });
     svg.append(...this.axis(), ...this.bins.flatMap((it) => this.bars(it, base, scale)), ...this.published());
     svg.append(drawn("line", { class: "zero", x1: 0, x2: this.wide, y1: base, y2: base }));
     this.brush = drawn("rect", { class: "brush", x: 0, y: 0, width: 0, height: HIGH });
@@ -167,7 +213,9 @@ export class Timeline {
     return bin.counts.flatMap((number, kind) => {
       if (!number) return [];
       const high = Math.max(1.5, number * scale);
-      if (KINDS[kind] === "deleted") return [drawn("rect", { class: "deleted", x: left, y: base, width: wide, height: high })];
+      if (KINDS[kind] === "deleted") {
+        return [drawn("rect", { class: "deleted", x: left, y: base, width: wide, height: high })];
+      }
       top -= high;
       return [drawn("rect", { class: KINDS[kind], x: left, y: top, width: wide, height: high })];
     });
@@ -178,7 +226,8 @@ export class Timeline {
     return marks(this.span, Math.max(2, Math.floor(this.wide / 90))).flatMap(({ at, text }) => {
       const x = this.x(at);
       if (x < 24 || x > this.wide - 24) return [];
-      return [drawn("line", { class: "tick", x1: x, x2: x, y1: 0, y2: HIGH }), drawn("text", { x, y: HIGH + 15 }, text)];
+      const tick = drawn("line", { class: "tick", x1: x, x2: x, y1: 0, y2: HIGH });
+      return [tick, drawn("text", { x, y: HIGH + 15 }, text)];
     });
   }
 
@@ -191,11 +240,35 @@ export class Timeline {
   describe() {
     const counts = this.counted.between(...this.span);
     const all = counts.reduce((sum, it) => sum + it, 0);
-    const text = this.counted.times.length ? `${spanText(...this.span)} UTC: ${told(all, "change")}, ${words(counts)}` : "No changes are kept.";
-    tell(part(this.root, "summary"), text);
-    this.field.setAttribute("aria-label", `Time line. ${text}`);
-    for (const button of this.root.querySelectorAll("[data-zoom=out], [data-zoom=whole], [data-zoom=earlier], [data-zoom=later]")) {
-      button.setAttribute("aria-disabled", this.isWhole());
+    const last = this.counted.times.at(-1);
+    const figures = `${told(all, "change")}, ${words(counts)}`;
+    const latest = all || last === undefined ? "" : `. The latest came ${age(new Date(last).toISOString())}`;
+    const text = last === undefined ? "No changes are kept" : `${figures}${latest}`;
+    tell(part(this.root, "range"), this.rangeText());
+    tell(part(this.root, "summary"), `${text}.`);
+    this.field.setAttribute("aria-label", `Time line, ${this.rangeText()}: ${text}.`);
+    this.showButtons();
+  }
+
+  /** The span in view in words. */
+  rangeText() {
+    const days = (this.span[1] - this.span[0]) / DAY;
+    if (isSame(this.span, this.recent)) return "The last 30 days";
+    const length = days >= 2 ? `, ${told(Math.round(days), "day")}` : "";
+    return `${this.isWhole() ? "All changes that are kept: " : ""}${spanText(...this.span)} UTC${length}`;
+  }
+
+  /** Buttons that would do nothing are off; the one whose span is in view is pressed. */
+  showButtons() {
+    const [from, until] = this.span;
+    const isOff = {
+      earlier: from <= this.whole[0], later: until >= this.whole[1], out: this.isWhole(), in: until - from <= SHORTEST,
+    };
+    const isPressed = { recent: isSame(this.span, this.recent), whole: this.isWhole() };
+    for (const button of this.root.querySelectorAll("[data-zoom]")) {
+      const { zoom } = button.dataset;
+      if (zoom in isOff) button.setAttribute("aria-disabled", isOff[zoom]);
+      else button.setAttribute("aria-pressed", isPressed[zoom]);
     }
   }
 
@@ -203,7 +276,8 @@ export class Timeline {
   list() {
     const table = part(this.root, "table");
     if (!table.open || !this.span) return;
-    const rows = binsOf(this.counted, this.span, ROWS).filter((it) => it.counts.some(Boolean)).map((it) => {
+    const bins = binsOf(this.counted, this.span, ROWS).filter((it) => it.counts.some(Boolean));
+    const rows = bins.map((it) => {
       const cells = it.counts.map((number) => made("td", "", count(number)));
       const head = made("th", "", spanText(it.from, it.until));
       head.scope = "row";

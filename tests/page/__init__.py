@@ -1,4 +1,5 @@
-"""The page for people who would rather look (install/site), in headless Chromium, through the site of nginx (tests/README.md)."""
+"""The page for people who would rather look (install/site), in headless Chromium and Firefox, through the
+site of nginx (tests/README.md)."""
 
 # No run of all looks takes longer than this many seconds.
-LIMIT = 420
+LIMIT = 1_500

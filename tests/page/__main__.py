@@ -1,8 +1,9 @@
-"""Looks at the page of install/site in headless Chromium, through the site of nginx, before the program and before sources that are made up.
+"""Looks at the page of install/site in headless Chromium, through the site of nginx, before the program and
+before sources that are made up.
 
-The looks are functions of looks_program.py, looks_states.py and looks_reader.py; the first line of each says what has to hold. At the end
-pages and settings that are wrong are made up (wrong.py), and each has to be noticed. All runs in a process of its own, which is ended
-after LIMIT seconds. Selenium is Debian's, so that process is Debian's Python where this one has it not.
+The looks are functions of looks_*.py; the first line of each says what has to hold. At the end pages and
+settings that are wrong are made up (wrong.py), and each has to be noticed. All runs in a process of its own,
+which is ended after LIMIT seconds. Selenium is Debian's, so that process is Debian's Python where this one has it not.
 
 usage: python3 -m tests.page [PROGRAM] [NAME..]     names of looks (all, where none is given)
        python3 -m tests.page --pictures             draws the pictures of docs/pictures anew
@@ -22,19 +23,22 @@ PYTHONS = [sys.executable, "/usr/bin/python3"]
 INSIDE = "--inside"
 
 
-def python_with_selenium():
-    """A Python that has Selenium, or nothing."""
+def python_with(modules: str) -> str:
+    """A Python that has these modules, or nothing."""
     for it in filter(os.path.exists, PYTHONS):
-        if not subprocess.run([it, "-c", "import tests, selenium.webdriver, urllib3"], cwd=ROOT, capture_output=True, timeout=SECONDS).returncode:
+        words = [it, "-c", f"import {modules}"]
+        if not subprocess.run(words, cwd=ROOT, capture_output=True, timeout=SECONDS).returncode:
             return it
     return ""
 
 
-def outside(given):
+def outside(given: list[str]) -> int:
     """Runs the looks in a process of its own, with a limit."""
     os.environ["PATH"] += ":/usr/sbin:/sbin"
-    python = python_with_selenium()
-    missing = [it for it in ("chromium", "chromedriver", "nginx") if not shutil.which(it)] + ["python3-selenium"] * (not python)
+    is_drawn = "--pictures" in given
+    python = python_with("tests, selenium.webdriver, urllib3" + ", PIL" * is_drawn)
+    missing = [it for it in ("chromium", "chromedriver", "firefox-esr", "nginx")
+               if not shutil.which(it)] + [f"python3-selenium{' or python3-pil' * is_drawn}"] * (not python)
     if missing:
         return skipped("page", f"there is no {', '.join(missing)} here")
     words = [python, "-m", "tests.page", INSIDE, *given]
@@ -51,10 +55,10 @@ def outside(given):
                 pass
 
 
-def inside(given):
+def inside(given: list[str]) -> int:
     """The looks, or the pictures."""
     from tests.page import pictures, running
-    program = os.path.abspath(given.pop(0) if given and os.path.isfile(given[0]) else PROGRAM)
+    program = os.path.abspath(given.pop(0) if given and os.path.isfile(given[0]) else str(PROGRAM))
     return pictures.draw(program) if given == ["--pictures"] else running.look(program, given)
 
 

@@ -1,8 +1,11 @@
-"""Headless Chromium under its driver: pages that are opened, what they show, and what went wrong in them. Every wait has a limit."""
+"""Headless Chromium under its driver: pages that are opened, what they show, and what went wrong in them.
+Every wait has a limit."""
 import base64
 import contextlib
+import json
 import shutil
 import time
+from typing import Any
 
 from selenium import webdriver
 from selenium.common.exceptions import WebDriverException
@@ -14,97 +17,173 @@ from tests.program import Differs
 # No command to the driver, and no wait for a page, takes longer than this.
 SECONDS = 45
 WIDE, NARROW = (1280, 900), (375, 812)
-# What each page notes from its beginning: what its policy refused, its faults, and whether anything of a source's ran.
+# What each page notes from its beginning: what its policy refused, its faults, and whether anything of a
+# source's ran.
 NOTES = """
-const look = (now) => (document.querySelector(".resources .row bdi")?.textContent ? (window.firstRow = now) : requestAnimationFrame(look));
+const look = (now) => {
+  if (document.querySelector(".resources .row bdi")?.textContent) window.firstRow = now;
+  else requestAnimationFrame(look);
+};
 requestAnimationFrame(look);
 window.refused = []; window.faults = []; window.ran = [];
-document.addEventListener("securitypolicyviolation", (it) => window.refused.push(`${it.effectiveDirective} ${it.blockedURI}`));
+document.addEventListener("securitypolicyviolation",
+  (it) => window.refused.push(`${it.effectiveDirective} ${it.blockedURI}`));
 addEventListener("error", (it) => window.faults.push(String(it.message)));
 addEventListener("unhandledrejection", (it) => window.faults.push(String(it.reason)));
 """
-OPTIONS = ["--headless=new", "--no-sandbox", "--disable-gpu", "--disable-dev-shm-usage", "--no-first-run", "--disable-extensions",
-           "--hide-scrollbars", "--disable-background-networking", "--disable-component-update", "--no-proxy-server", "--force-device-scale-factor=1",
+OPTIONS = ["--headless=new", "--no-sandbox", "--disable-gpu", "--disable-dev-shm-usage", "--no-first-run",
+           "--disable-extensions",
+           "--hide-scrollbars", "--disable-background-networking", "--disable-component-update",
+           "--no-proxy-server", "--force-device-scale-factor=1",
            "--ignore-certificate-errors", "--host-resolver-rules=MAP rebound.example 127.0.0.1"]
 
 
-class Browser:
-    """One browser, which looks at one page after another."""
+class Asking:
+    """What is asked of a page in whatever browser, by scripts that run in it."""
 
-    def __init__(self, room, *more):
-        options = webdriver.ChromeOptions()
-        options.binary_location = shutil.which("chromium")
-        for it in [*OPTIONS, f"--user-data-dir={room}/chromium", *more]:
-            options.add_argument(it)
-        options.set_capability("goog:loggingPrefs", {"browser": "ALL"})
-        RemoteConnection.set_timeout(SECONDS)
-        self.driver = webdriver.Chrome(service=Service(shutil.which("chromedriver")), options=options)
-        self.patience = SECONDS
-        self.driver.set_page_load_timeout(SECONDS)
-        self.driver.set_script_timeout(SECONDS)
-        self.tell("Page.addScriptToEvaluateOnNewDocument", source=NOTES)
-        self.tell("Performance.enable", timeDomain="threadTicks")
+    patience = SECONDS
 
-    def tell(self, command, **words):
-        """A command of the browser's own protocol."""
-        return self.driver.execute_cdp_cmd(command, words)
-
-    def size(self, width, height, scheme="light", media=""):
-        """A window of this many CSS pixels, in light or dark, on a screen or on paper."""
-        self.tell("Emulation.setDeviceMetricsOverride", width=width, height=height, deviceScaleFactor=1, mobile=False)
-        self.tell("Emulation.setEmulatedMedia", media=media, features=[{"name": "prefers-color-scheme", "value": scheme}])
-
-    def open(self, address, size=WIDE, scheme="light"):
-        self.size(*size, scheme)
-        self.driver.get(address)
-
-    def run(self, script, *given):
+    def run(self, script: str, *arguments: Any) -> Any:
         """What a function's body gives in the page."""
-        return self.driver.execute_script(script, *given)
+        raise NotImplementedError
 
-    def run_slowly(self, script, *given):
-        """What a function's body gives to its last argument, later."""
-        return self.driver.execute_async_script(script, *given)
+    def open(self, address: str, size: tuple[int, int] = WIDE, scheme: str = "light") -> None:
+        """Opens a page in a window of so many CSS pixels, in light or dark."""
+        raise NotImplementedError
 
-    def busy(self):
-        """How many milliseconds of a processor the page's main thread has taken since it was opened."""
-        return 1_000 * next(it["value"] for it in self.tell("Performance.getMetrics")["metrics"] if it["name"] == "TaskDuration")
+    def press(self, key: str, text: str = "", code: int = 0, shift: bool = False) -> None:
+        """Presses a key, as a keyboard does."""
+        raise NotImplementedError
 
-    def text(self, part):
+    def still(self, is_still: bool) -> None:
+        """Whether the reader wants little motion."""
+        raise NotImplementedError
+
+    def labels(self, selector: str) -> list[tuple[str, str, str]]:
+        """Of each element of a selector that is seen its tag, and the role and the name that the browser
+        gives it."""
+        raise NotImplementedError
+
+    def close(self) -> None:
+        """Ends the browser."""
+        raise NotImplementedError
+
+    def text(self, part: str) -> str:
         """The text of a part of the panel."""
-        return self.run("return document.querySelector(`[data-part='${arguments[0]}']`)?.textContent ?? ''", part).strip()
+        script = "return document.querySelector(`[data-part='${arguments[0]}']`)?.textContent ?? ''"
+        return str(self.run(script, part)).strip()
 
-    def until(self, script, what, *given):
+    def until(self, script: str, what: str, *arguments: Any) -> Any:
         """Waits until a function's body gives something true in the page."""
         end = time.monotonic() + self.patience
-        while not (found := self.run(script, *given)):
+        while not (found := self.run(script, *arguments)):
             if time.monotonic() > end:
                 shown = self.run("return document.body.innerText")[:400]
                 raise Differs(f"{what}: not within {self.patience} seconds; the page says {shown!r}, {self.faults()}")
             time.sleep(0.02)
         return found
 
-    def state(self, word):
-        """Waits until the state of the source has this word."""
-        self.until("return document.querySelector(`[data-part='state-word']`)?.textContent === arguments[0]", f"the state {word}", word)
+    def equals(self, wanted: Any, script: str, *arguments: Any) -> None:
+        """Waits until a function's body gives a value, which it may not give at once."""
+        value = json.dumps(wanted, ensure_ascii=False, separators=(",", ":"))
+        same_value = f"return JSON.stringify((() => {{ {script} }})()) === arguments[arguments.length - 1]"
+        self.until(same_value, f"the value {wanted!r} of {script}", *arguments, value)
 
-    def click(self, part):
+    def state(self, word: str) -> None:
+        """Waits until the state of the source has this word."""
+        has_word = "return document.querySelector(`[data-part='state-word']`)?.textContent === arguments[0]"
+        self.until(has_word, f"the state {word}", word)
+
+    def click(self, part: str) -> None:
+        """Clicks a part of the panel."""
         self.run("document.querySelector(`[data-part='${arguments[0]}']`).click()", part)
 
-    def press(self, key, text="", code=0, shift=False):
+    def faults(self) -> dict[str, list[str]]:
+        """What went wrong in the page: faults of its code, and what its policy refused."""
+        script = "return {faults: window.faults ?? [], refused: window.refused ?? [], ran: window.ran ?? []}"
+        found: dict[str, list[str]] = self.run(script)
+        return found
+
+
+class Browser(Asking):
+    """One Chromium, which looks at one page after another."""
+
+    def __init__(self, room: str, *more: str) -> None:
+        options = webdriver.ChromeOptions()
+        options.binary_location = shutil.which("chromium") or ""
+        for it in [*OPTIONS, f"--user-data-dir={room}/chromium", *more]:
+            options.add_argument(it)
+        options.set_capability("goog:loggingPrefs", {"browser": "ALL"})
+        RemoteConnection.set_timeout(SECONDS)
+        self.driver = webdriver.Chrome(service=Service(shutil.which("chromedriver") or ""), options=options)
+        self.patience = SECONDS
+        self.driver.set_page_load_timeout(SECONDS)
+        self.driver.set_script_timeout(SECONDS)
+        self.tell("Page.addScriptToEvaluateOnNewDocument", source=NOTES)
+        self.tell("Performance.enable", timeDomain="threadTicks")
+
+    def tell(self, command: str, **words: Any) -> Any:
+        """A command of the browser's own protocol."""
+        return self.driver.execute_cdp_cmd(command, words)
+
+    def size(self, width: int, height: int, scheme: str = "light", media: str = "") -> None:
+        """A window of this many CSS pixels, in light or dark, on a screen or on paper."""
+        self.tell("Emulation.setDeviceMetricsOverride", width=width, height=height, deviceScaleFactor=1,
+                  mobile=False)
+        self.tell("Emulation.setEmulatedMedia", media=media,
+                  features=[{"name": "prefers-color-scheme", "value": scheme}])
+
+    def open(self, address: str, size: tuple[int, int] = WIDE, scheme: str = "light") -> None:
+        """Opens a page."""
+        self.size(*size, scheme)
+        self.driver.get(address)
+
+    def run(self, script: str, *arguments: Any) -> Any:
+        """What a function's body gives in the page."""
+        return self.driver.execute_script(script, *arguments)
+
+    def run_slowly(self, script: str, *arguments: Any) -> Any:
+        """What a function's body gives to its last argument, later."""
+        return self.driver.execute_async_script(script, *arguments)
+
+    def busy(self) -> float:
+        """How many milliseconds of a processor the page's main thread has taken since it was opened."""
+        return 1_000 * self.metric("TaskDuration")
+
+    def heap(self) -> float:
+        """How many bytes the page's scripts hold, once what nobody holds is gone."""
+        self.tell("HeapProfiler.collectGarbage")
+        return self.metric("JSHeapUsedSize")
+
+    def metric(self, name: str) -> float:
+        """What the browser has measured of the page by this name."""
+        return float(next(it["value"] for it in self.tell("Performance.getMetrics")["metrics"] if it["name"]
+                          == name))
+
+    def press(self, key: str, text: str = "", code: int = 0, shift: bool = False) -> None:
         """Presses a key, as a keyboard does."""
         words = {"key": key, "code": key, "windowsVirtualKeyCode": code, "modifiers": 8 if shift else 0}
         self.tell("Input.dispatchKeyEvent", type="keyDown", **words, **({"text": text} if text else {}))
         self.tell("Input.dispatchKeyEvent", type="keyUp", **words)
 
-    def faults(self):
-        """What went wrong in the page: faults of its code, and what its policy refused."""
-        return self.run("return {faults: window.faults ?? [], refused: window.refused ?? [], ran: window.ran ?? []}")
+    def still(self, is_still: bool) -> None:
+        """Whether the reader wants little motion."""
+        value = "reduce" if is_still else "no-preference"
+        self.tell("Emulation.setEmulatedMedia", media="",
+                  features=[{"name": "prefers-reduced-motion", "value": value}])
 
-    def picture(self):
+    def labels(self, selector: str) -> list[tuple[str, str, str]]:
+        """Of each element of a selector that is seen its tag, and the role and the name that the browser
+        gives it."""
+        every = self.driver.find_elements("css selector", selector)
+        found = [it for it in every if self.run("return arguments[0].checkVisibility()", it)]
+        return [(it.tag_name, it.aria_role, it.accessible_name) for it in found]
+
+    def picture(self) -> bytes:
         """What is in view as a PNG."""
         return base64.b64decode(self.tell("Page.captureScreenshot", format="png")["data"])
 
-    def close(self):
+    def close(self) -> None:
+        """Ends the browser."""
         with contextlib.suppress(WebDriverException, OSError):
             self.driver.quit()

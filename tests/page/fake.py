@@ -1,18 +1,23 @@
-"""Sources that are a few values of Python, also ones that lie: their documents as docs/DOCUMENTS.md has them, spelled apart from the program."""
+"""Sources that are a few values of Python, also ones that lie: their documents as docs/DOCUMENTS.md has
+them, spelled apart from the program."""
 import dataclasses
 import hashlib
 import random
+from collections.abc import Callable
 from xml.sax.saxutils import escape, quoteattr
 
 from tests.reading.crash_model import HEAD, SPACES, moment_text
 
+Answer = tuple[int, str, bytes]
 FORMATTED = 0
 # The moment of the first change of those sources that are made up: 2026-03-01T00:00:00.000Z.
 BEGUN = 1_772_323_200_000
 HOUR = 3_600_000
 LARGE = 50_000
-WORDS = "annals archive atlas bulletin diary folio journal ledger letters map minutes notes papers proceedings record register report review".split()
-KINDS = [("pdf", "application/pdf"), ("xml", "application/xml"), ("html", "text/html; charset=utf-8"), ("png", "image/png"), ("csv", "text/csv")]
+WORDS = ("annals archive atlas bulletin diary folio journal ledger letters map minutes notes papers "
+         "proceedings record register report review").split()
+KINDS = [("pdf", "application/pdf"), ("xml", "application/xml"), ("html", "text/html; charset=utf-8"),
+         ("png", "image/png"), ("csv", "text/csv")]
 
 
 @dataclasses.dataclass(frozen=True)
@@ -26,7 +31,8 @@ class Entry:
     length: int = 0
     hash: str = ""
 
-    def text(self, base):
+    def text(self, base: str) -> str:
+        """The entry in a list of a source at a base."""
         gone = self.change == "deleted"
         said = f" change={quoteattr(self.change)} datetime={quoteattr(moment_text(self.moment))}" if self.change else ""
         facts = "" if gone else f' hash="{self.hash}" length="{self.length}" type={quoteattr(self.kind)}'
@@ -34,11 +40,13 @@ class Entry:
         return f"<url><loc>{escape(f'{base}/resource/{self.name}')}</loc>{lastmod}<rs:md{said}{facts}/></url>\n"
 
 
-def entry_of(name, body, moment, change="", kind="text/plain"):
+def entry_of(name: str, body: bytes, moment: int, change: str = "", kind: str = "text/plain") -> Entry:
+    """An entry with the facts of a body."""
     return Entry(name, moment, change, kind, len(body), hash_of(body))
 
 
-def hash_of(body):
+def hash_of(body: bytes) -> str:
+    """The digests of a body as a list has them."""
     return f"md5:{hashlib.md5(body).hexdigest()} sha-256:{hashlib.sha256(body).hexdigest()}"
 
 
@@ -47,28 +55,33 @@ class Fake:
     """A source at a base: its lists, and the bodies that it serves, which may be other ones."""
 
     base: str
-    listed: list = dataclasses.field(default_factory=list)
-    changes: list = dataclasses.field(default_factory=list)
+    listed: list[Entry] = dataclasses.field(default_factory=list)
+    changes: list[Entry] = dataclasses.field(default_factory=list)
     at: int = FORMATTED
     publication: int = 1
     limit: int = 4_000
-    bodies: dict = dataclasses.field(default_factory=dict)
-    refusal: tuple = ()
+    bodies: dict[str, tuple[str, bytes | None]] = dataclasses.field(default_factory=dict)
+    refusal: Answer | None = None
 
-    def documents(self):
+    def documents(self) -> dict[str, bytes]:
         """Each document by its path."""
-        lists = "".join(f'<url><loc>{self.base}/{it}.xml</loc><rs:md capability="{it}"/></url>\n' for it in ("resourcelist", "changelist"))
+        lists = "".join(f'<url><loc>{self.base}/{it}.xml</loc><rs:md capability="{it}"/></url>\n'
+                        for it in ("resourcelist", "changelist"))
         named = self.text("urlset", 'capability="capabilitylist"', lists)
         found = {"/.well-known/resourcesync": description(self.base), "/capabilitylist.xml": named}
         at = f'at="{moment_text(self.at)}"'
-        self.list(found, "resourcelist", f"/resourcelist/{self.publication}/", at, [(it, at) for it in chunks(self.listed, self.limit)])
+        self.add(found, "resourcelist", f"/resourcelist/{self.publication}/", at,
+                 [(it, at) for it in chunks(self.listed, self.limit)])
         ends = [FORMATTED] + [it[-1].moment for it in chunks(self.changes, self.limit)]
-        bounds = [f'from="{moment_text(start)}"' + (f' until="{moment_text(it[-1].moment)}"' if len(it) == self.limit else "")
+        bounds = [f'from="{moment_text(start)}"'
+                  + (f' until="{moment_text(it[-1].moment)}"' if len(it) == self.limit else "")
                   for start, it in zip(ends, chunks(self.changes, self.limit))]
-        self.list(found, "changelist", "/changelist/", f'from="{moment_text(FORMATTED)}"', list(zip(chunks(self.changes, self.limit), bounds)))
+        self.add(found, "changelist", "/changelist/", f'from="{moment_text(FORMATTED)}"',
+                 list(zip(chunks(self.changes, self.limit), bounds)))
         return {path: text.encode() for path, text in found.items()}
 
-    def list(self, found, name, place, said, parts):
+    def add(self, found: dict[str, str], name: str, place: str, said: str,
+            parts: list[tuple[list[Entry], str]]) -> None:
         """A list of one document, or an index with its parts."""
         texts = [(self.entries(items), bounds) for items, bounds in parts]
         head = f'capability="{name}" {said}'
@@ -76,21 +89,24 @@ class Fake:
             found[f"/{name}.xml"] = self.text("urlset", head, texts[0][0] if texts else "")
             return
         found[f"/{name}.xml"] = self.text("sitemapindex", head, "".join(
-            f"<sitemap><loc>{self.base}{place}{number}.xml</loc><rs:md {bounds}/></sitemap>\n" for number, (_, bounds) in enumerate(texts)))
+            f"<sitemap><loc>{self.base}{place}{number}.xml</loc><rs:md {bounds}/></sitemap>\n" for number,
+            (_, bounds) in enumerate(texts)))
         for number, (text, bounds) in enumerate(texts):
             found[f"{place}{number}.xml"] = self.text("urlset", f'capability="{name}" {bounds}', text)
 
-    def entries(self, items):
+    def entries(self, items: list[Entry]) -> str:
+        """The entries of a list."""
         return "".join(it.text(self.base) for it in items)
 
-    def text(self, root, said, children):
+    def text(self, root: str, said: str, children: str) -> str:
+        """A document."""
         return f"{HEAD}<{root} {SPACES}>\n<rs:md {said}/>\n{children}</{root}>\n"
 
-    def answer(self):
+    def answer(self) -> Callable[[str], Answer]:
         """What answers for a path."""
         documents = self.documents()
 
-        def answer(path):
+        def answer(path: str) -> Answer:
             if self.refusal:
                 return self.refusal
             if path in documents:
@@ -101,19 +117,21 @@ class Fake:
         return answer
 
 
-def description(*bases):
+def description(*bases: str) -> str:
     """A Source Description that names the Capability Lists of these bases."""
-    named = "".join(f'<url><loc>{it}/capabilitylist.xml</loc><rs:md capability="capabilitylist"/></url>\n' for it in bases)
+    named = "".join(f'<url><loc>{it}/capabilitylist.xml</loc><rs:md capability="capabilitylist"/></url>\n'
+                    for it in bases)
     return f'{HEAD}<urlset {SPACES}>\n<rs:md capability="description"/>\n{named}</urlset>\n'
 
 
-def chunks(items, limit):
+def chunks(items: list[Entry], limit: int) -> list[list[Entry]]:
+    """The parts of a list."""
     return [items[at : at + limit] for at in range(0, len(items), limit)]
 
 
-def published(fake, moment):
+def published(fake: Fake, moment: int) -> Fake:
     """Publishes what the changes make: the Resource List in the order of the names' bytes."""
-    held = {}
+    held: dict[str, Entry] = {}
     for it in fake.changes:
         held.pop(it.name, None)
         if it.change != "deleted":
@@ -122,19 +140,23 @@ def published(fake, moment):
     return fake
 
 
-def archive(base, number, seed=1, begun=BEGUN):
-    """A source as an archive may be: some hundred resources, put in the busy hours of weeks, some anew, some deleted."""
-    chance, fake, moment, held = random.Random(seed), Fake(base, publication=7, limit=1_000), begun, {}
+def archive(base: str, number: int, seed: int = 1, begun: int = BEGUN) -> Fake:
+    """A source as an archive may be: some hundred resources, put in the busy hours of weeks, some anew,
+    some deleted."""
+    chance, fake, moment = random.Random(seed), Fake(base, publication=7, limit=1_000), begun
+    held: dict[str, str] = {}
     while len(held) < number:
         moment += int(chance.expovariate(1 / (HOUR * (0.15 if chance.random() < 0.9 else 60)))) + 1
         ending, kind = chance.choice(KINDS)
-        name = f"{chance.choice(WORDS)}/{chance.randrange(1880, 2026)}/{chance.choice(WORDS)}-{chance.randrange(1, 100):02}.{ending}"
+        folder, year, word = chance.choice(WORDS), chance.randrange(1880, 2026), chance.choice(WORDS)
+        name = f"{folder}/{year}/{word}-{chance.randrange(1, 100):02}.{ending}"
         if held and chance.random() < 0.2:
             name = chance.choice(list(held))
         is_gone = name in held and chance.random() < 0.25
         change = "deleted" if is_gone else "updated" if name in held else "created"
         body = chance.randbytes(int(chance.lognormvariate(7.5, 1.2)))
-        fake.changes.append(Entry(name, moment, "deleted") if is_gone else entry_of(name, body, moment, change, held.get(name, kind)))
+        fake.changes.append(Entry(name, moment, "deleted") if is_gone
+                            else entry_of(name, body, moment, change, held.get(name, kind)))
         held.pop(name, None) if is_gone else held.setdefault(name, kind)
         fake.bodies[name] = (held.get(name, kind), None if is_gone else body)
         if len(fake.changes) % (number // 3) == 0:
@@ -143,11 +165,17 @@ def archive(base, number, seed=1, begun=BEGUN):
     return fake
 
 
-def large(base):
-    """A source of the most resources and the most changes: each name is there once, a tenth of them put after the publication."""
+def large(base: str) -> Fake:
+    """A source of the most resources and the most changes: each name is there once, a tenth of them put
+    after the publication."""
     digest = hash_of(b"")
-    name = lambda it: f"{WORDS[it % len(WORDS)]}/{it * 7919 % LARGE:05}/{WORDS[it // 7 % len(WORDS)]}.{KINDS[it % 5][0]}"
-    changes = [Entry(name(it), BEGUN + it * 47_000, "created", KINDS[it % 5][1], it * 31 % 900_000, digest) for it in range(LARGE)]
-    fake = published(Fake(base, changes=changes[: LARGE * 9 // 10], publication=3), BEGUN + LARGE * 9 // 10 * 47_000 - 1)
+
+    def name(it: int) -> str:
+        return f"{WORDS[it % len(WORDS)]}/{it * 7919 % LARGE:05}/{WORDS[it // 7 % len(WORDS)]}.{KINDS[it % 5][0]}"
+
+    changes = [Entry(name(it), BEGUN + it * 47_000, "created", KINDS[it % 5][1], it * 31 % 900_000, digest)
+               for it in range(LARGE)]
+    fake = published(Fake(base, changes=changes[: LARGE * 9 // 10], publication=3), BEGUN
+                     + LARGE * 9 // 10 * 47_000 - 1)
     fake.changes = changes
     return fake

@@ -1,17 +1,20 @@
-"""Looks at what hostile pages in a browser can do to a source through its site, and at what the page itself may fetch and run."""
+"""Looks at what hostile pages in a browser can do to a source through its site, and at what the page
+itself may fetch and run."""
 import contextlib
 import itertools
 import shutil
 
 from tests.collection.host import Host, asked as asked_source
 from tests.page import fake as fakes
-from tests.page.looked import same
+from tests.page.browser import Asking
+from tests.page.looked import Looked, same
 from tests.page.looks_program import asked, put
 from tests.page.site import PAGE
 from tests.tools.lists_server import serving
 
 # What each hostile page does: it tells in its title how its requests ended.
 ASKS = """<title>begun</title><script>
+document.title = "running";
 const tries = [%s];
 Promise.all(tries.map(([path, more]) => fetch(path, more).then((it) => it.status || "sent", () => "failed")))
   .then((them) => { document.title = `ended ${them.join(" ")}`; });
@@ -27,19 +30,16 @@ LONGEST, FETCHED, MANY = 16_777_216, 4, 7
 ENDED = "return document.querySelector(`[data-part='checked']`).textContent.includes(' in ')"
 
 
-def ended(browser):
-    """How the requests of a hostile page ended: nothing where it did not run."""
-    with contextlib.suppress(Exception):
-        browser.patience, before = 3, browser.patience
-        try:
-            browser.until("return document.title.startsWith('ended')", "the end of the requests")
-        finally:
-            browser.patience = before
-    return browser.run("return document.title")
+def ended(browser: Asking) -> str:
+    """How the requests of a hostile page ended: `begun` where it did not run."""
+    whole = "return document.readyState === 'complete' && document.title !== 'running'"
+    browser.until(whole, "the end of the requests")
+    return str(browser.run("return document.title"))
 
 
-def deposited_pages_change_nothing(look):
-    """A depositor's page at one source of a collection, opened from a near address, deletes nothing of any source."""
+def deposited_pages_change_nothing(look: Looked) -> None:
+    """A depositor's page at one source of a collection, opened from a near address, deletes nothing of any
+    source."""
     room = look.room / f"doors-{next(look.numbers)}"
     room.mkdir()
     with contextlib.chdir(room), Host(look.program, room, ["s1", "s2"]) as host:
@@ -47,31 +47,33 @@ def deposited_pages_change_nothing(look):
         for name, it in host.sources.items():
             asked_source(it.url, "/resource/treasure", "PUT", name.encode())
         put(host.sources["s1"].port, "paper.html", page.encode(), "text/html")
-        look.browser.driver.get(f"{host.address}/s1/resource/paper.html")
-        ended(look.browser)
+        look.chromium.driver.get(f"{host.address}/s1/resource/paper.html")
+        title = ended(look.chromium)
         for name, it in host.sources.items():
-            same(f"the treasure of {name}", (200, name.encode()), asked(it.port, "GET", "/resource/treasure")[::2])
+            same("the page has not run", "begun", title)
+            same(f"the treasure of {name}", (200, name.encode()),
+                 asked(it.port, "GET", "/resource/treasure")[::2])
 
 
-def pages_of_other_hosts_change_nothing(look):
+def pages_of_other_hosts_change_nothing(look: Looked) -> None:
     """A page of another host, or of another port of this one, opened from a near address, changes nothing."""
     with look.source(lambda port: put(port, "treasure", b"here")) as (base, _, _):
         text = ASKS % f"{SIMPLE % {'base': base}}, {DELETE % base}"
         with serving(lambda path: (200, "text/html", text.encode())) as server:
             for address in (server.url, server.url.replace("127.0.0.1", "localhost")):
-                look.browser.driver.get(f"{address}/evil.html")
-                same("the page has run", "ended", ended(look.browser)[:5])
+                look.chromium.driver.get(f"{address}/evil.html")
+                same("the page has run", "ended", ended(look.chromium)[:5])
                 port = int(base.rpartition(":")[2])
                 same("the treasure", (200, b"here"), asked(port, "GET", "/resource/treasure")[::2])
                 same("what was put", 404, asked(port, "GET", "/resource/csrf")[0])
 
 
-def names_that_are_led_here_get_nothing(look):
+def names_that_are_led_here_get_nothing(look: Looked) -> None:
     """A name of another host that leads to the site (DNS rebinding) reads nothing, and changes nothing."""
     with look.source(lambda port: put(port, "treasure", b"here")) as (base, _, _):
         port = int(base.rpartition(":")[2])
-        look.browser.driver.get(f"http://{STRANGE_NAME}:{port}/")
-        found = look.browser.run_slowly("""
+        look.chromium.driver.get(f"http://{STRANGE_NAME}:{port}/")
+        found = look.chromium.run_slowly("""
             const [done] = arguments;
             const status = (more) => fetch("/resource/treasure", more).then((it) => it.status, () => "failed");
             Promise.all([status({}), status({method: "DELETE"}), status({method: "PUT", body: "x"})]).then(done);""")
@@ -79,29 +81,31 @@ def names_that_are_led_here_get_nothing(look):
         same("the treasure", (200, b"here"), asked(port, "GET", "/resource/treasure")[::2])
 
 
-def depositors_scripts_are_none_of_the_page(look):
-    """The page runs files of its own folder alone: no script that is a resource, though it lies on the same host."""
-    def fill(port):
+def depositors_scripts_are_none_of_the_page(look: Looked) -> None:
+    """The page runs files of its own folder alone: no script that is a resource, though it lies on the
+    same host."""
+    def fill(port: int) -> None:
         put(port, "evil.js", b"window.ran.push('a resource')", "text/javascript")
         put(port, "evil.css", b"body { display: none }", "text/css")
 
     with look.source(fill) as (base, _, _):
-        look.browser.open(f"{base}/")
-        look.browser.state("Open")
+        look.chromium.open(f"{base}/")
+        look.chromium.state("Open")
         look.is_well()
         for element, where, ending in (("script", "src", "js"), ("link", "href", "css")):
-            look.browser.run_slowly("""
+            look.chromium.run_slowly("""
                 const [element, where, address, done] = arguments, it = document.createElement(element);
                 it.onload = it.onerror = () => done();
                 it.rel = "stylesheet";
                 it[where] = address;
                 document.head.append(it);""", element, where, f"{base}/resource/evil.{ending}")
-        found = look.browser.faults()
+        found = look.chromium.faults()
         refused = sorted(it.partition(" ")[0] for it in found["refused"])
-        same("what is refused, and what ran", (["script-src-elem", "style-src-elem"], []), (refused, found["ran"]))
+        same("what is refused, and what ran", (["script-src-elem", "style-src-elem"], []),
+             (refused, found["ran"]))
 
 
-def large(base):
+def large(base: str) -> fakes.Fake:
     """A source of the longest bodies."""
     fake, body = fakes.Fake(base), bytes(LONGEST)
     for number in range(MANY):
@@ -110,49 +114,67 @@ def large(base):
     return fakes.published(fake, fakes.BEGUN + 100)
 
 
-def a_check_fetches_so_many_bytes_alone(look):
+def a_check_fetches_so_many_bytes_alone(look: Looked) -> None:
     """A check of a hundred fetches 64 MiB at most, and offers the others with their bytes."""
     with look.fake(large) as shown:
-        look.browser.open(f"{shown.base}/")
-        look.browser.state("Open")
-        look.browser.click("check-some")
-        look.browser.until(ENDED, "the end of the checks")
+        look.chromium.open(f"{shown.base}/")
+        look.chromium.state("Open")
+        look.chromium.click("check-some")
+        look.chromium.until(ENDED, "the end of the checks")
         same("what is fetched", FETCHED, sum("/resource/" in it for it in shown.server.asked))
-        same("what is offered", f"Check the other {MANY - FETCHED} (50.3 MB)", look.browser.text("check-rest"))
-        same("what is told", f"{FETCHED} agree; 67.1 MB", look.browser.text("checked").partition(" in ")[0])
-        is_hidden = look.browser.run("""
+        same("what is offered", f"Check the other {MANY - FETCHED} (50.3 MB)",
+             look.chromium.text("check-rest"))
+        same("what is told", f"{FETCHED} agree; 67.1 MB", look.chromium.text("checked").partition(" in ")[0])
+        is_hidden = look.chromium.run("""
             const button = document.querySelector("[data-part='check-rest']");
             button.click();
             return button.hidden;""")
         same("the offer is gone once it is taken", True, is_hidden)
-        others = f"return document.querySelector(`[data-part='checked']`).textContent.startsWith('{MANY - FETCHED} agree;')"
-        look.browser.until(others, "the end of the others")
+        others = f"return /^{MANY - FETCHED} agree;/.test(document.querySelector(`[data-part='checked']`).textContent)"
+        look.chromium.until(others, "the end of the others")
         found = sorted(it for it in shown.server.asked if "/resource/" in it)
         same("each once", [f"/resource/{it}" for it in range(MANY)], found)
-        is_hidden = look.browser.run("return document.querySelector(`[data-part='check-rest']`).hidden")
+        is_hidden = look.chromium.run("return document.querySelector(`[data-part='check-rest']`).hidden")
         same("no more is offered", True, is_hidden)
         look.is_well()
 
 
-def a_collection_below_one_host_is_shown(look):
-    """The page of a collection's site shows sources whose bases are paths of its own host, many of them or one."""
+def opens_a_tab(browser: Asking, address: str) -> None:
+    """The address of a source of a collection, and of a search there, opens its tab."""
+    browser.open("about:blank")
+    browser.open(f"{address}/#source=s2&search=1.txt")
+    found = "return [...document.querySelectorAll('#panel-2 .resources .row')].map((it) => it.firstChild.textContent)"
+    browser.equals(["1.txt"], found)
+    same("its tab", "s2", browser.run("return document.querySelector('.tab[aria-selected=true]').textContent"))
+
+
+def a_collection_below_one_host_is_shown(look: Looked) -> None:
+    """The page of a collection's site shows sources whose bases are paths of its own host, many of them or
+    one."""
     for names in (["s1", "s2"], ["s1"]):
         room = look.room / f"doors-{next(look.numbers)}"
         shutil.copytree(PAGE, room / "page")
         look.edit(room / "page")
         with contextlib.chdir(room), Host(look.program, room, names, page=room / "page") as host:
-            for number, it in enumerate(itertools.chain.from_iterable(host.sources.values() for _ in range(3))):
+            for number, it in enumerate(itertools.chain.from_iterable(host.sources.values()
+                                                                      for _ in range(3))):
                 put(it.port, f"{number}.txt", b"a body")
-            look.browser.open(f"{host.address}/")
+            look.chromium.open(f"{host.address}/")
             if len(names) == 1:
-                look.browser.state("Open")
-                same("the resources", "3", look.browser.text("resources"))
+                look.chromium.state("Open")
+                same("the resources", "3", look.chromium.text("resources"))
             else:
+                look.chromium.until("return document.querySelector('.sums')", "the sums")
+                look.chromium.click("read-all")
                 both = "return document.querySelectorAll('.sums .tone[data-tone=good]').length === 2"
-                look.browser.until(both, "both are open")
-                same("the sums", ("6", "36 bytes"), (look.browser.text("resources"), look.browser.text("size")))
+                look.chromium.until(both, "both are open")
+                figures = look.chromium.text("resources"), look.chromium.text("size")
+                same("the sums", ("6", "36 bytes"), figures)
+                opens_a_tab(look.chromium, host.address)
             look.is_well()
 
 
-LOOKS = [deposited_pages_change_nothing, pages_of_other_hosts_change_nothing, names_that_are_led_here_get_nothing,
-         depositors_scripts_are_none_of_the_page, a_check_fetches_so_many_bytes_alone, a_collection_below_one_host_is_shown]
+LOOKS = [deposited_pages_change_nothing, pages_of_other_hosts_change_nothing,
+         names_that_are_led_here_get_nothing,
+         depositors_scripts_are_none_of_the_page, a_check_fetches_so_many_bytes_alone,
+         a_collection_below_one_host_is_shown]

@@ -1,25 +1,33 @@
-"""Runs the looks one after another in one browser, and then the wrong pages."""
+"""Runs the looks one after another, those that measure in each browser, and then the wrong pages."""
 import http.client
 import subprocess
 import time
+from collections.abc import Callable
 
 import urllib3
 from selenium.common.exceptions import WebDriverException
 
-from tests.page import LIMIT, looks_doors, looks_program, looks_reader, looks_states, wrong
-from tests.page.browser import Browser
+from tests.page import looks_doors, looks_measured, looks_model, looks_names, looks_program, looks_range, looks_reader
+from tests.page import looks_states, wrong
+from tests.page.browser import Asking, Browser
+from tests.page.firefox import Firefox
 from tests.page.looked import Looked
 from tests.program import Differs, room_in_memory
 from tests.skipped import skipped
 
-LOOKS = looks_program.LOOKS + looks_doors.LOOKS + looks_states.LOOKS + looks_reader.LOOKS
-FAULTS = (Differs, OSError, ValueError, LookupError, subprocess.SubprocessError, http.client.HTTPException, urllib3.exceptions.HTTPError,
+Look = Callable[[Looked], None]
+# Those that are looked at in Chromium, and those that are measured in each browser.
+CHROMIUM: list[Look] = [
+    *looks_program.LOOKS, *looks_doors.LOOKS, *looks_states.LOOKS, *looks_model.LOOKS, *looks_names.LOOKS, *looks_range.LOOKS,
+    *looks_reader.LOOKS,
+]
+LOOKS = [*CHROMIUM, *looks_measured.LOOKS]
+FAULTS = (Differs, OSError, ValueError, LookupError, subprocess.SubprocessError, http.client.HTTPException,
+          urllib3.exceptions.HTTPError,
           WebDriverException)
-# Where no look is named, and this many seconds have gone, no wrong page is begun but for the first few: a slow machine tries fewer.
-LAST, LEAST = 60, 5
 
 
-def fault_of(check, look):
+def fault_of(check: Look, look: Looked) -> str:
     """Why a look does not hold, or nothing."""
     try:
         check(look)
@@ -28,42 +36,51 @@ def fault_of(check, look):
     return ""
 
 
-def look(program, names):
+def look(program: str, names: list[str]) -> int:
     """Looks at all, or at those of some names; gives the exit status."""
-    begun, chosen = time.monotonic(), [it for it in LOOKS if not names or it.__name__ in names]
+    chosen = [it for it in LOOKS if not names or it.__name__ in names]
     with room_in_memory("page-") as room:
+        browsers: list[Asking] = []
         try:
-            browser = Browser(room)
-        except WebDriverException as fault:
-            return skipped("page", f"Chromium does not begin here: {str(fault)[:300]}")
-        try:
-            looked = Looked(program, room, browser)
-            held = [check for check in chosen if holds(check, looked)]
-            made = [it for it in wrong.WRONG if it[0] in held]
-            blind, tried = wrong_ones(looked, made, begun + (LIMIT if names else LAST))
+            browsers.append(Browser(room))
+            browsers.append(Firefox(room))
+            return looked_at(Looked(program, room, browsers[0]), chosen, browsers)
+        except (WebDriverException, OSError) as fault:
+            return skipped("page",
+                           f"a browser does not begin here: {type(fault).__name__} {str(fault)[:300]}")
         finally:
-            browser.close()
-    late = f" ({len(made) - tried} are left out, as {LAST} seconds have gone)" if tried < len(made) else ""
-    print(f"page: {len(held)} of {len(chosen)} looks hold, {tried - blind} of {tried} wrong pages are noticed{late}")
-    return 1 if len(held) < len(chosen) or blind or not chosen else 0
+            for it in browsers:
+                it.close()
 
 
-def holds(check, looked):
-    """Whether a look holds, told in a line."""
+def looked_at(looked: Looked, chosen: list[Look], browsers: list[Asking]) -> int:
+    """Looks in the browsers, and then at the wrong pages of those that hold."""
+    tried = [(check, it) for check in chosen
+             for it in (browsers if check in looks_measured.LOOKS else browsers[:1])]
+    held = [(check, it) for check, it in tried if holds(check, looked, it)]
+    made = [(it, browser) for it in wrong.WRONG for check, browser in held if it[0] is check]
+    blind = sum(not is_noticed(looked, it, browser) for it, browser in made)
+    print(f"page: {len(held)} of {len(tried)} looks hold, {len(made) - blind} of {len(made)} wrong pages are noticed")
+    return 1 if len(held) < len(tried) or blind or not chosen else 0
+
+
+def holds(check: Look, looked: Looked, browser: Asking) -> bool:
+    """Whether a look holds, said in a line."""
     started = time.monotonic()
+    looked.browser = browser
     why = fault_of(check, looked)
-    print(f"page: {'FAILS' if why else 'holds'}, {time.monotonic() - started:.1f} s: {check.__name__}{why and ': ' + why}", flush=True)
+    where = f"{check.__name__} in {type(browser).__name__}"
+    word = "FAILS" if why else "holds"
+    print(f"page: {word}, {time.monotonic() - started:.1f} s: {where}{why and ': ' + why}", flush=True)
     return not why
 
 
-def wrong_ones(looked, made, end):
-    """How many wrong pages are not noticed, and how many were tried until the end."""
-    blind = tried = 0
-    for check, file, old, new in made:
-        if time.monotonic() > end and tried >= LEAST:
-            break
-        tried += 1
-        if not wrong.is_noticed(looked, fault_of, check, file, old, new):
-            blind += 1
-            print(f"made up, {check.__name__}: {file} with {new!r}: not noticed, and this look is blind", flush=True)
-    return blind, tried
+def is_noticed(looked: Looked, made: wrong.Wrong, browser: Asking) -> bool:
+    """Whether a look notices a wrong page, said in a line where it does not."""
+    looked.browser = browser
+    found = wrong.is_noticed(looked, fault_of, made)
+    if not found:
+        check, file, _, new = made
+        where = f"{check.__name__} in {type(browser).__name__}"
+        print(f"made up, {where}: {file} with {new!r}: not noticed, and this look is blind", flush=True)
+    return found

@@ -1,22 +1,46 @@
-"""What is run in the page to look at it: what is drawn, its contrast, its frames. Each is the body of a function."""
+"""What is run in the page to look at it: what is drawn, its contrast, its frames. Each is the body of a
+function."""
 
 # The texts of the rows that are drawn, cell by cell.
-ROWS = "return [...document.querySelectorAll(`.${arguments[0]} .row`)].map((row) => [...row.children].map((it) => it.textContent))"
+ROWS = """
+const rows = [...document.querySelectorAll(`.${arguments[0]} .row`)];
+return rows.map((row) => [...row.children].map((it) => it.textContent));
+"""
+
+# Puts words into a search, as a reader who types them.
+TYPED = """
+const field = document.querySelector(`[data-part="${arguments[0]}"]`);
+field.value = arguments[1];
+field.dispatchEvent(new Event("input"));
+"""
 
 # Elements that a source's texts could have made, in what shows them.
-STRANGE = "return document.querySelector('main').querySelectorAll('script, img, iframe, object, embed, base, form, style, link, meta').length"
+STRANGE = """
+const kinds = "script, img, iframe, object, embed, base, form, style, link, meta";
+return document.querySelector("main").querySelectorAll(kinds).length;
+"""
 
 # The figures of the table beside the time line, and the names of the bodies that differ.
-TABLE = """return [...document.querySelectorAll("details tbody tr")].map((it) => [...it.children].slice(1).map((cell) => Number(cell.textContent)))"""
+TABLE = """
+const rows = [...document.querySelectorAll("details tbody tr")];
+return rows.map((it) => [...it.children].slice(1).map((cell) => Number(cell.textContent)));
+"""
 DIFFERING = "return [...document.querySelectorAll('.differing bdi')].map((it) => it.textContent)"
 
 # The levels of the headings.
-LEVELS = "return [...document.querySelectorAll('h1, h2, h3, h4')].filter((it) => it.checkVisibility()).map((it) => Number(it.localName[1]))"
+LEVELS = """
+const headings = [...document.querySelectorAll("h1, h2, h3, h4")];
+return headings.filter((it) => it.checkVisibility()).map((it) => Number(it.localName[1]));
+"""
 
 # What can be pressed, and is seen.
-PRESSED = "return [...document.querySelectorAll('.actions button, .quiet, .search')].filter((it) => it.checkVisibility()).map((it) => it.className)"
+PRESSED = """
+const every = [...document.querySelectorAll(".actions button, .quiet, .search")];
+return every.filter((it) => it.checkVisibility()).map((it) => it.className);
+"""
 
-# What each pair of colours is, where it stands, and its ratio of contrast by WCAG 2.2: texts, bars, and the edges of what can be pressed.
+# What each pair of colours is, where it stands, and its ratio of contrast by WCAG 2.2: texts, bars, and the
+# edges of what can be pressed.
 CONTRAST = r"""
 const parsed = (text) => (text.match(/[\d.]+/g) ?? []).map(Number);
 const light = (rgb) => {
@@ -36,7 +60,8 @@ const ratio = (one, other) => {
 };
 const found = new Map();
 const note = (kind, element, colour, back, least) => {
-  const where = `${element.localName}.${element.getAttribute("class") ?? ""} ${element.textContent.trim().slice(0, 30)}`;
+  const text = element.textContent.trim().slice(0, 30);
+  const where = `${element.localName}.${element.getAttribute("class") ?? ""} ${text}`;
   const it = { kind, where, ratio: ratio(colour, back), least };
   const key = `${kind} ${colour} ${back}`;
   if (!found.has(key)) found.set(key, it);
@@ -48,13 +73,17 @@ while (texts.nextNode()) {
   if (!texts.currentNode.data.trim() || !isSeen(it)) continue;
   const style = getComputedStyle(it);
   const isLarge = parseFloat(style.fontSize) >= 24;
-  note("text", it, parsed(it.localName === "text" ? style.fill : style.color).slice(0, 3), behind(it), isLarge ? 3 : 4.5);
+  const colour = parsed(it.localName === "text" ? style.fill : style.color).slice(0, 3);
+  note("text", it, colour, behind(it), isLarge ? 3 : 4.5);
 }
-for (const it of document.querySelectorAll("svg rect:not(.brush)")) note("bar", it, parsed(getComputedStyle(it).fill).slice(0, 3), behind(it), 3);
+for (const it of document.querySelectorAll("svg rect:not(.brush)")) {
+  note("bar", it, parsed(getComputedStyle(it).fill).slice(0, 3), behind(it), 3);
+}
 for (const it of document.querySelectorAll("button:not([disabled]):not([aria-disabled=true]), input")) {
   const style = getComputedStyle(it);
   const [r, g, b, a = 1] = parsed(style.borderTopColor);
-  if (isSeen(it) && a === 1 && parseFloat(style.borderTopWidth) > 0) note("edge", it, [r, g, b], behind(it.parentElement), 3);
+  const hasEdge = a === 1 && parseFloat(style.borderTopWidth) > 0;
+  if (isSeen(it) && hasEdge) note("edge", it, [r, g, b], behind(it.parentElement), 3);
 }
 for (const it of document.querySelectorAll("input")) {
   note("placeholder", it, parsed(getComputedStyle(it, "::placeholder").color).slice(0, 3), behind(it), 4.5);
@@ -62,7 +91,8 @@ for (const it of document.querySelectorAll("input")) {
 return [...found.values()];
 """
 
-# Scrolls the list of resources a screen a frame, down and then to far places, for some seconds, and gives how long each frame took.
+# Scrolls the list of resources a screen a frame, down and then to far places, for some seconds, and gives how
+# long each frame took.
 SCROLLED = r"""
 const done = arguments[0];
 const view = document.querySelector(".resources .view");
@@ -93,11 +123,13 @@ return { came: Math.max(...lists.map((it) => it.responseEnd)), shown: window.fir
 # What lies beyond the right edge of the window, or is cut off in what does not scroll.
 WIDER = r"""
 const found = [];
-if (document.documentElement.scrollWidth > innerWidth) found.push(`the page is ${document.documentElement.scrollWidth} wide`);
+const wide = document.documentElement.scrollWidth;
+if (wide > innerWidth) found.push(`the page is ${wide} wide`);
 for (const it of document.querySelectorAll("main *, header *, footer *")) {
   if (!it.checkVisibility() || it.closest("svg, .row, .wide, .unseen, code, .tabs")) continue;
   const box = it.getBoundingClientRect();
-  if (box.width > 1 && box.right > innerWidth + 1) found.push(`${it.localName}.${it.className} ends at ${Math.round(box.right)}`);
+  const isWider = box.width > 1 && box.right > innerWidth + 1;
+  if (isWider) found.push(`${it.localName}.${it.className} ends at ${Math.round(box.right)}`);
 }
 return found;
 """
@@ -105,25 +137,29 @@ return found;
 # What has the focus: its role or kind, and its name.
 FOCUSED = r"""
 const it = document.activeElement;
-return `${it.getAttribute("role") ?? it.localName} ${(it.getAttribute("aria-label") ?? it.dataset.part ?? it.textContent).trim().slice(0, 40)}`;
+const name = it.getAttribute("aria-label") ?? it.dataset.part ?? it.textContent;
+return `${it.getAttribute("role") ?? it.localName} ${name.trim().slice(0, 40)}`;
 """
 
-# Reads texts as documents twice, by the page's own reader and by the browser's parser, and tells where they differ.
+# Reads texts as documents twice, by the page's own reader and by the browser's parser, and tells where they
+# differ.
 READ_TWICE = r"""
 const [texts, done] = arguments;
 const SITEMAP = "http://www.sitemaps.org/schemas/sitemap/0.9";
 const TERMS = "http://www.openarchives.org/rs/terms/";
 const said = (element) => (element ? Object.fromEntries([...element.attributes].map((it) => [it.name, it.value])) : {});
-const child = (element, space, name) => [...element.children].find((it) => it.namespaceURI === space && it.localName === name);
+const isOf = (space, name) => (it) => it.namespaceURI === space && it.localName === name;
+const child = (element, space, name) => [...element.children].find(isOf(space, name));
 const byBrowser = (text) => {
   const document = new DOMParser().parseFromString(text, "application/xml");
   const root = document.documentElement;
   if (document.querySelector("parsererror") || root.namespaceURI !== SITEMAP) return "refused";
   if (!["urlset", "sitemapindex"].includes(root.localName)) return "refused";
   const isIndex = root.localName === "sitemapindex";
-  const entries = [...root.children].filter((it) => it.namespaceURI === SITEMAP && it.localName === (isIndex ? "sitemap" : "url"));
-  return JSON.stringify([isIndex, said(child(root, TERMS, "md")), entries.map((it) => [child(it, SITEMAP, "loc")?.textContent ?? "",
-    child(it, SITEMAP, "lastmod")?.textContent ?? "", said(child(it, TERMS, "md"))])]);
+  const entries = [...root.children].filter(isOf(SITEMAP, isIndex ? "sitemap" : "url"));
+  const text = (it, name) => child(it, SITEMAP, name)?.textContent ?? "";
+  const read = (it) => [text(it, "loc"), text(it, "lastmod"), said(child(it, TERMS, "md"))];
+  return JSON.stringify([isIndex, said(child(root, TERMS, "md")), entries.map(read)]);
 };
 import("/site/documents.js").then(({ documentOf }) => {
   const byPage = (text) => {
@@ -135,7 +171,8 @@ import("/site/documents.js").then(({ documentOf }) => {
     }
   };
   const pairs = texts.map((it) => [byBrowser(it), byPage(it)]);
-  const differing = pairs.map((it, at) => [at, ...it.map((text) => text.slice(0, 300))]).filter((_, at) => pairs[at][0] !== pairs[at][1]);
+  const shortened = pairs.map((it, at) => [at, ...it.map((text) => text.slice(0, 300))]);
+  const differing = shortened.filter((_, at) => pairs[at][0] !== pairs[at][1]);
   const refused = pairs.filter(([, page]) => page === "refused").length;
   done({ differing, refused, read: pairs.length - refused });
 }).catch((fault) => done({ differing: [String(fault)], read: 0, refused: 0 }));
@@ -150,7 +187,9 @@ for (const kind of ["pointermove", "pointerdown", "pointermove", "pointerup"]) {
   const clientX = box.left + 40 + 100 * (kind === "pointerup");
   field.dispatchEvent(new PointerEvent(kind, { pointerId: 1, clientX, clientY: box.top + 20, bubbles: true }));
 }
-for (const key of ["+", "-", "ArrowLeft", "ArrowRight", "0"]) field.dispatchEvent(new KeyboardEvent("keydown", { key, bubbles: true }));
+for (const key of ["+", "-", "ArrowLeft", "ArrowRight", "0"]) {
+  field.dispatchEvent(new KeyboardEvent("keydown", { key, bubbles: true }));
+}
 for (const view of document.querySelectorAll(".view")) {
   for (const key of ["ArrowDown", "End", "Home", "PageUp", "Enter", "Escape"]) {
     view.dispatchEvent(new KeyboardEvent("keydown", { key, bubbles: true }));

@@ -6,6 +6,7 @@ import pwd
 import re
 import shutil
 import subprocess
+from collections.abc import Callable, Iterator
 
 from tests.program import ROOT
 from tests.served_source import free_port
@@ -14,35 +15,47 @@ from tests.system import install_looks
 PAGE = ROOT / "install/site"
 # Where the site looks for the page once it is installed.
 INSTALLED = "/usr/local/share/ropepeach/site"
+# Where the site has the keeper's file of who runs it, and what that becomes here.
+SETTINGS, ABOUT = "root /etc/ropepeach;", "settings/source.json"
 SECONDS = 20
 
 
-def configured(room, port, behind, change, certificate):
-    """The settings of nginx: the site on this port of loopback, before a source on that one, with the page of a folder in the room.
+def configured(room: str, port: int, behind: int, change: Callable[[str], str], certificate: str) -> str:
+    """The settings of nginx: the site on this port of loopback, before a source on that one, with a room's page.
 
     Without the file of a certificate and its key TLS is left out.
     """
-    folders = re.findall(r"--http-([a-z-]+)-temp-path", subprocess.run(["nginx", "-V"], capture_output=True, text=True, timeout=SECONDS).stderr)
+    folders = re.findall(r"--http-([a-z-]+)-temp-path",
+                         subprocess.run(["nginx", "-V"], capture_output=True, text=True,
+                                        timeout=SECONDS).stderr)
     # (a master that is root gives its workers another user, who cannot write here)
     user = f"user {pwd.getpwuid(os.getuid()).pw_name};" if os.getuid() == 0 else ""
     site = install_looks.site_on(room, port, behind)
-    site = re.sub(r"/etc/ssl/\w+/source\.example\.org\.\w+", certificate, site) if certificate else install_looks.without_tls(site)
+    site = re.sub(r"/etc/ssl/\w+/source\.example\.org\.\w+", certificate,
+                  site) if certificate else install_looks.without_tls(site)
     if site.count(INSTALLED) != 1:
         raise ValueError(f"the site has {INSTALLED} {site.count(INSTALLED)} times")
+    if site.count(SETTINGS) != 1:
+        raise ValueError(f"the site has {SETTINGS} {site.count(SETTINGS)} times")
+    site = site.replace(SETTINGS, f"root {room}/settings;")
     # (what a source serves changes within a look, so nothing is kept here)
     site = re.sub(r"proxy_cache_valid\s[^;]*;", "", change(site.replace(INSTALLED, f"{room}/page")))
-    folders = "".join(f"{it.replace('-', '_')}_temp_path {room}/{it};\n" for it in folders)
+    places = "".join(f"{it.replace('-', '_')}_temp_path {room}/{it};\n" for it in folders)
     main = f"daemon off; worker_processes 1; {user} pid {room}/pid; error_log {room}/errors;\nevents {{}}\n"
-    return f"{main}http {{\naccess_log off;\n{folders}{site}}}\n"
+    return f"{main}http {{\naccess_log off;\n{places}{site}}}\n"
 
 
 @contextlib.contextmanager
-def site(room, behind, port=None, change=lambda site: site, edit=lambda page: None, certificate=""):
-    """The port of nginx before a source on the port `behind`. `change` makes other settings, and `edit` another page."""
+def site(folder: pathlib.Path, behind: int, port: int = 0,
+         change: Callable[[str], str] = lambda settings: settings,
+         edit: Callable[[pathlib.Path], None] = lambda page: None, certificate: str = "") -> Iterator[int]:
+    """The port of nginx before a source on the port `behind`. `change` makes other settings, and `edit`
+    another page."""
     port = port or free_port()
-    room = pathlib.Path(room, f"site-{port}")
+    room = pathlib.Path(folder, f"site-{port}")
     room.mkdir()
     shutil.copytree(PAGE, room / "page")
+    (room / ABOUT).parent.mkdir()
     edit(room / "page")
     config = room / "nginx.conf"
     config.write_text(configured(str(room), port, behind, change, certificate))
