@@ -19,15 +19,17 @@
 #   make tools    fills, mirrors and looks by the command `ropepeach`, also sources that lie, and through the site of nginx
 #   make operate  looks at what is installed beside the program: the page, the units, the site (mandoc, systemd-analyze, strace, nginx, openssl)
 #   make package  packs the proved program and the tools for Debian, with SHA256SUMS and PROVED, in out/package
+#   make image    makes an image for containers of the packages of `make package`, in out/image (as root, with debootstrap and umoci)
 #   make machine  boots a whole Debian with the packages, and kills it (as root, with debootstrap and systemd-nspawn)
-#   make page     looks at the page of install/site in headless Chromium, through the site of nginx
-#   make million  fills, mirrors, changes and grows 1,000,000 resources of 1 KiB in 24 sources (MILLION="--resources 200000 --sources 8" takes
-#                 others; some 12 GB in /tmp; 'make test' has 20,000 in 4)
+#   make page     looks at the page of install/site in headless Chromium and Firefox, through the site of nginx
+#   make million  fills, mirrors, changes and grows RESOURCES=1000000 resources of 1 KiB in SOURCES=24 sources (some 12 GB in /tmp;
+#                 'make test' has 20,000 in 4)
 #   make powercut cuts the power below ext4, XFS and btrfs, on a device whose writes are logged, IMAGES=20000 images (as root, with FUSE and
 #                 loop devices; 'make test' has a short form)
 #   make snapshots  opens snapshots that are taken while a source is put to (as root, with loop devices; 'make test' has it not)
 #   make replicas three machines on one kernel with a CephFS over them: a source goes from one to another as they die, REPLICA_ROUNDS=200
 #                 times, and stores that lose are seen to lose (as root, with packages.txt's `replicas`; 'make test' has a short form)
+#   make long     runs all of these long forms (tests/long.txt) and tries all must-fail edits, and says what each took
 #   make rust     writes the sources as plain Rust, a Cargo workspace and its tarball, into out/rust (rust/README.md)
 #   make twins    builds that too, and gives both programs the same CASES=1000000 lines, disks, requests and command lines
 #   make pictures draws the pictures of docs/pictures anew, from runs of the proved program
@@ -43,24 +45,16 @@ BASE ?= http://127.0.0.1:8080
 RT ?= rt
 CRATES ?=
 PROMISE ?=
-ROUNDS ?= 200
-DISKS ?= 100000
-LINES ?= 100000
-REQUESTS ?= 100000
-REPLICA_ROUNDS ?= 200
-IMAGES ?= 20000
-MILLION ?= --resources 1000000 --sources 24
 PREFIX ?= /usr/local
 DESTDIR ?=
 PROGRAM ?= crates/rs_source/out/rs_source
 # The checks of tests/system that have no target of their own, and those of tests/tools (tests/checks.txt).
-SYSTEM = $(filter-out install,$(shell python3 -m tests.checks --names system))
-TOOL_CHECKS = $(shell python3 -m tests.checks --names tools)
-# How many go side by side: checks of edits, if not as many as there are processors and memory for; stores of `make replicas`, if not one.
+SYSTEM = $(filter-out tests.system.install,$(shell python3 -m tests.checks --below tests.system))
+TOOL_CHECKS = $(shell python3 -m tests.checks --below tests.tools)
+# How many go side by side: checks of edits, if not as many as there are processors and memory for. (`make replicas` reads it too.)
 LANES ?=
-CASES ?= 1000000
 
-.PHONY: demo test quick setup edits build rows statement bench bench-more proof-times memory ends crash hostile mirror system tools operate package machine page million powercut replicas snapshots rust twins pictures install uninstall
+.PHONY: demo test quick long setup edits build rows statement bench bench-more proof-times memory ends crash hostile mirror system tools operate package image machine page million powercut replicas snapshots rust twins pictures install uninstall
 
 # Quick, and no more than an unproved build.
 demo:
@@ -73,6 +67,10 @@ test:
 quick:
 	@python3 gate/quick.py
 
+# The long forms of checks (tests/long.txt), and all must-fail edits. A setting of theirs goes behind `make`, as DISKS=1000.
+long: build
+	@python3 gate/long.py
+
 # What the tests use of Debian (as root).
 setup:
 	@python3 -m tests.house.setup
@@ -83,7 +81,8 @@ edits:
 
 # The proved program, its crates side by side; its path is printed last.
 build:
-	@python3 gate/build.py $(BASE)
+	@python3 gate/build.py
+	@python3 -B -m package.stamp crates/rs_source/out/rs_source
 
 rows: build
 	@python3 -m tests.rows
@@ -115,27 +114,25 @@ proof-times:
 	@python3 -m bench.proofs $(CRATES)
 
 memory: build
-	@python3 -m tests.system.memory
+	@python3 gate/long.py system.memory
 
 ends: build
-	@python3 -m tests.ends
+	@python3 gate/long.py ends
 
 crash: build
-	@python3 -m tests.crash
+	@python3 gate/long.py crash
 
 hostile: build
-	@python3 -m tests.hostile.disks --disks $(DISKS)
-	@python3 -m tests.hostile.lines --lines $(LINES)
-	@python3 -m tests.hostile.requests --requests $(REQUESTS)
+	@python3 gate/long.py hostile.disks hostile.lines hostile.requests
 
 mirror: build
-	@python3 -m tests.mirror $(ROUNDS)
+	@python3 gate/long.py mirror
 
 system: build
-	@for it in $(SYSTEM); do python3 -m tests.system.$$it || exit 1; done
+	@for it in $(SYSTEM); do python3 -m $$it || exit 1; done
 
 tools: build
-	@for it in $(TOOL_CHECKS); do python3 -m tests.tools.$$it || exit 1; done
+	@for it in $(TOOL_CHECKS); do python3 -m $$it || exit 1; done
 
 operate: build
 	@python3 -m tests.system.install
@@ -144,6 +141,10 @@ operate: build
 package: build
 	@python3 -m package
 
+# The image for containers, of those packages.
+image: package
+	@python3 -m image out/package/*.deb
+
 machine: build
 	@python3 -m tests.machine
 
@@ -151,31 +152,31 @@ page: build
 	@python3 -m tests.page
 
 million: build
-	@python3 -m tests.collection $(MILLION) --rates
+	@python3 gate/long.py collection
 
 powercut: build
-	@python3 -m tests.powercut --images $(IMAGES)
+	@python3 gate/long.py powercut
 
 # (it ends all that it starts, also where it is stopped)
 replicas: build
-	@python3 -m tests.replicas --rounds $(REPLICA_ROUNDS) $(if $(LANES),--lanes $(LANES))
+	@python3 gate/long.py replicas
 
 snapshots: build
-	@python3 -m tests.system.snapshots
+	@python3 gate/long.py system.snapshots
 
 rust:
 	@python3 -m rust
 
 twins: build
-	@python3 -m rust.build
-	@python3 -m tests.twins --cases $(CASES)
+	@python3 gate/long.py twins
 
 # One check alone, as `make tests.system.calls`.
 tests.%: build
 	@python3 -m $@
 
 pictures: build
-	@python3 -m tests.pictures.draw
+	@python3 -m tests.pictures --draw
+	@python3 -m tests.mirror.pictures --draw
 	@python3 -m tests.page --pictures
 
 # What `make build` made, and what stands beside it (package/places.py). It proves and builds nothing, so that it can run as root.

@@ -141,7 +141,7 @@ def files_past_4_gib(room, program):
             file.truncate(5 << 30)
         it = ran("look", str(path), "--json")
         wanted(it.returncode == status and (status == 0 or phrase in it.stderr), f"{changes}: {it.returncode} {it.stderr!r}")
-        wanted(status or json.loads(it.stdout)["blocks"]["all"] == 8_388_608, it.stdout)
+        wanted(status or json.loads(it.stdout)["results"][0]["blocks"]["all"] == 8_388_608, it.stdout)
     return f"{len(rows)} files of 5 GiB"
 
 

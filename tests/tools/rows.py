@@ -1,4 +1,5 @@
 """What the checks of `look`, `size`, `why` and `health` share: rows that are named one by one, and the command with a limit on its time."""
+import argparse
 import json
 import re
 import subprocess
@@ -8,12 +9,16 @@ import xml.etree.ElementTree as ElementTree
 from pathlib import Path
 from unittest import mock
 
+from ropepeach import command
 from ropepeach.faults import Fault
+from ropepeach.statuses import TABLE
 from tests.program import ROOT, Differs, room_in_memory
-from tests.tools import COMMAND
+from tests.tools import COMMAND as COMMAND
 
 # No command takes longer than this many seconds.
 SECONDS = 60
+# Options that each command has.
+GENERAL = {"--help", "--verbose", "--quiet", "--json"}
 # By what a row ends that does not hold.
 FAULTS = (Differs, Fault, OSError, ValueError, LookupError, TypeError, AttributeError, ElementTree.ParseError, subprocess.SubprocessError)
 
@@ -21,6 +26,11 @@ FAULTS = (Differs, Fault, OSError, ValueError, LookupError, TypeError, Attribute
 def ran(*words, seconds=SECONDS, behind=()):
     """What a run of the command came to: its status, its output and its messages. It may stand behind the words of another one."""
     return subprocess.run([*behind, *COMMAND, *words], capture_output=True, text=True, timeout=seconds, stdin=subprocess.DEVNULL)
+
+
+def words_of_command():
+    """The words by which the command is run."""
+    return COMMAND
 
 
 def wanted(is_so, *what):
@@ -43,26 +53,36 @@ def lines_of(it):
 
 
 def json_of(*words):
-    """The object that a run prints."""
+    """The result in the object that a run prints."""
     it = ran(*words)
     wanted(it.returncode == 0, f"status {it.returncode}: {it.stderr[:300]!r}")
-    return json.loads(it.stdout)
+    results = json.loads(it.stdout)["results"]
+    wanted(len(results) == 1, f"{len(results)} results, and not one")
+    return results[0]
 
 
 def page_of(name):
-    """Compares the page of the manual with what the command says of itself: its options, its exit statuses, what it is for."""
+    """Compares the page of the manual with what the command says of itself: its options, its exit statuses, what it is for.
+
+    The options that each command has stand in ropepeach(1).
+    """
     page, said = (ROOT / f"install/ropepeach-{name}.1").read_text(), ran(name, "--help").stdout
-    options = set(re.findall(r"(?m)^  (?:-h, )?(--[a-z-]+)", said)) - {"--help"}
-    written = {f"-{it}" for line in re.findall(r"(?m)^\.It (Fl .*)", page) for it in re.findall(r"Fl (-[a-z-]+)", line)}
-    wanted(options == written, f"options {sorted(options)}, and {sorted(written)} on the page")
+    subcommand = command.subcommand_of(name)
+    every = command.subparser_of(subcommand)._actions
+    actions = [it.option_strings for it in every if it.option_strings and it.help != argparse.SUPPRESS]
+    actions = [it for it in actions if not GENERAL.intersection(it)]
     above = page.partition(".Sh DESCRIPTION")[0]
-    wanted(all(f"Op Fl {it[1:]}" in above for it in options), "an option is not in the synopsis of the page")
+    for what, lines in (("described", re.findall(r"(?m)^\.It (Fl .*)", page)), ("in the synopsis", re.findall(r"(?m)^\.Op (Fl .*)", above))):
+        written = {f"--{it}" for line in lines for it in re.findall(r"(?:Fl |\| )-([a-z-]+)", line)}
+        wanted(written <= {option for it in actions for option in it}, f"options {what} that the command has not: {sorted(written)}")
+        missing = [it for it in actions if not written.intersection(it)]
+        wanted(not missing, f"options that are not {what}: {missing}")
     section = page.partition(".Sh EXIT STATUS")[2].partition(".Sh ")[0]
     statuses = set(re.findall(r"(?m)^  (\d+)  ", said)), set(re.findall(r"(?m)^\.It (\d+)$", section))
-    wanted(statuses[0] == statuses[1] and statuses[0], f"statuses {statuses}")
+    wanted(statuses[0] == statuses[1] == {str(int(it)) for it in TABLE[name]}, f"statuses {statuses}")
     what = re.search(r"(?m)^\.Nd (.*)", page)[1]
     wanted(f".Cm {name}" in (ROOT / "install/ropepeach.1").read_text() and name in ran("--help").stdout, "the page of the whole has it not")
-    return f"{len(options)} options, {len(statuses[0])} statuses; it {what}"
+    return f"{len(actions)} options, {len(statuses[0])} statuses; it {what}"
 
 
 def fault_of(row, *given):

@@ -213,6 +213,18 @@ def a_copy(room, program):
     return "and no copy before the steps are done"
 
 
+def a_dry_run(room, program):
+    """It looks at each step, names the file that would be kept, and changes nothing."""
+    store = Store(room)
+    before = {it.name: it.read_bytes() for it in room.glob("a.disk*")}
+    said = store.takes(program, "--copy", "--dry-run", phrases=["the old file would be", holds_of(program, store.file)])
+    wanted("start the program" not in said, said)
+    wanted({it.name: it.read_bytes() for it in room.glob("a.disk*")} == before and "a.disk" in before, "a file was made or changed")
+    store.file.with_name("a.disk.taken-over").write_bytes(b"")
+    store.takes(program, "--copy", "--dry-run", status=1, phrases=["is there, of an earlier copy"])
+    return "nothing is copied"
+
+
 def a_copy_that_differs(room, program):
     """A program whose copy fails, or opens to something else: the old file stays in its place."""
     store = Store(room)
@@ -301,7 +313,7 @@ def the_page_of_the_manual(room, program):
 
 
 ROWS = [the_page_of_the_manual, all_is_done, what_is_planned, the_fence, the_copies, the_mount, the_mount_of_the_kernel, a_store_that_does_not_answer,
-        no_command_of_the_store, the_file, a_copy, a_copy_that_differs, a_copy_that_is_swapped, answers_of_another_form, wrong_arguments]
+        no_command_of_the_store, the_file, a_copy, a_dry_run, a_copy_that_differs, a_copy_that_is_swapped, answers_of_another_form, wrong_arguments]
 
 
 def ran_here(*words):

@@ -1,28 +1,38 @@
 """Reads a source off its file, also while the program serves it: nothing is written, and nothing is locked.
 
-What a root reaches stays as it is until a later root stands (docs/DISK.md, "How the root is changed"), and the directory and each page
-have their SHA-256. So what is read whole is the state of one moment, and what a command wrote over meanwhile is noticed: then the file
-has a later root, and is read again. Pages that were read before are not read anew. Bodies are not read.
+What a root reaches stays as it is until a later root stands (docs/DISK.md, "How the root is changed"), and
+the directory and each page have their SHA-256. So what is read whole is the state of one moment, and what a
+command wrote over meanwhile is noticed: then the file has a later root, and is read again. Pages that were
+read before are not read anew. Bodies are not read.
 """
+from __future__ import annotations
+
+import dataclasses
 import hashlib
 import os
 import time
-from dataclasses import dataclass
+from collections.abc import Callable, Iterable
 
 from ropepeach import disk_rules
-from ropepeach.disk_formats import BLOCK, CHANGES, RECORDS, VERSIONS, Broken, Header, Root, blocks_of, directory_of, hold, page_of, slot_of
+from ropepeach.disk_formats import (BLOCK, CHANGES, RECORDS, VERSIONS, Broken, Change, Entry, Fields, Item,
+                                    Page, Record, Root,
+                                    blocks_of, change_of, directory_of, hold, page_of, record_of, slot_of)
+from ropepeach.disk_source import MOST_BLOCKS, Source, extents_of
 from ropepeach.faults import Fault
+from ropepeach.statuses import Status
 
-# How often a file is read that changes meanwhile; how often slots are read that have no root, and the seconds between.
+# How often a file is read that changes meanwhile; how often slots are read that have no root, and the seconds
+# between.
 TRIES, LOOKS, PAUSE = 20, 3, 0.02
-# A page of 50,000 of the longest records, and a directory of the longest base and three lists of 50,000 pages.
+# A page of 50,000 of the longest records, and a directory of the longest base and three lists of 50,000
+# pages.
 LONGEST_PAGE, LONGEST_DIRECTORY = 20_500_005, 6_600_191
 
 
 class NoSource(Fault):
     """Why a file holds no source at all."""
 
-    status, word = 5, "no source: "
+    status, word = Status.NO_SOURCE, "no source: "
 
 
 class Moves(Fault):
@@ -31,29 +41,14 @@ class Moves(Fault):
     word = ""
 
 
-@dataclass(frozen=True)
-class Source:
-    """What a file holds. `blocks` is how many of its blocks can be used; `is_changed` whether it held something later at the end."""
-
-    root: Root
-    header: Header
-    catalogue: list
-    changes: list
-    published: list
-    extents: list
-    blocks: int
-    tries: int = 1
-    is_changed: bool = False
-
-
-def root_of(slots):
+def root_of(slots: Iterable[bytes]) -> Root:
     """The root of two slots: that of the open slot of the greater generation."""
-    opened = [it for it in map(slot_of, slots) if it]
+    opened = [root for root in map(slot_of, slots) if root]
     if not opened:
         raise NoSource("neither slot of the file is open")
-    for it in opened:
-        if it.version not in VERSIONS:
-            raise NoSource(f"an open slot has the version {it.version}, which is none")
+    for root in opened:
+        if root.version not in VERSIONS:
+            raise NoSource(f"an open slot has the version {root.version}, which is none")
     if len(opened) > 1 and opened[0].generation == opened[1].generation:
         raise NoSource("both slots are open with one generation")
     return max(opened)
@@ -62,59 +57,72 @@ def root_of(slots):
 class File:
     """A file that is open for reading."""
 
-    def __init__(self, path):
+    def __init__(self, path: str | os.PathLike[str]) -> None:
         self.number = os.open(path, os.O_RDONLY | os.O_CLOEXEC | os.O_NONBLOCK)
-        self.kept = {}
+        # The pages that were read.
+        self.records: dict[Entry, Page[Record]] = {}
+        self.changes: dict[Entry, Page[Change]] = {}
 
-    def __enter__(self):
+    def __enter__(self) -> File:
         return self
 
-    def __exit__(self, *_):
+    def __exit__(self, *_: object) -> None:
         os.close(self.number)
 
-    def part(self, first, length):
+    def part(self, first: int, length: int) -> bytes:
         """This many bytes from a block on, or as many as there are."""
-        found, at = [], first * BLOCK
+        pieces, at = [], first * BLOCK
         while length and (piece := os.pread(self.number, min(length, 1 << 24), at)):
-            found.append(piece)
+            pieces.append(piece)
             at, length = at + len(piece), length - len(piece)
-        return b"".join(found)
+        return b"".join(pieces)
 
-    def root(self):
+    def root(self) -> Root:
+        """The root by the slots as they are now."""
         return root_of([self.part(0, BLOCK), self.part(1, BLOCK)])
 
-    def blocks(self):
+    def blocks(self) -> int:
         """How many of its blocks can be used."""
-        return min(os.fstat(self.number).st_size // BLOCK, disk_rules.MOST_BLOCKS)
+        return min(os.fstat(self.number).st_size // BLOCK, MOST_BLOCKS)
 
-    def referred(self, entry, what, most):
-        """The bytes that an entry tells of. More than `most` would cost memory, and break a rule of the lists."""
+    def referred(self, entry: Entry, what: str, most: int) -> bytes:
+        """The bytes that an entry tells of. More than `most` would cost memory, and break a rule of the
+        lists.
+        """
         first, blocks, length, sha256 = entry
-        hold(blocks == blocks_of(length), "{} lies in exactly the blocks of its length, and that in block {} has {} for {:,} bytes",
+        hold(blocks == blocks_of(length), "{} lies in exactly the blocks of its length, and that in block {} "
+                                          "has {} for {:,} bytes",
              what, first, blocks, length)
-        hold(first + blocks <= self.blocks(), "{} lies within the file, and that in block {} does not", what, first)
-        hold(length <= most, "{} has {:,} bytes at most, and that in block {} has {:,}", what, most, first, length)
+        hold(first + blocks <= self.blocks(), "{} lies within the file, and that in block {} does not", what,
+             first)
+        hold(length <= most, "{} has {:,} bytes at most, and that in block {} has {:,}", what, most, first,
+             length)
         data = self.part(first, length)
-        hold(hashlib.sha256(data).digest() == sha256, "{} has the SHA-256 of its reference, and that in block {} has another", what, first)
+        hold(hashlib.sha256(data).digest() == sha256, "{} has the SHA-256 of its reference, and that in "
+                                                      "block {} has another", what, first)
         return data
 
-    def pages(self, entries, kind):
+    def pages(self, entries: list[Entry], kept: dict[Entry, Page[Item]], kind: int,
+              take: Callable[[Fields], Item]) -> list[Page[Item]]:
         """The pages of a list. One that was read before is right for ever, as its SHA-256 is."""
-        for it in entries:
-            if (kind, it) not in self.kept:
-                self.kept[kind, it] = page_of(self.referred(it, "a page", LONGEST_PAGE), it, kind)
-        return [self.kept[kind, it] for it in entries]
+        for entry in entries:
+            if entry not in kept:
+                kept[entry] = page_of(self.referred(entry, "a page", LONGEST_PAGE), entry, kind, take)
+        return [kept[entry] for entry in entries]
 
-    def source(self, root):
-        """The source that a root tells."""
-        header, entries = directory_of(self.referred(root.directory, "the directory", LONGEST_DIRECTORY), root.version)
-        lists = [self.pages(*it) for it in zip(entries, (RECORDS, CHANGES, RECORDS))]
-        source = Source(root, header, *lists, [], self.blocks())
-        source.extents.extend(disk_rules.extents_of(source))
-        disk_rules.look(source, source.extents)
+    def source(self, root: Root) -> Source:
+        """The source that a root leads to."""
+        header, entries = directory_of(self.referred(root.directory, "the directory", LONGEST_DIRECTORY),
+                                       root.version)
+        catalogue = self.pages(entries[0], self.records, RECORDS, record_of)
+        changes = self.pages(entries[1], self.changes, CHANGES, change_of)
+        published = self.pages(entries[2], self.records, RECORDS, record_of)
+        extents = extents_of(root, catalogue, changes, published)
+        source = Source(root, header, catalogue, changes, published, extents, self.blocks())
+        disk_rules.look(source, extents)
         return source
 
-    def read(self):
+    def read(self) -> Source:
         """What the file holds now, read as often as it changes meanwhile."""
         for number in range(1, TRIES + 1):
             root = self.steady_root()
@@ -124,15 +132,14 @@ class File:
                 if self.steady_root() == root:
                     raise
                 continue
-            return Source(**{**vars(source), "tries": number, "is_changed": self.steady_root() != root})
+            return dataclasses.replace(source, tries=number, is_changed=self.steady_root() != root)
         raise Moves(f"the file changed {TRIES} times while it was read")
 
-    def steady_root(self):
+    def steady_root(self) -> Root:
         """The root, also where a slot is half written at the moment."""
-        for _ in range(LOOKS):
+        for _ in range(LOOKS - 1):
             try:
                 return self.root()
-            except NoSource as why:
-                told = why
-            time.sleep(PAUSE)
-        raise told
+            except NoSource:
+                time.sleep(PAUSE)
+        return self.root()

@@ -1,49 +1,64 @@
-"""The map of the blocks of a source's file, as SVG 1.1: what each is used for, and where the free ones lie."""
+"""The map of the blocks of a source's file, as SVG 1.1: what each is used for, and where the free ones lie.
+"""
+from __future__ import annotations
+
 import itertools
+from collections.abc import Iterator, Mapping, Sequence
 from xml.sax.saxutils import escape, quoteattr
 
-from ropepeach.disk_rules import KINDS
+from ropepeach.disk_source import KINDS, Extent
 
 INK, PAPER, EDGE = "#1d1d1f", "#fdfcf8", "#b9b7b0"
 # What lies in a block, how it is called in the legend, and what it is drawn in. Free blocks stay white.
-FILLS = {"slots": "#86868c", "directory": "#f2cc6b", "records": "#93bfe0", "changes": "#c2aee0", "published": "#a3d6a9", "bodies": "#f2ad96"}
-NAMES = {"slots": "the two slots", "directory": "directory", "records": "records of what is held", "changes": "changes",
+FILLS = {"slots": "#86868c", "directory": "#f2cc6b", "records": "#93bfe0", "changes": "#c2aee0",
+         "published": "#a3d6a9", "bodies": "#f2ad96"}
+NAMES = {"slots": "the two slots", "directory": "directory", "records": "records of what is held",
+         "changes": "changes",
          "published": "published records that are not held so", "bodies": "bodies", "free": "free"}
 # A map has at most this many rows; up to a number of blocks a row has this many cells.
-ROWS, COLUMNS = 64, ((256, 16), (1_024, 32), (4_096, 64), (None, 128))
+ROWS, COLUMNS, MOST_COLUMNS = 64, ((256, 16), (1_024, 32), (4_096, 64)), 128
 LEFT, TOP, WIDTH, HEIGHT, LINE = 48, 92, 1_024, 14, 22
 
 
-def element(name, **pairs):
-    told = "".join(f" {key.replace('_', '-')}={quoteattr(f'{value:.2f}'.rstrip('0').rstrip('.') if isinstance(value, float) else str(value))}"
-                   for key, value in pairs.items())
-    return f"<{name}{told}/>"
+def written(value: float | str) -> str:
+    """The value of an attribute: a number with two digits behind the point at most."""
+    return f"{value:.2f}".rstrip("0").rstrip(".") if isinstance(value, float) else str(value)
 
 
-def text(x, y, words, size=14):
+def element(name: str, **pairs: float | str) -> str:
+    """An element of SVG without content."""
+    attributes = "".join(f" {key.replace('_', '-')}={quoteattr(written(value))}"
+                         for key, value in pairs.items())
+    return f"<{name}{attributes}/>"
+
+
+def text(x: int, y: int, words: str, size: int = 14) -> str:
+    """A line of text."""
     return f'<text x="{x}" y="{y}" font-size="{size}">{escape(words)}</text>'
 
 
-def shape(most):
+def shape(most: int) -> tuple[int, int]:
     """How many cells a row has, and how many blocks a cell."""
-    columns = next(count for limit, count in COLUMNS if limit is None or most <= limit)
+    columns = next((count for limit, count in COLUMNS if most <= limit), MOST_COLUMNS)
     return columns, max(1, -(-most // (columns * ROWS)))
 
 
-def cells_of(extents, most, each):
+def cells_of(extents: Sequence[Extent], most: int, each: int) -> list[list[int]]:
     """How many blocks of each kind each cell has."""
     cells = [[0] * len(KINDS) for _ in range(-(-most // each))]
-    for it in extents:
-        at, end = it.first, it.first + it.blocks
+    for extent in extents:
+        at, end = extent.first, extent.first + extent.blocks
         while at < end:
             part = min(end, (at // each + 1) * each) - at
-            cells[at // each][KINDS.index(it.kind)] += part
+            cells[at // each][KINDS.index(extent.kind)] += part
             at += part
     return cells
 
 
-def row(cells, columns, each, y):
-    """The boxes of a row of cells, those beside each other that are alike as one. In a cell the kinds stand on each other by their shares."""
+def row(cells: Sequence[list[int]], columns: int, each: int, y: int) -> Iterator[str]:
+    """The boxes of a row of cells, equal neighbours as one. In a cell the kinds lie on each other by their
+    shares.
+    """
     width, x = WIDTH / columns, float(LEFT)
     for counts, alike in itertools.groupby(cells):
         run = len(list(alike)) * width
@@ -56,36 +71,40 @@ def row(cells, columns, each, y):
         x += run
 
 
-def legend(counts, most, y):
+def legend(counts: Mapping[str, int], most: int, y: int) -> Iterator[str]:
     """A line for each kind: its colour, its name, its blocks and its share."""
     for number, (kind, count) in enumerate(counts.items()):
         at = y + number * LINE
-        yield element("rect", x=LEFT, y=at - 12, width=16, height=HEIGHT, fill=FILLS.get(kind, "#ffffff"), stroke=EDGE)
+        yield element("rect", x=LEFT, y=at - 12, width=16, height=HEIGHT, fill=FILLS.get(kind, "#ffffff"),
+                      stroke=EDGE)
         share = f"{count / most:.1%}" if count == 0 or count * 1_000 >= most else "under 0.1%"
         yield text(LEFT + 26, at, f"{NAMES[kind]}: {count:,} of {most:,} blocks, {share}")
 
 
-def drawn(title, extents, most, longest):
+def drawn(title: str, extents: Sequence[Extent], most: int, longest: int) -> str:
     """The picture of this many blocks."""
     columns, each = shape(most)
     cells = cells_of(extents, most, each)
-    counts = {kind: sum(it.blocks for it in extents if it.kind == kind) for kind in KINDS}
+    counts = {kind: sum(extent.blocks for extent in extents if extent.kind == kind) for kind in KINDS}
     counts["free"] = most - sum(counts.values())
     rows = [cells[at : at + columns] for at in range(0, len(cells), columns)]
     height = TOP + len(rows) * (HEIGHT + 2) + LINE * (len(counts) + 2)
-    told = f"{most:,} blocks of 512 bytes, {most - counts['free']:,} used; the longest free run has {longest:,}"
-    parts = [element("rect", x=0.5, y=0.5, width=WIDTH + 2 * LEFT - 1, height=height - 1, fill=PAPER, stroke=EDGE, rx=6),
-             text(LEFT, 36, title, 20), text(LEFT, 60, told),
-             text(LEFT, 80, f"A cell is {'a block' if each == 1 else f'{each:,} blocks'}, from the left to the right and down; white is free.", 12)]
+    facts = f"{most:,} blocks of 512 bytes, {most - counts['free']:,} used; the longest free run has {longest:,}"
+    parts = [element("rect", x=0.5, y=0.5, width=WIDTH + 2 * LEFT - 1, height=height - 1, fill=PAPER,
+                     stroke=EDGE, rx=6),
+             text(LEFT, 36, title, 20), text(LEFT, 60, facts),
+             text(LEFT, 80, f"A cell is {'a block' if each == 1 else f'{each:,} blocks'}, from the left to "
+                            f"the right and down; white is free.", 12)]
     for number, cells_of_row in enumerate(rows):
         y = TOP + number * (HEIGHT + 2)
         # (the last row may have fewer cells, and its last cell fewer blocks)
         blocks = min(most - number * columns * each, columns * each)
         width = blocks / each * WIDTH / columns
-        parts.append(element("rect", x=LEFT, y=y, width=width, height=HEIGHT, fill="#ffffff", stroke=EDGE, stroke_width=0.5))
+        parts.append(element("rect", x=LEFT, y=y, width=width, height=HEIGHT, fill="#ffffff", stroke=EDGE,
+                             stroke_width=0.5))
         parts += row(cells_of_row, columns, each, y)
     parts += legend(counts, most, TOP + len(rows) * (HEIGHT + 2) + LINE)
     size = f'width="{WIDTH + 2 * LEFT}" height="{height}" viewBox="0 0 {WIDTH + 2 * LEFT} {height}"'
     head = f'<svg xmlns="http://www.w3.org/2000/svg" version="1.1" {size} font-family="sans-serif" fill="{INK}">'
-    names = [f"<title>{escape(title)}</title>", f"<desc>{escape(told)}</desc>"]
+    names = [f"<title>{escape(title)}</title>", f"<desc>{escape(facts)}</desc>"]
     return "\n".join(['<?xml version="1.0" encoding="UTF-8"?>', head, *names, *parts, "</svg>\n"])

@@ -1,21 +1,36 @@
-"""The free blocks of a source's file, and how many more puts they take, by docs/DISK.md ("What a command does on the disk")."""
-from ropepeach.disk_formats import MOST_ITEMS, blocks_of
-from ropepeach.disk_rules import items_of
+"""The free blocks of a source's file, and how many more puts they take, by docs/DISK.md ("What a command does
+on the disk").
+"""
+from __future__ import annotations
 
-# A touched page of more records than MOST is cut from its front into pages of CUT; a page of changes has MOST at most.
+from collections.abc import Collection, Sequence
+from typing import Any, NamedTuple
+
+from ropepeach.disk_formats import MOST_ITEMS, Entry, Page, blocks_of
+from ropepeach.disk_source import Extent, Source, items_of
+
+# A touched page of more records than MOST is cut from its front into pages of CUT; a page of changes has MOST
+# at most.
 MOST, CUT = 64, 32
 # The bytes of a page, a directory, an entry, a record and a change beside their texts.
 OF_PAGE, OF_DIRECTORY, OF_ENTRY, OF_RECORD, OF_CHANGE = 5, 63, 44, 70, 63
 
 
-def free_runs(extents, most):
-    """The runs of free blocks, each as its first block and its number of blocks."""
-    behind, found = 0, []
-    for it in extents:
-        if it.first > behind:
-            found.append((behind, it.first - behind))
-        behind = it.first + it.blocks
-    return found + ([(behind, most - behind)] if most > behind else [])
+class Run(NamedTuple):
+    """A run of blocks."""
+
+    first: int
+    blocks: int
+
+
+def free_runs(extents: Sequence[Extent], most: int) -> list[Run]:
+    """The runs of free blocks."""
+    behind, runs = 0, []
+    for extent in extents:
+        if extent.first > behind:
+            runs.append(Run(behind, extent.first - behind))
+        behind = extent.first + extent.blocks
+    return runs + ([Run(behind, most - behind)] if most > behind else [])
 
 
 class Blocks:
@@ -24,12 +39,12 @@ class Blocks:
     No run of a length is free before the block that is noted for this length.
     """
 
-    def __init__(self, extents, most):
-        self.used, self.lowest = bytearray(most), {}
-        for it in extents:
-            self.used[it.first : it.first + it.blocks] = bytes([1]) * it.blocks
+    def __init__(self, extents: Sequence[Extent], most: int) -> None:
+        self.used, self.lowest = bytearray(most), dict[int, int]()
+        for extent in extents:
+            self.used[extent.first : extent.first + extent.blocks] = bytes([1]) * extent.blocks
 
-    def taken(self, count):
+    def taken(self, count: int) -> int | None:
         """The first block of a run that is taken from now on, or None where there is none."""
         if not count:
             return 0
@@ -40,34 +55,43 @@ class Blocks:
         self.used[at : at + count] = bytes([1]) * count
         return at
 
-    def given_back(self, first, count):
+    def given_back(self, first: int, count: int) -> None:
         """Blocks are free again: a run that they are part of may be the lowest of its length."""
         self.used[first : first + count] = bytes(count)
         begin = self.used.rfind(1, 0, first) + 1
         end = self.used.find(1, first + count)
         length = (end if end >= 0 else len(self.used)) - begin
-        for it, at in self.lowest.items():
-            if it <= length and begin < at:
-                self.lowest[it] = begin
+        for asked, at in self.lowest.items():
+            if asked <= length and begin < at:
+                self.lowest[asked] = begin
+
+
+class LastPage(NamedTuple):
+    """The sizes of the items of the last page of a list, and its blocks: None where they are kept for another
+    list.
+    """
+
+    sizes: list[int]
+    run: Run | None
 
 
 class Puts:
     """Puts of new names, one after the other, each behind all names before it."""
 
-    def __init__(self, source, name, kind):
+    def __init__(self, source: Source, name: int, kind: int) -> None:
         """`name` and `kind` are the lengths of each name and of each media type."""
         self.blocks = Blocks(source.extents, source.blocks)
         self.record, self.change = OF_RECORD + name + kind, OF_CHANGE + name + kind
-        self.published = {it.entry for it in source.published}
+        self.published = {page.entry for page in source.published}
         self.listed, self.base = len(source.published), len(source.header.base)
         # The pages that a put may touch are the last ones: the sizes of their items, and where they lie.
-        self.records = page_of(source.catalogue, self.published)
-        self.changes = page_of(source.changes, ())
+        self.records = last_page(source.catalogue, self.published)
+        self.changes = last_page(source.changes, ())
         self.pages = [len(source.catalogue), len(source.changes)]
-        self.directory = source.root.directory[:2]
+        self.directory = Run(source.root.directory.first, source.root.directory.blocks)
         self.held, self.kept = len(items_of(source.catalogue)), len(items_of(source.changes))
 
-    def refusal(self, size):
+    def refusal(self, size: int) -> str | None:
         """Why one more put of this many bytes is refused, or None if it is done."""
         if self.held >= MOST_ITEMS:
             return "TooManyResources"
@@ -75,45 +99,48 @@ class Puts:
             return "TooManyChanges"
         if self.blocks.taken(blocks_of(size)) is None:
             return "Full"
-        freed = [self.directory, self.records[1], *([self.changes[1]] if len(self.changes[0]) < MOST else [])]
+        freed = [self.directory, self.records.run, *([self.changes.run] if len(self.changes.sizes) < MOST
+                                                     else [])]
         records, changes = self.touched()
-        places = [self.placed(OF_PAGE + sum(it)) for it in (*records, changes)]
-        places.append(self.placed(OF_DIRECTORY + self.base + OF_ENTRY * (sum(self.pages) + self.listed)))
-        if None in places:
+        places = [self.placed(OF_PAGE + sum(sizes)) for sizes in (*records, changes)]
+        directory = self.placed(OF_DIRECTORY + self.base + OF_ENTRY * (sum(self.pages) + self.listed))
+        if directory is None or None in places:
             return "Full"
-        self.records, self.changes, self.directory = (records[-1], places[-3]), (changes, places[-2]), places[-1]
-        for it in filter(None, freed):
-            self.blocks.given_back(*it)
+        self.records, self.changes = LastPage(records[-1], places[-2]), LastPage(changes, places[-1])
+        self.directory = directory
+        for run in filter(None, freed):
+            self.blocks.given_back(run.first, run.blocks)
         self.held, self.kept = self.held + 1, self.kept + 1
         return None
 
-    def touched(self):
+    def touched(self) -> tuple[list[list[int]], list[int]]:
         """The sizes of the items of the pages that a put writes: those of records, and that of changes."""
-        sizes, records = [*self.records[0], self.record], []
+        sizes, records = [*self.records.sizes, self.record], []
         while len(sizes) > MOST:
             records.append(sizes[:CUT])
             sizes = sizes[CUT:]
         records.append(sizes)
-        self.pages[0] += len(records) - (1 if self.records[0] else 0)
-        is_new = not 0 < len(self.changes[0]) < MOST
+        self.pages[0] += len(records) - (1 if self.records.sizes else 0)
+        is_new = not 0 < len(self.changes.sizes) < MOST
         self.pages[1] += is_new
-        return records, [self.change] if is_new else [*self.changes[0], self.change]
+        return records, [self.change] if is_new else [*self.changes.sizes, self.change]
 
-    def placed(self, length):
+    def placed(self, length: int) -> Run | None:
         """Where this many bytes are placed, or None if there is no room for them."""
         first = self.blocks.taken(blocks_of(length))
-        return None if first is None else (first, blocks_of(length))
+        return None if first is None else Run(first, blocks_of(length))
 
 
-def page_of(pages, kept):
-    """The sizes of the items of the last page, and its blocks, which are not given back while it is kept for another list."""
+def last_page(pages: Sequence[Page[Any]], kept: Collection[Entry]) -> LastPage:
+    """The last page of a list. Its blocks are not given back while it is kept for another list."""
     if not pages:
-        return [], None
+        return LastPage([], None)
     entry = pages[-1].entry
-    return [it.size for it in pages[-1].items], None if entry in kept else entry[:2]
+    return LastPage([item.size for item in pages[-1].items],
+                    None if entry in kept else Run(entry.first, entry.blocks))
 
 
-def puts_that_fit(source, size, name, kind):
+def puts_that_fit(source: Source, size: int, name: int, kind: int) -> tuple[int, str]:
     """How many puts of bodies of this many bytes fit, and by which word the next one is refused."""
     puts, count = Puts(source, name, kind), 0
     while (word := puts.refusal(size)) is None:
@@ -121,9 +148,12 @@ def puts_that_fit(source, size, name, kind):
     return count, word
 
 
-def usual_texts(source):
-    """The mean lengths of the names and of the media types that are held, rounded up, or those of docs/OPERATING.md's table."""
+def usual_texts(source: Source) -> tuple[int, int]:
+    """The mean lengths of the names and of the media types that are held, rounded up, or those of
+    docs/OPERATING.md's table.
+    """
     records = items_of(source.catalogue)
     if not records:
         return 40, 25
-    return tuple(-(-sum(map(len, it)) // len(records)) for it in ([it.name for it in records], [it.kind for it in records]))
+    names, kinds = sum(len(record.name) for record in records), sum(len(record.kind) for record in records)
+    return -(-names // len(records)), -(-kinds // len(records))

@@ -1,74 +1,68 @@
-"""The rules between what a source's file holds, by docs/DISK.md ("What an image stands for"): of the lists, the moments and the blocks.
+"""The rules between what a source's file holds, by docs/DISK.md ("What an image stands for"): of the lists,
+the moments and the blocks.
 
 The rules of each format by itself are those of disk_formats.py.
 """
-import collections
+from __future__ import annotations
+
 import itertools
+from collections.abc import Sequence
 
-from ropepeach.disk_formats import LAST_MOMENT, MOST_ITEMS, hold
-
-# No more blocks are used of any file, and the first two are the slots.
-MOST_BLOCKS, SLOTS = 8_388_608, 2
-# What a run of blocks is used for: `kind` is one of KINDS.
-Extent = collections.namedtuple("Extent", "first blocks kind")
-KINDS = "slots", "directory", "records", "changes", "published", "bodies"
+from ropepeach.disk_formats import LAST_MOMENT, MOST_ITEMS, Change, Header, Page, Record, hold
+from ropepeach.disk_source import Extent, Source, items_of
 
 
-def items_of(pages):
-    return [item for page in pages for item in page.items]
-
-
-def look_at_moments(header):
+def look_at_moments(header: Header) -> None:
     """The rules of the moments and of the dropped parts that the directory tells."""
     hold(header.last <= LAST_MOMENT, "the last moment is in the year 9999 at the latest")
     hold(header.start <= header.begin <= header.at <= header.last,
-         "the moments of formatting, of the begin of the changes, of the publication and of the last command follow in this order")
-    hold(header.first <= header.begin - header.start, "no more parts of the changes were dropped than there are milliseconds before their begin")
-    hold(header.first or header.begin == header.start, "where no part was dropped, the changes begin at the formatting")
+         "the moments of formatting, of the begin of the changes, of the publication and of the last command "
+         "follow in this order")
+    hold(header.first <= header.begin - header.start, "no more parts of the changes were dropped than there "
+                                                      "are milliseconds before their begin")
+    hold(header.first or header.begin == header.start, "where no part was dropped, the changes begin at the "
+                                                       "formatting")
 
 
-def look_at_records(header, pages, latest, what):
+def look_at_records(header: Header, pages: Sequence[Page[Record]], latest: int, what: str) -> None:
     """The rules of what is held, or of what is published."""
     records = items_of(pages)
-    hold(len(records) <= MOST_ITEMS, "{} has at most 50,000 records, and this one has {:,}", what, len(records))
+    hold(len(records) <= MOST_ITEMS, "{} has at most 50,000 records, and this one has {:,}", what,
+         len(records))
     for before, it in itertools.pairwise(records):
-        hold(before.name < it.name, "the names of {} ascend, and {} comes behind {}", what, it.name, before.name)
+        hold(before.name < it.name, "the names of {} ascend, and {} comes behind {}", what, it.name,
+             before.name)
     for it in records:
-        hold(header.start < it.moment <= latest, "the moments of {} are in their bounds, and that of {} is not", what, it.name)
+        hold(header.start < it.moment <= latest, "the moments of {} are in their bounds, and that of {} is "
+                                                 "not", what, it.name)
 
 
-def look_at_changes(header, pages):
+def look_at_changes(header: Header, pages: Sequence[Page[Change]]) -> None:
     """The rules of the changes that are kept."""
     changes = items_of(pages)
     hold(len(changes) <= MOST_ITEMS, "at most 50,000 changes are kept, and these are {:,}", len(changes))
     for before, it in itertools.pairwise(changes):
-        hold(before.moment < it.moment, "the moments of changes rise, and that of {} does not behind {}", it.name, before.name)
+        hold(before.moment < it.moment, "the moments of changes rise, and that of {} does not behind {}",
+             it.name, before.name)
     for it in changes:
-        hold(header.begin < it.moment <= header.last, "the moments of changes are in their bounds, and that of {} is not", it.name)
+        hold(header.begin < it.moment <= header.last, "the moments of changes are in their bounds, and that "
+                                                      "of {} is not", it.name)
     newest = max(header.at, changes[-1].moment if changes else 0)
-    hold(header.last == newest, "the last moment is that of the last change or of the publication, whichever is later")
+    hold(header.last == newest, "the last moment is that of the last change or of the publication, whichever "
+                                "is later")
 
 
-def extents_of(source):
-    """All used blocks, in their order: what lies where. A published page that is also one of the catalogue counts once."""
-    held = {page.entry for page in source.catalogue}
-    pages = [(page.entry, "records") for page in source.catalogue] + [(page.entry, "changes") for page in source.changes]
-    pages += [(page.entry, "published") for page in source.published if page.entry not in held]
-    found = [Extent(it.first, it.blocks, kind) for it, kind in [(source.root.directory, "directory"), *pages]]
-    found += [Extent(it.first, it.blocks, "bodies") for it in items_of(source.catalogue) if it.blocks]
-    return [Extent(0, SLOTS, "slots"), *sorted(found)]
-
-
-def look_at_blocks(extents, most):
+def look_at_blocks(extents: Sequence[Extent], most: int) -> None:
     """The rule of the used blocks: each is used once, and lies in the used part of the file."""
     behind = 0
     for it in extents:
         hold(it.first >= behind, "no two things have a block in common, and block {} is used twice", it.first)
         behind = it.first + it.blocks
-    hold(behind <= most, "all that is used lies in the {:,} blocks of the file, and something ends before block {:,}", most, behind)
+    hold(behind <= most, "all that is used lies in the {:,} blocks of the file, and something ends before "
+                         "block {:,}", most, behind)
 
 
-def look(source, extents):
+def look(source: Source, extents: Sequence[Extent]) -> None:
     """Every rule between what was read."""
     look_at_moments(source.header)
     look_at_records(source.header, source.catalogue, source.header.last, "the list of what is held")

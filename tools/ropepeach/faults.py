@@ -1,34 +1,37 @@
 """Why a command ends before its work is done: lines for the user, and the exit status."""
+from __future__ import annotations
+
+from ropepeach.statuses import Status
 
 
 def printable(text: object) -> str:
     """A text as one line of printable characters: what a terminal would act on, a line feed too, is a `?`."""
-    return "".join(it if it.isprintable() else "?" for it in str(text))
+    return "".join(character if character.isprintable() else "?" for character in str(text))
 
 
 class Fault(Exception):
-    """A run that ends early: what it did so far stands. Each argument is a line."""
+    """A run that ends early: what it did so far stays. Each argument is a line."""
 
-    status = 1
+    status: int = Status.ENDED_EARLY
 
     def __str__(self) -> str:
         return "\n".join(self.lines())
 
     def lines(self) -> list[str]:
         """What the user reads: much of it comes from elsewhere."""
-        return [printable(it) for it in self.args]
+        return [printable(line) for line in self.args]
 
 
 class Misused(Fault):
     """Arguments that make no sense."""
 
-    status = 2
+    status = Status.MISUSED
 
 
 class Unusable(Fault):
     """A file or a folder that cannot be used."""
 
-    status = 3
+    status = Status.UNUSABLE
 
 
 class Silent(Fault):
@@ -44,10 +47,6 @@ class Long(Fault):
 
 
 def lines_of(why: BaseException) -> list[str]:
-    """The lines that tell why a run ended."""
+    """The lines that say why a run ended."""
     return why.lines() if isinstance(why, Fault) else [printable(why)]
 
-
-def say(text: str) -> None:
-    """Writes a line on standard output."""
-    print(printable(text), flush=True)

@@ -1,66 +1,60 @@
 """Looks into a source's file: how full it is, what it holds, and whether it keeps the rules of docs/DISK.md.
 
-The file may be served meanwhile: it is only read, and not locked. What is printed is the state of one moment; the last line says if a
-later command was done by the end of the reading. Bodies are not read: the line `verify` of a script compares them with their digests.
+The file may be served meanwhile: it is only read, and not locked. What is printed is the state of one moment;
+the last line says if a later command was done by the end of the reading. Bodies are not read: the line
+`verify` of a script compares them with their digests.
 """
-import argparse
-import json
-import os
+from __future__ import annotations
 
-from ropepeach import disk_file, disk_picture, disk_room
-from ropepeach.disk_formats import BLOCK, LONGEST_BODY, MOST_ITEMS, Broken
-from ropepeach.disk_rules import KINDS, items_of
-from ropepeach.faults import Unusable, say
+import argparse
+import os
+from collections.abc import Iterator, Mapping, Sequence
+from typing import Any
+
+from ropepeach import disk_file, disk_room, numbers, output, room
+from ropepeach.disk_formats import BLOCK, MOST_ITEMS, Broken
+from ropepeach.disk_room import Run
+from ropepeach.disk_source import KINDS, Source, items_of
+from ropepeach.faults import Unusable
 from ropepeach.moments import moment_text
+from ropepeach.statuses import Status
 
 NAME, HELP = "look", "tell how full a source's file is, also while it is served"
-EPILOG = """exit status:
-  0    the file holds a source
-  1    it changes faster than it can be read
-  2    wrong arguments
-  3    a file can't be read or written
-  4    damaged: it breaks the rule that is named
-  5    it holds no source
-"""
-STOPPED = "stopped"
 
 
-def size(text):
-    """A number of bytes that a body may have."""
-    if not text.isdecimal() or int(text) > LONGEST_BODY:
-        raise argparse.ArgumentTypeError(f"a body has 0 to {LONGEST_BODY:,} bytes")
-    return int(text)
-
-
-def add_arguments(parser):
+def add_arguments(parser: argparse.ArgumentParser) -> None:
+    """The arguments of the command."""
     parser.add_argument("file", metavar="FILE", help="the file of a source, such as /var/lib/ropepeach/source.disk")
-    parser.add_argument("--put", type=size, metavar="SIZE", help="tell how many more puts of this many bytes fit")
+    parser.add_argument("--log", action="store_true", help="FILE is the site's log of changes: print who changed what")
+    parser.add_argument("--put", type=numbers.body_size, metavar="SIZE", help="tell how many more puts of this many bytes fit")
     parser.add_argument("--picture", metavar="FILE.svg", help="draw the map of the blocks into this file")
-    parser.add_argument("--json", action="store_true", help="tell all as one object of JSON")
 
 
-def blocks_of(source, runs):
+def blocks_of(source: Source, runs: Sequence[Run]) -> dict[str, Any]:
     """What the blocks are used for."""
-    used = {kind: sum(it.blocks for it in source.extents if it.kind == kind) for kind in KINDS}
+    used = {kind: sum(extent.blocks for extent in source.extents if extent.kind == kind) for kind in KINDS}
     total = sum(used.values())
-    longest = max((count for _, count in runs), default=0)
-    return {"all": source.blocks, "used": total, "free": source.blocks - total, "longest_free_run": longest, "of": used}
+    longest = max((run.blocks for run in runs), default=0)
+    return {"all": source.blocks, "used": total, "free": source.blocks - total, "longest_free_run": longest,
+            "of": used}
 
 
-def facts_of(path, source, put):
+def facts_of(path: str, source: Source, put: int | None) -> dict[str, Any]:
     """All facts of a source, by their names in JSON."""
-    header, held = source.header, items_of(source.catalogue)
+    header, held, status = source.header, items_of(source.catalogue), os.stat(path)
     changes = len(items_of(source.changes))
     parts = -(-changes // header.limit)
     facts = {
-        "file": path, "base": header.base, "version": source.root.version, "generation": source.root.generation,
+        "file": path, "base": header.base, "version": source.root.version,
+        "generation": source.root.generation,
         "block_size": BLOCK, "blocks": blocks_of(source, disk_room.free_runs(source.extents, source.blocks)),
-        "resources": len(held), "bytes": sum(it.length for it in held), "most_resources": MOST_ITEMS,
+        "resources": len(held), "bytes": sum(record.length for record in held), "most_resources": MOST_ITEMS,
         "changes": changes, "most_changes": MOST_ITEMS, "changes_begin": moment_text(header.begin),
         "item_limit": header.limit, "parts": parts, "first_part": header.first,
-        "publications": header.number, "published": moment_text(header.at), "published_resources": len(items_of(source.published)),
+        "publications": header.number, "published": moment_text(header.at),
+        "published_resources": len(items_of(source.published)),
         "formatted": moment_text(header.start), "last": moment_text(header.last),
-        "readings": source.tries, "changed_meanwhile": source.is_changed,
+        "readings": source.tries, "changed_meanwhile": source.is_changed, "size": status.st_size, "not_reserved": room.unreserved(status),
     }
     if put is not None:
         name, kind = disk_room.usual_texts(source)
@@ -69,29 +63,38 @@ def facts_of(path, source, put):
     return facts
 
 
-def lines_of(it):
+def lines_of(facts: Mapping[str, Any]) -> Iterator[str]:
     """The facts as lines for a person."""
-    blocks, publications = it["blocks"], it["publications"]
+    blocks, publications = facts["blocks"], facts["publications"]
     longest = blocks["longest_free_run"]
-    parts = f"{it['parts']:,} part{'s' * (it['parts'] != 1)} of up to {it['item_limit']:,}, the first is number {it['first_part']}"
-    yield f"{it['file']}: a source at {it['base']}, version {it['version']}, generation {it['generation']}"
-    yield f"blocks: {blocks['used']:,} used of {blocks['all']:,} ({blocks['used'] / blocks['all']:.1%}), {blocks['free']:,} free"
+    plural = "s" if facts["parts"] != 1 else ""
+    parts = (f"{facts['parts']:,} part{plural} of up to {facts['item_limit']:,}, "
+             f"the first is number {facts['first_part']}")
+    yield (f"{facts['file']}: a source at {facts['base']}, version {facts['version']}, "
+           f"generation {facts['generation']}")
+    share = blocks["used"] / blocks["all"]
+    yield f"blocks: {blocks['used']:,} used of {blocks['all']:,} ({share:.1%}), {blocks['free']:,} free"
     yield f"longest free run: {longest:,} blocks ({longest * BLOCK:,} bytes)"
+    if facts["not_reserved"]:
+        yield f"not reserved: {facts['not_reserved']:,} bytes (fallocate --length {facts['size']} {facts['file']})"
     yield "used for: " + ", ".join(f"{kind} {count:,}" for kind, count in blocks["of"].items())
-    yield f"resources: {it['resources']:,} of {MOST_ITEMS:,} ({it['bytes']:,} bytes)"
-    yield f"changes kept: {it['changes']:,} of {MOST_ITEMS:,}, since {it['changes_begin']}; {parts}"
-    latest = f"{publications}, the latest at {it['published']}, of {it['published_resources']:,} resources"
+    yield f"resources: {facts['resources']:,} of {MOST_ITEMS:,} ({facts['bytes']:,} bytes)"
+    yield f"changes kept: {facts['changes']:,} of {MOST_ITEMS:,}, since {facts['changes_begin']}; {parts}"
+    latest = f"{publications}, the latest at {facts['published']}, of {facts['published_resources']:,} resources"
     yield f"publications: {latest if publications else 'none'}"
-    yield f"last command: {it['last']}"
-    if put := it.get("put"):
+    yield f"last command: {facts['last']}"
+    if put := facts.get("put"):
         yield (f"puts of {put['size']:,} bytes: {put['fit']:,} more fit, then {put['then']} "
                f"(new names of {put['name']} bytes behind all others, media types of {put['type']})")
-    if it["changed_meanwhile"] or it["readings"] > 1:
-        yield f"the file changed while it was read ({it['readings']} readings); this is the state of generation {it['generation']}"
+    if facts["changed_meanwhile"] or facts["readings"] > 1:
+        yield (f"the file changed while it was read ({facts['readings']} readings); "
+               f"this is the state of generation {facts['generation']}")
 
 
-def write_picture(path, name, source, facts):
+def write_picture(path: str, name: str, source: Source, facts: Mapping[str, Any]) -> None:
     """Draws the map, in place of a file only when it is whole."""
+    from ropepeach import disk_picture
+
     blocks, beside = facts["blocks"], f"{path}.new"
     title = f"{os.path.basename(name)}, generation {facts['generation']}"
     picture = disk_picture.drawn(title, source.extents, source.blocks, blocks["longest_free_run"])
@@ -100,21 +103,21 @@ def write_picture(path, name, source, facts):
     os.replace(beside, path)
 
 
-def run(given):
+def run(arguments: argparse.Namespace) -> int:
     """Looks, and returns the exit status."""
+    if arguments.log:
+        from ropepeach import change_log
+
+        return change_log.look(arguments.file)
     try:
-        with disk_file.File(given.file) as file:
+        with disk_file.File(arguments.file) as file:
             source = file.read()
     except (Broken, disk_file.NoSource, disk_file.Moves) as why:
-        raise type(why)(f"{given.file}: {why.word}{why}") from None
+        raise type(why)(f"{arguments.file}: {why.word}{why}") from None
     except OSError as fault:
-        raise Unusable(f"{given.file}: can't be read: {fault.strerror}") from None
-    facts = facts_of(given.file, source, given.put)
-    if given.picture:
-        write_picture(given.picture, given.file, source, facts)
-    if given.json:
-        print(json.dumps(facts, indent=2))
-    else:
-        for it in lines_of(facts):
-            say(it)
-    return 0
+        raise Unusable(f"{arguments.file}: can't be read: {fault.strerror}") from None
+    facts = facts_of(arguments.file, source, arguments.put)
+    if arguments.picture:
+        write_picture(arguments.picture, arguments.file, source, facts)
+    output.results(lines_of(facts), facts)
+    return Status.DONE

@@ -1,16 +1,17 @@
-"""Tasks that some processes share. A process that began a task does all of it; each does one thing at a time."""
+"""Tasks that some processes share. A process that began a task does all of it; each does one thing at a time.
+"""
 from __future__ import annotations
 
 import collections
 import contextlib
 import multiprocessing.connection
 import resource
-import sys
 from collections.abc import Callable
 from typing import Any, Protocol
 
 from ropepeach.faults import Fault
-from ropepeach.side_by_side import ENDED, Prefixed, Sides, failed_by
+from ropepeach.side_by_side import ENDED, Sides, failed_by, works_for
+from ropepeach.statuses import Status
 
 
 class Task(Protocol):
@@ -42,7 +43,7 @@ class Pool:
         tasks: dict[str, Task] = {}
         while True:
             name, message = link.recv()
-            sys.stderr = Prefixed(name)  # type: ignore[assignment]
+            works_for(name)
             link.send(self.done(tasks, name, message))
 
     def done(self, tasks: dict[str, Task], name: str, message: Any) -> Any:
@@ -54,10 +55,12 @@ class Pool:
         except Fault as fault:
             return failed_by(fault, fault.status)
         except OSError as fault:
-            return failed_by(fault, 3)
+            return failed_by(fault, Status.UNUSABLE)
 
     def asked(self, messages: dict[str, Any]) -> dict[str, Any]:
-        """Sends each task its message, and gives what each answers, in this order. A new task goes to a process that has nothing to do."""
+        """Sends each task its message, and gives what each answers, in this order. A new task goes to a
+        process that has nothing to do.
+        """
         queues = {it: collections.deque[str]() for it in self.sides.names}
         new, answers, busy = collections.deque[str](), dict[str, Any](), dict[Any, int]()
         for name in messages:

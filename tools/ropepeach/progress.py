@@ -2,45 +2,48 @@
 from __future__ import annotations
 
 import sys
+from typing import Any
 
-from tqdm import tqdm
-
-from ropepeach.faults import printable
+from ropepeach import output
 
 # What an item costs beside its bytes, for the share and the time left.
 ITEM = 16_384
 FORMAT = "{desc} {percentage:3.0f}% |{bar}| {remaining} left{postfix}"
 
-# (without the thread that watches for bars that stand still)
-tqdm.monitor_interval = 0
 
+def bar_of(what: str, total: int) -> Any:
+    """A bar of tqdm, or nothing where none is wanted."""
+    if output.current.is_quiet or not sys.stderr.isatty():
+        return None
+    from tqdm import tqdm
 
-def tell(text: str) -> None:
-    """Writes a line on standard error, above the bar if one is shown."""
-    tqdm.write(printable(text), file=sys.stderr)
-    sys.stderr.flush()
+    # (without the thread that watches for bars that stand still)
+    tqdm.monitor_interval = 0
+    return tqdm(total=total, desc=what, bar_format=FORMAT, leave=False, file=sys.stderr, dynamic_ncols=True)
 
 
 class Progress:
-    """The bar of a number of items with their bytes: share, rate and time left. It is closed at the end of a `with` block."""
+    """The bar of a number of items with their bytes: share, rate and time left. It is closed at the end of a
+    `with` block.
+    """
 
     def __init__(self, what: str, count: int, size: int = 0) -> None:
         self.count, self.done, self.size = count, 0, 0
-        total = max(1, size + ITEM * count)
-        self.bar = tqdm(total=total, desc=what, bar_format=FORMAT, disable=None, leave=False, file=sys.stderr, dynamic_ncols=True)
+        self.bar = bar_of(what, max(1, size + ITEM * count))
 
     def __enter__(self) -> Progress:
         return self
 
     def __exit__(self, *fault: object) -> None:
-        self.bar.refresh()
-        self.bar.close()
+        if self.bar is not None:
+            self.bar.refresh()
+            self.bar.close()
 
     def add(self, count: int = 1, size: int = 0) -> None:
         """Counts items that are done, and their bytes."""
         self.done, self.size = self.done + count, self.size + size
-        if not self.bar.disable:
+        if self.bar is not None:
             rate = self.size / max(self.bar.format_dict["elapsed"], 0.001)
-            text = f"{self.done:,} of {self.count:,}, {tqdm.format_sizeof(rate, 'B/s', 1024)}"
+            text = f"{self.done:,} of {self.count:,}, {self.bar.format_sizeof(rate, 'B/s', 1024)}"
             self.bar.set_postfix_str(text, refresh=False)
             self.bar.update(ITEM * count + size)

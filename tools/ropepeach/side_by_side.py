@@ -1,7 +1,8 @@
-"""Work that goes on side by side, in a process for each source: each has one connection, and its own limits on time.
+"""Work that goes on side by side, in a process for each source: each has one connection, and its own limits
+on time.
 
-A process does what its parent sends it, and answers. It ends with its parent, also where that is killed. Its messages on standard error
-begin with its name.
+A process does what its parent sends it, and answers. It ends with its parent, also where that is killed. Its
+messages on standard error begin with its name.
 """
 from __future__ import annotations
 
@@ -15,7 +16,9 @@ import threading
 from collections.abc import Callable, Iterable
 from typing import Any, NamedTuple
 
+from ropepeach import output
 from ropepeach.faults import Fault, lines_of
+from ropepeach.statuses import Status
 
 # How long a process that is stopped may take to end, in seconds.
 ENDING = 10
@@ -35,7 +38,7 @@ class Failed(NamedTuple):
 
 
 # The answer of a process that has ended.
-ENDED = Failed(["its process has ended"], 1)
+ENDED = Failed(["its process has ended"], Status.ENDED_EARLY)
 
 
 def failed_by(why: BaseException, status: int) -> Failed:
@@ -44,7 +47,9 @@ def failed_by(why: BaseException, status: int) -> Failed:
 
 
 class Prefixed(io.TextIOBase):
-    """Standard error of one of several processes: whole lines, each behind a name. It is no terminal, so no bar is shown."""
+    """Standard error of one of several processes: whole lines, each behind a name. It is no terminal, so no
+    bar is shown.
+    """
 
     def __init__(self, name: object) -> None:
         self.name, self.rest = name, ""
@@ -56,8 +61,16 @@ class Prefixed(io.TextIOBase):
         return len(text)
 
 
+def works_for(name: object) -> None:
+    """Puts a name before the messages of this process from now on."""
+    sys.stderr = Prefixed(name)  # type: ignore[assignment]
+    output.current.source = str(name)
+
+
 class Sides:
-    """A process for each name. `work(name, link)` is what it does; `link` has `recv` and `send`. They end with the `with` block."""
+    """A process for each name. `work(name, link)` is what it does; `link` has `recv` and `send`. They end
+    with the `with` block.
+    """
 
     def __init__(self, names: Iterable[Any], work: Callable[[Any, Any], None]) -> None:
         self.names, self.work = list(names), work
@@ -97,7 +110,7 @@ class Sides:
         for it in self.links.values():
             it.close()
         threading.Thread(target=lambda: (os.read(self.life, 1), os._exit(1)), daemon=True).start()
-        sys.stderr = Prefixed(name)  # type: ignore[assignment]
+        works_for(name)
         # (where it has no one to answer, its parent has left)
         with contextlib.suppress(EOFError, BrokenPipeError):
             try:
@@ -107,7 +120,7 @@ class Sides:
             except (BrokenPipeError, EOFError):
                 raise
             except OSError as fault:
-                link.send(failed_by(fault, 3))
+                link.send(failed_by(fault, Status.UNUSABLE))
 
     def heard(self, name: Any) -> Any:
         """What a process says next: a value, or why it failed."""

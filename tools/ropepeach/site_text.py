@@ -44,13 +44,32 @@ TLS = """
     {mark}ssl_client_certificate {depositors};
     {mark}ssl_verify_client      optional;
 """
+RULES = """# What each certificate may change: the path as it was sent, and the subject of the certificate behind it. Who may change all may publish, too.
+map "$rp_{word}_asked $ssl_client_s_dn" $rp_{word}_may {{
+    default  0;
+{lines}}}
+
+map "$request_method $rp_{word}_near $rp_{word}_may" $rp_{word}_barred {{
+    default          1;
+    "~^(GET|HEAD) "  0;
+    "~^[A-Z]+ 1 "    0;
+    "~^[A-Z]+ 0 1$"  0;
+}}
+
+"""
+RULED = """    if ($rp_{word}_barred) {{
+        return 403;
+    }}
+"""
+# What a rule may have: what nginx and its patterns take as it stands, once it is escaped.
+SUBJECT, PREFIX = re.compile(r"[A-Za-z0-9 =,.@_/:+()'#&~*-]{1,256}"), re.compile(r"[A-Za-z0-9._~!&'()*+,=:@%/-]{0,240}")
 WHOLE_LINK = '</.well-known/resourcesync>; rel="resourcesync"'
 SOURCE_LINK = '</capabilitylist.xml>; rel="resourcesync"'
 
 
 @dataclass(frozen=True)
 class Served:
-    """A source behind a site: the name of its upstream, where its program listens, and the path of its base, if there is one."""
+    """A source behind a site: the name of its upstream, where its program listens, and the path of its base."""
 
     upstream: str
     place: str
@@ -59,11 +78,32 @@ class Served:
 
 @dataclass(frozen=True)
 class Tls:
-    """The files of TLS: a certificate, its key, and the authority whose clients may change a source, if there is one."""
+    """The files of TLS: a certificate, its key, and the authority whose clients may change a source."""
 
     certificate: str
     key: str
     depositors: str = ""
+
+
+@dataclass(frozen=True)
+class Rule:
+    """What the certificate of a subject may change: names with a prefix, or everything, if the prefix is empty."""
+
+    subject: str
+    prefix: str
+
+    def fault(self) -> str:
+        """Why nginx could not take this rule as it stands, or nothing."""
+        if not SUBJECT.fullmatch(self.subject):
+            return f"{self.subject!r}: a subject is as nginx has it, such as CN=alice,O=Library, of letters, digits and  =,.@_/:+()'#&~*-"
+        if not PREFIX.fullmatch(self.prefix):
+            return f"{self.prefix!r}: a prefix is that of names, such as papers/, as they are sent"
+        return ""
+
+    def line(self) -> str:
+        """The line of a map of nginx."""
+        path = rf"/resource/{re.escape(self.prefix)}[^ ]+" if self.prefix else "/[^ ]*"
+        return f'    "~^[^/ ]+{path} {re.escape(self.subject)}$"  1;\n'
 
 
 @dataclass(frozen=True)
@@ -78,6 +118,7 @@ class Site:
     near: tuple[str, ...] = LOOPBACK
     tls: Tls | None = None
     description: str = ""
+    rules: tuple[Rule, ...] = ()
 
     def address(self) -> str:
         """The address of the host."""
@@ -94,11 +135,14 @@ class Site:
         inner = strict and f"    {strict}"
         is_whole, described = bool(self.description), ""
         if is_whole:
-            described = DESCRIPTION.format(file=self.description, strict=inner, word=self.word(), link=WHOLE_LINK)
+            described = DESCRIPTION.format(file=self.description, strict=inner, word=self.word(),
+                                           link=WHOLE_LINK)
         return {
             "head": "\n".join(f"# {it}" for it in self.head.splitlines()),
             "name": self.name,
             "word": self.word(),
+            "rules": RULES.format(word=self.word(), lines="".join(rule.line() for rule in self.rules)) if self.rules else "",
+            "ruled": RULED.format(word=self.word()) if self.rules else "",
             "near": "".join(f"    {it:<14}1;\n" for it in self.near),
             "paths": "".join(self.path_of(it) for it in self.sources),
             "keys": "16m" if is_whole else "4m",
@@ -112,7 +156,8 @@ class Site:
             "strict": strict,
             "strict_in": inner,
             "links": WHOLE_LINK if is_whole else f"{SOURCE_LINK}, {WHOLE_LINK}",
-            "sitemaps": "".join(f"Sitemap: {self.address()}{it.path}/resourcelist.xml\\n" for it in self.sources),
+            "sitemaps": "".join(f"Sitemap: {self.address()}{it.path}/resourcelist.xml\\n"
+                                for it in self.sources),
             "description": described,
             "bodies": str(BODIES),
         }
