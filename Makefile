@@ -14,21 +14,10 @@
 #                 scripts and REQUESTS=100000 requests of that kind ('make test' has short forms)
 #   make ends     makes each read and each write of scripts and requests fail in turn ('make test' has a short form)
 #   make memory   refuses each growth of memory of the program in turn, in scripts and in requests
-#   make mirror   mirrors sources that change and are killed meanwhile, ROUNDS=200 of them ('make test' has three)
 #   make system   looks at the calls, the edges, the sizes and the like of the program; 'make tests.system.calls' at the calls alone
-#   make tools    fills, mirrors and looks by the command `ropepeach`, also sources that lie, and through the site of nginx
-#   make operate  looks at what is installed beside the program: the page, the units, the site (mandoc, systemd-analyze, strace, nginx, openssl)
-#   make package  packs the proved program and the tools for Debian, with SHA256SUMS and PROVED, in out/package
-#   make image    makes an image for containers of the packages of `make package`, in out/image (as root, with debootstrap and umoci)
-#   make machine  boots a whole Debian with the packages, and kills it (as root, with debootstrap and systemd-nspawn)
-#   make page     looks at the page of install/site in headless Chromium and Firefox, through the site of nginx
-#   make million  fills, mirrors, changes and grows RESOURCES=1000000 resources of 1 KiB in SOURCES=24 sources (some 12 GB in /tmp;
-#                 'make test' has 20,000 in 4)
 #   make powercut cuts the power below ext4, XFS and btrfs, on a device whose writes are logged, IMAGES=20000 images (as root, with FUSE and
 #                 loop devices; 'make test' has a short form)
 #   make snapshots  opens snapshots that are taken while a source is put to (as root, with loop devices; 'make test' has it not)
-#   make replicas three machines on one kernel with a CephFS over them: a source goes from one to another as they die, REPLICA_ROUNDS=200
-#                 times, and stores that lose are seen to lose (as root, with packages.txt's `replicas`; 'make test' has a short form)
 #   make long     runs all of these long forms (tests/long.txt) and tries all must-fail edits, and says what each took
 #   make rust     writes the sources as plain Rust, a Cargo workspace and its tarball, into out/rust (rust/README.md)
 #   make twins    builds that too, and gives both programs the same CASES=1000000 lines, disks, requests and command lines
@@ -36,29 +25,24 @@
 #   make bench    measures speed (docs/keepers/BENCH.md has figures; it needs wrk, lighttpd and python3-lmdb of Debian)
 #   make bench-more  measures what changes seldom: digests, `verify`, the writing of lists, and list makers that are killed (it needs jekyll)
 #   make proof-times  tells what each part of the proofs of CRATES="rs_io rs_time" took
-#   make install  puts the built program, its pages of the manual, its units, its site and its tools in their places (PREFIX, DESTDIR;
-#                 package/places.py, docs/OPERATING.md)
-#   make uninstall  takes them away again, and leaves every source as it is
+# The targets of what stands around the program are in operations/Makefile.
 
 SCRIPT ?= examples/first.script
 BASE ?= http://127.0.0.1:8080
 RT ?= rt
 CRATES ?=
 PROMISE ?=
-PREFIX ?= /usr/local
-DESTDIR ?=
 PROGRAM ?= crates/rs_source/out/rs_source
-# The checks of tests/system that have no target of their own, and those of tests/tools (tests/checks.txt).
-SYSTEM = $(filter-out tests.system.install,$(shell python3 -m tests.checks --below tests.system))
-TOOL_CHECKS = $(shell python3 -m tests.checks --below tests.tools)
+# The checks of tests/system that have no target of their own, and those of operations/tests/tools (tests/checks.txt).
+SYSTEM = $(filter-out operations.tests.system.install,$(shell python3 -m tests.checks --below tests.system))
 # How many go side by side: checks of edits, if not as many as there are processors and memory for. (`make replicas` reads it too.)
 LANES ?=
 
-.PHONY: demo test quick long setup edits build rows statement bench bench-more proof-times memory ends crash hostile mirror system tools operate package image machine page million powercut replicas snapshots rust twins pictures install uninstall
+.PHONY: demo test quick long setup edits build rows statement bench bench-more proof-times memory ends crash hostile system powercut snapshots rust twins pictures
 
 # Quick, and no more than an unproved build.
 demo:
-	@RT=$(RT) python3 tools/demo $(SCRIPT) $(BASE)
+	@RT=$(RT) python3 examples/demo $(SCRIPT) $(BASE)
 
 test:
 	@python3 gate/gate.py
@@ -82,7 +66,7 @@ edits:
 # The proved program, its crates side by side; its path is printed last.
 build:
 	@python3 gate/build.py
-	@python3 -B -m package.stamp crates/rs_source/out/rs_source
+	@python3 -B -m operations.package.stamp crates/rs_source/out/rs_source
 
 rows: build
 	@python3 -m tests.rows
@@ -125,41 +109,11 @@ crash: build
 hostile: build
 	@python3 gate/long.py hostile.disks hostile.lines hostile.requests
 
-mirror: build
-	@python3 gate/long.py mirror
-
 system: build
 	@for it in $(SYSTEM); do python3 -m $$it || exit 1; done
 
-tools: build
-	@for it in $(TOOL_CHECKS); do python3 -m $$it || exit 1; done
-
-operate: build
-	@python3 -m tests.system.install
-
-# The Debian packages of the proved program and of its tools.
-package: build
-	@python3 -m package
-
-# The image for containers, of those packages.
-image: package
-	@python3 -m image out/package/*.deb
-
-machine: build
-	@python3 -m tests.machine
-
-page: build
-	@python3 -m tests.page
-
-million: build
-	@python3 gate/long.py collection
-
 powercut: build
 	@python3 gate/long.py powercut
-
-# (it ends all that it starts, also where it is stopped)
-replicas: build
-	@python3 gate/long.py replicas
 
 snapshots: build
 	@python3 gate/long.py system.snapshots
@@ -171,18 +125,13 @@ twins: build
 	@python3 gate/long.py twins
 
 # One check alone, as `make tests.system.calls`.
-tests.%: build
+tests.% operations.tests.%: build
 	@python3 -m $@
 
 pictures: build
 	@python3 -m tests.pictures --draw
-	@python3 -m tests.mirror.pictures --draw
-	@python3 -m tests.page --pictures
+	@python3 -m operations.tests.mirror.pictures --draw
+	@python3 -m operations.tests.page --pictures
 
-# What `make build` made, and what stands beside it (package/places.py). It proves and builds nothing, so that it can run as root.
-install:
-	@test -x $(PROGRAM) || { echo "there is no program yet: make build" >&2; exit 1; }
-	@python3 -B -m package.places install "$(PROGRAM)" "$(PREFIX)" "$(DESTDIR)"
-
-uninstall:
-	@python3 -B -m package.places uninstall "$(PROGRAM)" "$(PREFIX)" "$(DESTDIR)"
+# What stands around the program: tools, units, the site, packages, and their checks.
+include operations/Makefile

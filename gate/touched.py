@@ -8,7 +8,7 @@ from pathlib import Path
 from tests.table import Check
 
 # Where packages lie that are imported by their own name.
-ELSEWHERE = {"ropepeach": "tools"}
+ELSEWHERE = {"ropepeach": "operations"}
 
 
 def changed(root: Path) -> list[str]:

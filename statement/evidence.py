@@ -17,7 +17,7 @@ KINDS = {
     "law": ("a proved law: the definition in other words, what it is for, or that it leaves no other value", r"crates/\w+/src/.*\.rt$"),
     "python": (
         "the same, said apart in Python, and compared with what the proved program answers or writes",
-        r"(tests|tools|bench)/(\w+/)*\w+\.py$",
+        r"(tests|operations|bench)/(\w+/)*\w+\.py$",
     ),
     "row": ("a worked row, which the proved program answers byte for byte", r"tests/rows/\w+$"),
     "test": ("values from outside, in a test of the code that is proved equal to the definition", r"crates/\w+_tests/src/\w+\.rt$"),

@@ -11,7 +11,7 @@ ROOT = pathlib.Path(__file__).resolve().parent.parent
 PROGRAM = pathlib.Path(os.environ.get("PROGRAM") or "crates/rs_source/out/rs_source")
 PROGRAM = PROGRAM if PROGRAM.is_absolute() else ROOT / PROGRAM
 # The commands that are installed beside it.
-TOOLS = ROOT / "tools"
+TOOLS = ROOT / "operations"
 # A source in memory, of 64 KiB and an item limit of 2.
 MEMORY = ["mem", "65536", "http://127.0.0.1:8080", "2"]
 # 2000-02-29T00:00:00.000Z

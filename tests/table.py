@@ -9,7 +9,7 @@ from string import Template
 from tests.program import ROOT
 
 # The packages that have checks. Each has a table of them, and a page that is made from it (checks.py).
-ROOMS = ("tests",)
+ROOMS = ("tests", "operations.tests")
 TABLE, LONG, PAGE = "checks.txt", "long.txt", "README.md"
 FORMS = ("whole", "short", "never")
 

@@ -42,7 +42,8 @@ class Copying(unittest.TestCase):
         self.assertEqual(CODE[found[2].start : found[2].end].strip().split("\n")[1].strip(), "if a < b { a } else { b }")
         text = "impl<T: Disk> Disk for Box<T> {\n    fn read(&self) {}\n}\nimpl Used {\n    fn take(&self) {}\n}\nfn take() {}\n"
         symbols = ["a::m::BoxTDisk::read", "a::m::n::Used::take", "a::m::take", "a::take"]
-        self.assertEqual([functions.symbol_of("src/m.rt", it, symbols) for it in functions.functions_of(text)][1:], ["a::m::n::Used::take", "a::m::take"])
+        found = [functions.symbol_of("src/m.rt", it, symbols) for it in functions.functions_of(text)]
+        self.assertEqual(found[1:], ["a::m::n::Used::take", "a::m::take"])
         self.assertEqual(self.edit("u16::from(x) + 1", "u16::from(x) + 2").symbols, {"sample::next"})
         self.assertEqual(self.edit("result ≤ a", "result ≤ b", "smaller").symbols, set())
 

@@ -20,13 +20,13 @@ import runs
 RAN, FAILED = text("told_by_rt_ci"), "== high\nof high\nrt: high NOT PROVED\nwhat else failed\n"
 # Checks that need more than Python.
 WITH_TOOLS = """
-tests.page
-tests.collection
-tests.machine
-tests.tools.served
+operations.tests.page
+operations.tests.collection
+operations.tests.machine
+operations.tests.tools.served
 tests.system.tour
 tests.powercut
-tests.replicas
+operations.tests.replicas
 """.split()
 
 
@@ -142,9 +142,9 @@ class Parts(unittest.TestCase):
             self.assertTrue(place.with_suffix(".py").is_file() or (place / "__main__.py").is_file(), check.name)
 
     def test_what_has_no_tool_is_told_by_name(self):
-        """The look at install/ with no tool but the shell: what needs one says so, and fails nothing."""
+        """The look at operations/install/ with no tool but the shell: what needs one says so, and fails nothing."""
         with tempfile.TemporaryDirectory() as room:
-            words = [sys.executable, "-m", "tests.system.install", "/bin/true", "the_page_is_clean", "the_page_has_every_word"]
+            words = [sys.executable, "-m", "operations.tests.system.install", "/bin/true", "the_page_is_clean", "the_page_has_every_word"]
             ran = subprocess.run(words, cwd=gate.ROOT, env={"PATH": room}, capture_output=True, text=True)
         self.assertRegex(ran.stdout, r"the_page_is_clean: NOT TRIED, as there is no mandoc here\n(?s:.*)not tried, 1\n")
 

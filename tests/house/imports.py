@@ -16,7 +16,7 @@ from tests.program import ROOT
 from tests.table import PAGE, ROOMS, folder
 
 # The package that is imported by its own name, and all folders that are looked at.
-PACKAGE = ROOT / "tools/ropepeach"
+PACKAGE = ROOT / "operations/ropepeach"
 FOLDERS = [PACKAGE, ROOT / "bench", *map(folder, ROOMS)]
 FILES = [it for folder in FOLDERS for it in sorted(folder.rglob("*.py"))]
 

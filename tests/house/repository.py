@@ -8,8 +8,8 @@ from pathlib import Path
 
 SOURCES = ["crates/*/src/**/*.rt", "crates/*/specs/**/*.antt", "crates/*/proofs/*.antt", "crates.txt", "packages.txt"]
 SOURCES += ["tests/house/words.txt", "statement/kit_words.txt", "Makefile", "operations/Makefile", "examples/*"]
-SOURCES += ["tools/*", "install/*", "install/site/*", "debian/*", "pyproject.toml", "MANIFEST.in"]
-SOURCES += [f"{folder}/**/*.py" for folder in ("bench", "gate", "package", "rust", "statement", "tests", "tools")]
+SOURCES += ["operations/*", "operations/install/*", "operations/install/site/*", "debian/*", "pyproject.toml", "MANIFEST.in"]
+SOURCES += [f"{folder}/**/*.py" for folder in ("bench", "gate", "operations", "rust", "statement", "tests")]
 # The files that have targets of `make`.
 MAKEFILES = ["Makefile", "operations/Makefile"]
 SOURCES += ["rust/*/src/*.rs", "rust/*/Cargo.toml"]

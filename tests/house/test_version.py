@@ -9,8 +9,8 @@ sys.path[:0] = [str(Path(__file__).resolve().parents[2] / "gate" / it) for it in
 
 import gate
 
-PLACES = {"CHANGELOG.md": r"(?m)^## \[(.*?)\]", "install/rs_source.8": r"(?m)^This page is that of Ropepeach (\S+)\.$",
-          "tools/ropepeach/__init__.py": r'(?m)^__version__ = "(.*)"$', "debian/changelog": r"\Aropepeach \((\S+)\)"}
+PLACES = {"CHANGELOG.md": r"(?m)^## \[(.*?)\]", "operations/install/rs_source.8": r"(?m)^This page is that of Ropepeach (\S+)\.$",
+          "operations/ropepeach/__init__.py": r'(?m)^__version__ = "(.*)"$', "debian/changelog": r"\Aropepeach \((\S+)\)"}
 
 
 class Version(unittest.TestCase):

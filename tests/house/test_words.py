@@ -11,7 +11,7 @@ from tests.house.repository import Repository
 ROOT = Path(__file__).resolve().parents[2]
 
 FILES = {
-    **{"Makefile": "test build:\n\techo\n", "tools/send": "--short\n", "tests/crash/__main__.py": "", "docs/PLAN.md": ""},
+    **{"Makefile": "test build:\n\techo\n", "operations/send": "--short\n", "tests/crash/__main__.py": "", "docs/PLAN.md": ""},
     "crates/rs_a/src/lib.rt": "pub fn other()\n    ensures none { result ≡ 0 }\n/// `lost_word`\npub fn find(\n    at: u64,\n    n: u32,\n) -> Run"
                               "  requires { n ≤ at }\n    // Why.\n    ensures found { IsFree at (n + 1)\n  (length bytes) }\n{\n    0\n}\n",
     "crates/rs_a/specs/Runs.antt": "IsFree at n = n ≤ at\n",
@@ -28,7 +28,7 @@ pub fn find(at: u64, n: u32) -> Run
     // What it finds.
     ensures found { IsFree at .. (length bytes) }
 ```
-`make test`, `tools/send --short`, `python3 -m tests.crash`, `curl --silent`, 2 words.
+`make test`, `operations/send --short`, `python3 -m tests.crash`, `curl --silent`, 2 words.
 """
 FIGURES = """Blocks of 512 bytes, and no more than 4 GiB are used. Its blocks, at most 8,388,608. The item limit is 2 to 4,000. A name has 1 to 240
 bytes. A base has 8 to 128 bytes. `TooLong`: a body of more than 16,777,216 bytes. At most 50,000 resources, at most 50,000 changes, 25,000 parts.

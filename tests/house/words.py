@@ -2,7 +2,7 @@
 
   - A clause or signature in a block of Rust stands so in the code of the page's crate (for docs/: of any), within the function quoted before
     it. White space and comments do not count. `..` marks what is cut, with the brackets that it leaves open; so does `(.. words ..)`.
-  - A word in backticks is a word of the sources: code, definitions and proofs without their comments, Python, Makefile, install/, names of
+  - A word in backticks is a word of the sources: code, definitions and proofs without their comments, Python, Makefile, operations/install/, names of
     files, crates.txt, packages.txt, statement/kit_words.txt (the kit's), tests/house/words.txt (the world's). Of a text of letters, digits and
     `_ : . < > ( )` alone, each name counts, but for digests and what begins with a digit; of any other text, each name with `_` or a capital
     within, but for paths and options. A word in capitals alone is a placeholder. A word at the front of a line of a crate's "Its
@@ -27,9 +27,9 @@ STRANGE = Path(__file__).with_name("strange.txt")
 # What is found on a page: where, and what is wrong.
 Found = Iterator[tuple[int, str]]
 CLAUSE, CUT = r"^ *(?:pub |fn |requires\b|ensures\b)", r"(?:(?!\b(?:ensures|requires|fn)\b)[\s\S])*?"
-FILE = re.compile(r"(?<![\w/.:~%-])(?:(?:crates|docs|tests|tools|gate|statement|bench|examples|install|operations|specs|src|proofs|must-fail)/[\w./*-]*"
+FILE = re.compile(r"(?<![\w/.:~%-])(?:(?:crates|docs|tests|gate|statement|bench|examples|install|operations|specs|src|proofs|must-fail)/[\w./*-]*"
                   r"|[\w*-]+(?:/[\w*-]+)*\.(?:md|py|rt|antt|sh|svg|session|disks|edit|txt|http))(?![\w/])")
-OURS = re.compile(r"\brs_source\b|\bmake\b|\b(?:tools|gate|statement|operations)/|\b(?:tests|bench)\.\w|^--"
+OURS = re.compile(r"\brs_source\b|\bmake\b|\b(?:gate|statement|operations)/|\b(?:tests|bench)\.\w|^--"
                   r"|\bropepeach (?:fill|mirror|look|size|why|health|collection|grow|takeover)\b")
 
 

@@ -1,0 +1,1 @@
+"""What stands around the proved program: the command `ropepeach`, units, the site, packages, and their checks (README.md)."""

@@ -1,0 +1,79 @@
+// Names and types as people read them. Lists have names percent-encoded; here they are decoded where that is safe.
+
+// What cannot be seen, or changes how the text around it is shown: controls, marks of direction, blanks other than
+// the space, characters without a meaning of their own.
+const UNSAFE = /(?! )[\p{C}\p{Z}\p{Default_Ignorable_Code_Point}]/u;
+const EACH_UNSAFE = new RegExp(UNSAFE, "gu");
+// A name that reads the same decoded.
+const PLAIN = /^[ -$&-~]*$/;
+const ESCAPES = /(?:%[0-9A-Fa-f]{2})+/g;
+// These stay escapes: two names never look the same because one has `%41` where the other has `A`.
+const STAYS = /[A-Za-z0-9._~!$&'()*+,;=:@/%-]/;
+// A name that a mirror takes (operations/docs/DESTINATIONS.md): segments, none of which is `.` or `..`.
+const SEGMENT = "(?!\\.{1,2}(?:/|$))(?:[A-Za-z0-9._~!$&'()*+,;=:@-]|%[0-9A-Fa-f]{2})+";
+const LAWFUL = new RegExp(`^${SEGMENT}(?:/${SEGMENT})*$`);
+const LONGEST = 240;
+const utf8 = new TextDecoder("utf-8", { fatal: true, ignoreBOM: true });
+const bytes = new TextEncoder();
+
+/**
+ * How a name is shown. It is marked where it stays encoded: its bytes are not UTF-8, or decode to what is not safe.
+ * @param {string} name
+ * @returns {{text: string, isMarked: boolean}}
+ */
+export function readable(name) {
+  if (PLAIN.test(name)) return { text: name, isMarked: false };
+  if (UNSAFE.test(name)) return { text: plain(name), isMarked: true };
+  const text = decoded(name);
+  return text === null || UNSAFE.test(text) ? { text: name, isMarked: true } : { text, isMarked: false };
+}
+
+/**
+ * A text of a source with what is not safe encoded.
+ * @param {string} text
+ */
+export function plain(text) {
+  return UNSAFE.test(text) ? text.replace(EACH_UNSAFE, escapesOf) : text;
+}
+
+/**
+ * Whether a mirror takes a name.
+ * @param {string} name
+ */
+export function isLawful(name) {
+  return name.length <= LONGEST && LAWFUL.test(name);
+}
+
+/**
+ * A text as it is searched: in one form of Unicode, in lower case.
+ * @param {string} text
+ */
+export function searchable(text) {
+  return text.normalize("NFC").toLowerCase();
+}
+
+/** The escapes of a text's bytes. */
+function escapesOf(text) {
+  return Array.from(bytes.encode(text), (it) => `%${it.toString(16).toUpperCase().padStart(2, "0")}`).join("");
+}
+
+/** A name decoded, or null where its escapes are not UTF-8. */
+function decoded(name) {
+  try {
+    return name.replace(ESCAPES, textOf);
+  } catch {
+    return null;
+  }
+}
+
+/** The text of escapes that follow each other. */
+function textOf(escapes) {
+  const text = utf8.decode(Uint8Array.from(escapes.slice(1).split("%"), (it) => Number.parseInt(it, 16)));
+  let [shown, at] = ["", 0];
+  for (const character of text) {
+    const end = at + 3 * bytes.encode(character).length;
+    shown += STAYS.test(character) ? escapes.slice(at, end) : character;
+    at = end;
+  }
+  return shown;
+}

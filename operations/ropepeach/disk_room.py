@@ -1,0 +1,159 @@
+"""The free blocks of a source's file, and how many more puts they take, by docs/DISK.md ("What a command does
+on the disk").
+"""
+from __future__ import annotations
+
+from collections.abc import Collection, Sequence
+from typing import Any, NamedTuple
+
+from ropepeach.disk_formats import MOST_ITEMS, Entry, Page, blocks_of
+from ropepeach.disk_source import Extent, Source, items_of
+
+# A touched page of more records than MOST is cut from its front into pages of CUT; a page of changes has MOST
+# at most.
+MOST, CUT = 64, 32
+# The bytes of a page, a directory, an entry, a record and a change beside their texts.
+OF_PAGE, OF_DIRECTORY, OF_ENTRY, OF_RECORD, OF_CHANGE = 5, 63, 44, 70, 63
+
+
+class Run(NamedTuple):
+    """A run of blocks."""
+
+    first: int
+    blocks: int
+
+
+def free_runs(extents: Sequence[Extent], most: int) -> list[Run]:
+    """The runs of free blocks."""
+    behind, runs = 0, []
+    for extent in extents:
+        if extent.first > behind:
+            runs.append(Run(behind, extent.first - behind))
+        behind = extent.first + extent.blocks
+    return runs + ([Run(behind, most - behind)] if most > behind else [])
+
+
+class Blocks:
+    """Which blocks are free. Who asks for some is given the lowest run of that length.
+
+    No run of a length is free before the block that is noted for this length.
+    """
+
+    def __init__(self, extents: Sequence[Extent], most: int) -> None:
+        self.used, self.lowest = bytearray(most), dict[int, int]()
+        for extent in extents:
+            self.used[extent.first : extent.first + extent.blocks] = bytes([1]) * extent.blocks
+
+    def taken(self, count: int) -> int | None:
+        """The first block of a run that is taken from now on, or None where there is none."""
+        if not count:
+            return 0
+        at = self.used.find(bytes(count), self.lowest.get(count, 0))
+        self.lowest[count] = len(self.used) if at < 0 else at
+        if at < 0:
+            return None
+        self.used[at : at + count] = bytes([1]) * count
+        return at
+
+    def given_back(self, first: int, count: int) -> None:
+        """Blocks are free again: a run that they are part of may be the lowest of its length."""
+        self.used[first : first + count] = bytes(count)
+        begin = self.used.rfind(1, 0, first) + 1
+        end = self.used.find(1, first + count)
+        length = (end if end >= 0 else len(self.used)) - begin
+        for asked, at in self.lowest.items():
+            if asked <= length and begin < at:
+                self.lowest[asked] = begin
+
+
+class LastPage(NamedTuple):
+    """The sizes of the items of the last page of a list, and its blocks: None where they are kept for another
+    list.
+    """
+
+    sizes: list[int]
+    run: Run | None
+
+
+class Puts:
+    """Puts of new names, one after the other, each behind all names before it."""
+
+    def __init__(self, source: Source, name: int, kind: int) -> None:
+        """`name` and `kind` are the lengths of each name and of each media type."""
+        self.blocks = Blocks(source.extents, source.blocks)
+        self.record, self.change = OF_RECORD + name + kind, OF_CHANGE + name + kind
+        self.published = {page.entry for page in source.published}
+        self.listed, self.base = len(source.published), len(source.header.base)
+        # The pages that a put may touch are the last ones: the sizes of their items, and where they lie.
+        self.records = last_page(source.catalogue, self.published)
+        self.changes = last_page(source.changes, ())
+        self.pages = [len(source.catalogue), len(source.changes)]
+        self.directory = Run(source.root.directory.first, source.root.directory.blocks)
+        self.held, self.kept = len(items_of(source.catalogue)), len(items_of(source.changes))
+
+    def refusal(self, size: int) -> str | None:
+        """Why one more put of this many bytes is refused, or None if it is done."""
+        if self.held >= MOST_ITEMS:
+            return "TooManyResources"
+        if self.kept >= MOST_ITEMS:
+            return "TooManyChanges"
+        if self.blocks.taken(blocks_of(size)) is None:
+            return "Full"
+        freed = [self.directory, self.records.run, *([self.changes.run] if len(self.changes.sizes) < MOST
+                                                     else [])]
+        records, changes = self.touched()
+        places = [self.placed(OF_PAGE + sum(sizes)) for sizes in (*records, changes)]
+        directory = self.placed(OF_DIRECTORY + self.base + OF_ENTRY * (sum(self.pages) + self.listed))
+        if directory is None or None in places:
+            return "Full"
+        self.records, self.changes = LastPage(records[-1], places[-2]), LastPage(changes, places[-1])
+        self.directory = directory
+        for run in filter(None, freed):
+            self.blocks.given_back(run.first, run.blocks)
+        self.held, self.kept = self.held + 1, self.kept + 1
+        return None
+
+    def touched(self) -> tuple[list[list[int]], list[int]]:
+        """The sizes of the items of the pages that a put writes: those of records, and that of changes."""
+        sizes, records = [*self.records.sizes, self.record], []
+        while len(sizes) > MOST:
+            records.append(sizes[:CUT])
+            sizes = sizes[CUT:]
+        records.append(sizes)
+        self.pages[0] += len(records) - (1 if self.records.sizes else 0)
+        is_new = not 0 < len(self.changes.sizes) < MOST
+        self.pages[1] += is_new
+        return records, [self.change] if is_new else [*self.changes.sizes, self.change]
+
+    def placed(self, length: int) -> Run | None:
+        """Where this many bytes are placed, or None if there is no room for them."""
+        first = self.blocks.taken(blocks_of(length))
+        return None if first is None else Run(first, blocks_of(length))
+
+
+def last_page(pages: Sequence[Page[Any]], kept: Collection[Entry]) -> LastPage:
+    """The last page of a list. Its blocks are not given back while it is kept for another list."""
+    if not pages:
+        return LastPage([], None)
+    entry = pages[-1].entry
+    return LastPage([item.size for item in pages[-1].items],
+                    None if entry in kept else Run(entry.first, entry.blocks))
+
+
+def puts_that_fit(source: Source, size: int, name: int, kind: int) -> tuple[int, str]:
+    """How many puts of bodies of this many bytes fit, and by which word the next one is refused."""
+    puts, count = Puts(source, name, kind), 0
+    while (word := puts.refusal(size)) is None:
+        count += 1
+    return count, word
+
+
+def usual_texts(source: Source) -> tuple[int, int]:
+    """The mean lengths of the names and of the media types that are held, rounded up, or those of
+    operations/docs/OPERATING.md's table.
+    """
+    records = items_of(source.catalogue)
+    if not records:
+        return 40, 25
+    names, kinds = sum(len(record.name) for record in records), sum(len(record.kind) for record in records)
+    return -(-names // len(records)), -(-kinds // len(records))

@@ -1,0 +1,279 @@
+"""Tells why the program says `Device`: what is in the way of opening FILE, and of listening on PORT.
+
+It names one cause, the first that the program meets, and what to do. It opens the file as the program's user
+would, and takes the lock and the port for a moment if nobody has them; it writes and syncs nothing. The unit
+of the program has limits of its own: it may write its own folder alone, and listen on its own port alone.
+"""
+from __future__ import annotations
+
+import argparse
+import errno
+import fcntl
+import os
+import pathlib
+import pwd
+import re
+import socket
+import stat
+from collections.abc import Callable
+
+from ropepeach import numbers, output, room
+from ropepeach.faults import Misused, Unusable
+from ropepeach.processes import Processes
+from ropepeach.statuses import Status
+
+NAME, HELP = "why", "tell why the program says Device: what is in the way of a file and a port"
+USER = "ropepeach"
+# What the longest command may write beside the old, about: a body, pages and a directory.
+COMMAND = 17 * 1_048_576
+KINDS = {stat.S_ISFIFO: "a named pipe", stat.S_ISSOCK: "a socket", stat.S_ISBLK: "a block device",
+         stat.S_ISCHR: "a device"}
+
+
+class Cause(Exception):
+    """What is in the way, and what to do."""
+
+
+def add_arguments(parser: argparse.ArgumentParser) -> None:
+    """The arguments of the command."""
+    parser.add_argument("file", metavar="FILE", help="the file of the source")
+    parser.add_argument("port", metavar="PORT", nargs="?", type=numbers.any_port,
+                        help="the port that it is to be served on")
+    runner = f"who runs the program ({USER}, where root asks and there is such a user; else who asks)"
+    parser.add_argument("--user", metavar="USER", help=runner)
+
+
+def user_of(name: str | None) -> pwd.struct_passwd | None:
+    """The user for whom is looked, or None for the one who asks."""
+    if not name and os.geteuid():
+        return None
+    try:
+        user = pwd.getpwnam(name or USER)
+    except KeyError:
+        if name:
+            raise Cause(f"there is no user {name}: make it (systemd-sysusers), or name another") from None
+        return None
+    if os.geteuid() not in (0, user.pw_uid):
+        raise Misused("--user: only root can look for another user")
+    return user
+
+
+def number_of(call: Callable[..., object], *words: object) -> int:
+    """The number of the fault of a call, or 0."""
+    try:
+        call(*words)
+    except OSError as fault:
+        return fault.errno or errno.EIO
+    return 0
+
+
+def tried(user: pwd.struct_passwd | None, call: Callable[..., object], *words: object) -> int:
+    """The number of the fault of a call that a user makes, in a process of its own; 0 where there is none."""
+    if user is None or user.pw_uid == os.geteuid():
+        return number_of(call, *words)
+    child = os.fork()
+    if child:
+        return os.waitstatus_to_exitcode(os.waitpid(child, 0)[1])
+    status = errno.EPERM
+    try:
+        os.initgroups(user.pw_name, user.pw_gid)
+        os.setgid(user.pw_gid)
+        os.setuid(user.pw_uid)
+        status = number_of(call, *words)
+    finally:
+        os._exit(status)
+
+
+def opened(path: str) -> None:
+    """Opens a file as the program does, and closes it."""
+    os.close(os.open(path, os.O_RDWR | os.O_CLOEXEC | os.O_NONBLOCK | os.O_NOCTTY))
+
+
+def bound(number: int) -> None:
+    """Takes a port of 127.0.0.1 as the program does, and lets it go."""
+    with socket.socket() as listener:
+        listener.setsockopt(socket.SOL_SOCKET, socket.SO_REUSEADDR, 1)
+        listener.bind(("127.0.0.1", number))
+
+
+def name_of(user: pwd.struct_passwd | None) -> str:
+    """The name of a user."""
+    if user:
+        return user.pw_name
+    try:
+        return pwd.getpwuid(os.geteuid()).pw_name
+    except KeyError:
+        return f"number {os.geteuid()}"
+
+
+def rights(path: str | pathlib.Path) -> str:
+    """The owner and the mode of a path as text."""
+    status = os.stat(path)
+    try:
+        owner = pwd.getpwuid(status.st_uid).pw_name
+    except KeyError:
+        owner = str(status.st_uid)
+    return f"{stat.filemode(status.st_mode)} of {owner}"
+
+
+def look_at_path(path: str) -> os.stat_result | None:
+    """What is there by this name."""
+    try:
+        status = os.stat(path)
+    except (FileNotFoundError, NotADirectoryError):
+        raise missing(path) from None
+    except PermissionError:
+        return None
+    except OSError as fault:
+        raise Cause(f"{path} can't be looked at, {fault.strerror}: look at the path, the disk and the "
+                    f"kernel's log") from None
+    if stat.S_ISDIR(status.st_mode):
+        raise Cause(f"{path} is a folder: name the file of the source in it")
+    if not stat.S_ISREG(status.st_mode):
+        kind = next((name for is_so, name in KINDS.items() if is_so(status.st_mode)), "no file")
+        raise Cause(f"{path} is {kind}, and no regular file: the program takes regular files alone")
+    return status
+
+
+def missing(path: str) -> Cause:
+    """What of a path is not there."""
+    if os.path.islink(path):
+        return Cause(f"{path} is a link to {os.readlink(path)}, which is not there: restore that, or make "
+                     f"the link anew")
+    folders = [folder for folder in reversed(pathlib.Path(path).absolute().parents) if not folder.is_dir()]
+    if folders:
+        return Cause(f"there is no folder {folders[0]}: mount its file system, or make it, before {path} can "
+                     f"be there")
+    return Cause(f"there is no file {path}: mount its file system, restore a backup, or make a source by "
+                 f"rs_source format")
+
+
+def is_held_by_mount(path: str, processes: Processes) -> bool:
+    """Whether the file system of a path can be written, and its mount here, as that of a unit, cannot."""
+    real, longest, is_so = os.path.realpath(path), -1, False
+    for line in processes.lines("self/mountinfo"):
+        words = line.split(" ")
+        mount = re.sub(r"\\([0-7]{3})", lambda octal: chr(int(octal[1], 8)), words[4])
+        if len(mount) >= longest and (real + "/").startswith(mount.rstrip("/") + "/"):
+            longest = len(mount)
+            is_so = "ro" in words[5].split(",") and "rw" in words[-1].split(",")
+    return is_so
+
+
+def read_only(path: str, processes: Processes) -> Cause:
+    """Why a file cannot be written, where its file system, or the mount of a unit, is read-only."""
+    unit, folder = processes.unit(os.getpid()), os.path.dirname(os.path.realpath(path))
+    if unit and is_held_by_mount(path, processes):
+        return Cause(f"the unit {unit} may not write {folder} (ProtectSystem=): systemctl edit {unit}, "
+                     f"and write the lines [Service] and ReadWritePaths={folder} there")
+    return Cause(f"the file system of {path} is read-only: look at the kernel's log, then mount it again "
+                 f"(mount -o remount,rw)")
+
+
+def look_at_rights(path: str, user: pwd.struct_passwd | None, processes: Processes) -> None:
+    """Whether the user may open the file for reading and writing."""
+    number, who = tried(user, opened, path), name_of(user)
+    if not number:
+        return
+    if number == errno.EROFS:
+        raise read_only(path, processes)
+    if number == errno.EPERM:
+        raise Cause(f"nobody may change {path}, by an attribute of the file: take that away (lsattr, "
+                    f"chattr -i)")
+    if number != errno.EACCES:
+        raise Cause(f"{path} can't be opened, {os.strerror(number)}: look at the disk and the kernel's log")
+    # The one who asks need not be the one who runs the program.
+    if_so = "" if user or not os.geteuid() else f" if {who} runs the program, else ask as root"
+    for folder in reversed(pathlib.Path(path).absolute().parents):
+        if tried(user, os.stat, f"{folder}/."):
+            raise Cause(f"the user {who} may not pass the folder {folder} ({rights(folder)}): "
+                        f"give it the right (chown {who}: {folder}, or chmod){if_so}")
+    raise Cause(f"the user {who} may not read and write {path} ({rights(path)}): chown {who}: {path}{if_so}")
+
+
+def is_locked(path: str) -> bool:
+    """Whether somebody has the file locked. The lock is taken as the program takes it, and let go at once."""
+    number = os.open(path, os.O_RDWR | os.O_CLOEXEC | os.O_NONBLOCK)
+    try:
+        fcntl.flock(number, fcntl.LOCK_EX | fcntl.LOCK_NB)
+    except BlockingIOError:
+        return True
+    finally:
+        os.close(number)
+    return False
+
+
+def look_at_lock(path: str, status: os.stat_result, processes: Processes) -> None:
+    """Whether another program has the file."""
+    number = processes.locker(status)
+    if number is None and is_locked(path):
+        number = 0
+    if number is not None:
+        unit = processes.unit(number)
+        raise Cause(f"{path} is locked by {processes.told(number)}: one program has a file at a time, so "
+                    f"stop that one first"
+                    f"{f' (systemctl stop {unit})' if unit else ''}")
+
+
+def look_at_port(number: int, user: pwd.struct_passwd | None, processes: Processes) -> None:
+    """Whether the port can be taken."""
+    fault = tried(user, bound, number)
+    if fault == errno.EADDRINUSE:
+        told = processes.told(processes.listener(number))
+        raise Cause(f"port {number} is taken by {told}: stop that one, or serve on another port "
+                    f"(operations/docs/OPERATING.md, \"Installing\")")
+    if fault in (errno.EACCES, errno.EPERM):
+        raise Cause(f"the user {name_of(user)} may not listen on port {number}: take a port from 1024 on")
+    if fault:
+        raise Cause(f"port {number} can't be taken, {os.strerror(fault)}: look at the network of this "
+                    f"machine (ip address)")
+
+
+def look_at_room(path: str, status: os.stat_result) -> None:
+    """Whether the file system has room for what the file does not have yet."""
+    lacking, system = room.unreserved(status), os.statvfs(path)
+    free = system.f_bavail * system.f_frsize
+    if free < min(lacking, COMMAND):
+        raise Cause(f"the file system of {path} has room for {free:,} bytes, and the file still lacks "
+                    f"{lacking:,}: "
+                    f"make room, reserve it (fallocate --length {status.st_size} {path}), then restart the "
+                    f"program")
+
+
+def look(arguments: argparse.Namespace, processes: Processes) -> str:
+    """Looks at all that may be in the way, in the order in which the program meets it."""
+    file, user = arguments.file, user_of(arguments.user)
+    status = look_at_path(file)
+    look_at_rights(file, user, processes)
+    status = status or os.stat(file)
+    look_at_lock(file, status, processes)
+    if arguments.port is not None:
+        look_at_port(arguments.port, user, processes)
+    look_at_room(file, status)
+    return name_of(user)
+
+
+def told_of_room(path: str) -> tuple[str, int]:
+    """How much of the file is not reserved, as words and as a number."""
+    status = os.stat(path)
+    lacking = room.unreserved(status)
+    if not lacking:
+        return "", 0
+    return f"; {lacking:,} bytes of it are not reserved (fallocate --length {status.st_size} {path})", lacking
+
+
+def run(arguments: argparse.Namespace) -> int:
+    """Looks, and gives the exit status."""
+    file = arguments.file
+    try:
+        who = look(arguments, Processes())
+        words, lacking = told_of_room(file)
+    except Cause as cause:
+        output.result(str(cause), file=file, cause=str(cause))
+        return Status.ENDED_EARLY
+    except OSError as fault:
+        raise Unusable(f"{file}: can't be looked at, {fault.strerror}: ask as root") from None
+    at = "" if arguments.port is None else f" on port {arguments.port}"
+    output.result(f"nothing is found in the way: the user {who} can open "
+                  f"{file}{at and ' and listen' + at}{words}", file=file, not_reserved=lacking)
+    return Status.DONE

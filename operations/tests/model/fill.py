@@ -1,0 +1,170 @@
+"""Fills made-up sources from folders at random by `ropepeach fill`, and holds what they hold then to a model.
+
+A source refuses at random, loses answers of what it did, or is gone from a request on; somebody else puts to
+it amid a run; runs are killed (taking.py). The folder changes between two runs, and has what cannot be a
+resource. fill_model.py says what the source must hold after each run, and what the run may count.
+
+usage: python3 -m operations.tests.model.fill [--short] [--histories N] [--seed N] [--first N]
+Exit status 1 where something is not as the model says.
+A history is repeated by the seed and the number that are printed.
+"""
+from __future__ import annotations
+
+import os
+import pathlib
+import random
+import sys
+
+from operations.tests.model.fill_model import Expected, Wanted, fault_of
+from operations.tests.model.histories import LENGTHS, History
+from operations.tests.model.made_up_source import MadeUpSource, Request
+from operations.tests.model.runs import Ended, Runner, in_a_line
+from operations.tests.model.taking import Taking
+from operations.tests.model.trials import Counts, look
+from tests.program import Differs
+
+HISTORIES, SHORT, RUNS = 1_000, 40, 5
+PLAIN = b"ABCDEFGHIJKLMNOPQRSTUVWXYZabcdefghijklmnopqrstuvwxyz0123456789-._~!$&'()*+,;=:@/"
+NAMES = ["a.txt", "b.html", "c", "d e", "\u00fc", "n/1", "n/2.txt", "n/deep/3", "p%41", "q?x",
+         *(f"many/{number:02}" for number in range(20))]
+TYPES = {".txt": "text/plain", ".html": "text/html", "": "application/octet-stream"}
+# What cannot be a resource, by its name.
+UNFIT = ["l" * 241, "link", "pipe", "large", "linked"]
+OPTIONS = [["--yes"]] * 6 + [[], ["--max-delete", "2"], ["--no-publish", "--yes"]]
+WEATHER = ["calm", "calm", "refusing", "refusing", "losing", "unread", "shared", "killing", "gone", "full"]
+
+
+def name_of(path: str) -> str:
+    """The name that a path stands for."""
+    return "".join(chr(byte) if byte in PLAIN else f"%{byte:02X}" for byte in path.encode())
+
+
+class Trial:
+    """A folder, a source, and the runs."""
+
+    def __init__(self, runner: Runner, room: pathlib.Path, seed: str, counts: Counts) -> None:
+        self.runner, self.room, self.rng, self.counts = runner, room, random.Random(seed), counts
+        self.folder, self.bodies, self.number = room / "folder", dict[str, bytes](), 0
+        self.folder.mkdir()
+        self.unfit, self.foreign = set[str](), set[str]()
+        self.are_typed = self.rng.random() < 0.3
+        (room / "types").write_text("n/* application/x-n\n*.html text/x-page\n")
+
+    def go(self) -> None:
+        """All runs of a history; the last two, in calm weather, have to end well."""
+        with MadeUpSource(lambda request: self.taking.answer(request)) as self.source:
+            self.history = History(self.source.base, self.rng, self.rng.choice([3, 10, 1_000]))
+            self.taking = Taking(self.history, self.rng)
+            self.source.stays = self.rng.random() < 0.3
+            for _ in range(self.rng.randrange(8)):
+                self.history.advance([*map(name_of, NAMES), "link/x", "linked/y", "other"])
+            for weather in [*self.rng.choices(WEATHER, k=RUNS), "calm", "calm"]:
+                self.change_folder()
+                self.run(weather, self.rng.choice(OPTIONS))
+            self.run("calm", ["--yes"])
+
+    def change_folder(self) -> None:
+        """Writes, changes and removes files, and things that cannot be resources.
+
+        Each file has a time of its own.
+        """
+        for name in self.rng.sample(NAMES, self.rng.choice([0, 1, 3, 3, 30])):
+            path = self.folder / name
+            if name in self.bodies and self.rng.random() < 0.4:
+                path.unlink()
+                del self.bodies[name]
+            else:
+                body = self.rng.randbytes(self.rng.choice(LENGTHS))
+                path.parent.mkdir(parents=True, exist_ok=True)
+                path.write_bytes(body)
+                self.bodies[name], self.number = body, self.number + 1
+                os.utime(path, (1_700_000_000 + self.number, 1_700_000_000 + self.number))
+        if self.rng.random() < 0.2:
+            self.make_unfit(self.rng.choice(UNFIT))
+
+    def make_unfit(self, name: str) -> None:
+        """Makes something that is left out."""
+        path = self.folder / name
+        if name in self.unfit:
+            return
+        if name == "pipe":
+            os.mkfifo(path)
+        elif name.startswith("link"):
+            path.symlink_to(self.folder / "n" if name == "linked" else "/etc/passwd")
+        else:
+            path.touch()
+            os.truncate(path, (16 << 20) + 1 if name == "large" else 3)
+            os.utime(path, (1_700_000_000, 1_700_000_000))
+        self.unfit.add(name)
+
+    def wanted(self, options: list[str]) -> Wanted:
+        """What the folder has by now."""
+        files, typed = {}, set[str]()
+        for path, body in self.bodies.items():
+            name = name_of(path)
+            kind = TYPES[pathlib.PurePath(path).suffix]
+            if self.are_typed and (path.startswith("n/") or path.endswith(".html")):
+                kind = "application/x-n" if path.startswith("n/") else "text/x-page"
+                typed.add(name)
+            files[name] = (body, kind)
+        return Wanted(files, typed, self.unfit, options)
+
+    def others_put(self, request: Request) -> None:
+        """Somebody else puts a body, by a name of the folder or another one, or deletes one."""
+        held = sorted(self.history.state.held)
+        name = self.rng.choice([*map(name_of, NAMES), "theirs"])
+        if held and self.rng.random() < 0.4:
+            name = self.rng.choice(held)
+            self.history.do(f"delete {name}")
+        else:
+            self.history.put(name, b"theirs" + self.rng.randbytes(4), "a/theirs")
+        self.foreign.add(name)
+
+    def run(self, weather: str, options: list[str]) -> None:
+        """A run, of which the model knows what has to come of it."""
+        if self.rng.random() < 0.2:
+            self.dry_run(options)
+        self.foreign.clear()
+        self.taking.begin(weather, self.runner.kill, self.others_put)
+        expected = Expected(self.wanted(options), self.taking)
+        ended = self.ran(options)
+        fault = fault_of(expected, ended, self.foreign)
+        if fault:
+            said = f"it said {ended.output!r} {ended.complaints[-300:]!r}"
+            raise Differs(f"{weather}, {' '.join(options)}: {fault}; {said}")
+        self.counts["runs"] += 1
+        self.counts[f"status {ended.status}"] += 1
+        self.counts["faults served"] += self.taking.faults
+        self.counts["changes by others"] += len(self.foreign)
+        self.counts["changes acknowledged"] += len(self.taking.acknowledged)
+
+    def ran(self, options: list[str]) -> Ended:
+        """A run of the command."""
+        types = ["--types", self.room / "types"] if self.are_typed else []
+        words = ["fill", self.folder, self.source.base, "--patience", "0.3", *types, *options]
+        ended = self.runner.run(self.room, *words)
+        if self.source.fault:
+            raise self.source.fault
+        in_a_line(ended)
+        return ended
+
+    def dry_run(self, options: list[str]) -> None:
+        """A dry run changes nothing, and tells what a run would do."""
+        self.taking.begin("calm", lambda: None, lambda request: None)
+        expected = Expected(self.wanted(options), self.taking)
+        ended = self.ran([*options, "--dry-run"])
+        if self.taking.sent or self.taking.publications:
+            raise Differs(f"a dry run changed the source: {self.taking.sent}")
+        told = [line for line in ended.output.splitlines() if line.startswith(("put ", "delete "))]
+        deletions, puts = sorted(expected.gone), sorted(expected.differing)
+        meant = [f"delete {name}" for name in deletions] + [f"put {name}" for name in puts]
+        if told != meant:
+            raise Differs(f"a dry run told {told}, and the model has {meant}")
+        wanted = 1 if expected.is_refused() else 3 if self.unfit else 0
+        if ended.status != wanted:
+            raise Differs(f"a dry run ended with status {ended.status}, and not {wanted}")
+        self.counts["dry runs"] += 1
+
+
+if __name__ == "__main__":
+    sys.exit(look("fill", Trial, HISTORIES, SHORT))

@@ -1,0 +1,149 @@
+"""What a run of fill must make of its source, by the files of its folder (operations/docs/OPERATING.md, ropepeach-
+fill(1)).
+
+  - A run that ends with status 0, or 3 where something was left out: the source holds what the folder holds,
+    each put with its type, and what it held by a name that was left out, or below it; the Resource List is
+    what is held. The counts are what had to be done.
+  - A run that ends early: each name has what it had or what the folder has. It counts what the source
+    acknowledged, and nothing else.
+  - No run puts what is held, deletes what has a file, or deletes more than it may: then nothing is changed.
+  - Deletions come first, which makes room. Behind a refusal that ends the run nothing more is sent.
+  - What others put or delete meanwhile stays theirs, or is the folder's; the run goes on.
+"""
+from __future__ import annotations
+
+import dataclasses
+
+from operations.tests.model.runs import Ended, number_before
+from operations.tests.model.taking import Taking
+
+# Bytes and type by name.
+Bodies = dict[str, tuple[bytes, str]]
+
+
+@dataclasses.dataclass
+class Wanted:
+    """What a run is to do: files by the names that they stand for, with their types; the names that are left
+    out, and its options.
+
+    A type that a pattern gave is compared, one by the ending of a name is not.
+    """
+
+    files: dict[str, tuple[bytes, str]]
+    is_typed: set[str]
+    left_out: set[str]
+    options: list[str]
+
+
+class Expected:
+    """What has to be done, by what the source holds before a run."""
+
+    def __init__(self, wanted: Wanted, source: Taking) -> None:
+        self.wanted, self.source = wanted, source
+        self.before = held_by(source)
+        self.was_published = source.is_published()
+        files = wanted.files
+        self.differing = {name for name, (body, kind) in files.items() if self.differs(name, body, kind)}
+        # A source that is full twice over is full for good.
+        self.is_full = source.due > 2 or (source.due > 0 and "--no-publish" in wanted.options)
+        stays = tuple(f"{name}/" for name in wanted.left_out)
+        self.gone = {name for name in self.before.keys() - files.keys() - wanted.left_out
+                     if not name.startswith(stays)}
+
+    def differs(self, name: str, body: bytes, kind: str) -> bool:
+        """Whether a file has to be put."""
+        held = self.before.get(name)
+        return held is None or held[0] != body or (name in self.wanted.is_typed and held[1] != kind)
+
+    def is_refused(self) -> bool:
+        """Whether it would delete more than it may."""
+        options = self.wanted.options
+        if "--max-delete" in options:
+            return len(self.gone) > int(options[options.index("--max-delete") + 1])
+        return 2 * len(self.gone) > len(self.before) and "--yes" not in options
+
+    def must_end_well(self) -> bool:
+        """Whether nothing stands against a good end: others that put or delete meanwhile do not, where all
+        may be deleted.
+        """
+        if self.source.name == "full":
+            return not self.is_full and not self.is_refused()
+        if self.source.name == "shared":
+            return "--yes" in self.wanted.options
+        return self.source.name == "calm" and not self.is_refused()
+
+    def may_be(self, name: str) -> list[tuple[bytes, str] | None]:
+        """What a name may have after a run that ended anywhere."""
+        before, file = self.before.get(name), self.wanted.files.get(name)
+        if name in self.gone:
+            return [before, None]
+        return [before, file] if name in self.differing else [before]
+
+
+def held_by(source: Taking) -> Bodies:
+    """What a source holds: bytes and type by name."""
+    return {name: (body, entry.kind) for name, (body, entry) in source.history.state.held.items()}
+
+
+def fault_of(expected: Expected, ended: Ended, others: set[str]) -> str:
+    """What is wrong with a run, or nothing. Others have changed these names meanwhile."""
+    source, wanted = expected.source, expected.wanted
+    meant = {("put", name) for name in expected.differing} | {("delete", name) for name in expected.gone}
+    is_done = ended.status in (0, 3) and not others
+    needless = sorted(meant ^ set(source.sent) if is_done else set(source.sent) - meant)
+    if needless and not (others and {name for _, name in needless} <= others):
+        return f"it sent too much or too little: {needless}"
+    is_changed = bool(ended.status in (0, 3) or source.sent or source.publications)
+    if expected.is_refused() and not others and is_changed:
+        return f"it deletes {len(expected.gone)} of {len(expected.before)}"
+    if "--no-publish" in wanted.options and source.publications:
+        return "it published"
+    if source.behind:
+        return f"it went on behind a refusal, with {source.behind}"
+    if source.name == "calm" and source.sent != sorted(source.sent, key=lambda change: change[0]):
+        return "it put something before a deletion"
+    held = held_by(source)
+    if ended.status in (0, 3):
+        return fault_at_end(expected, ended, held, others)
+    if ended.status >= 0 and expected.must_end_well():
+        return "it ended early where nothing stood against a good end"
+    names = (held.keys() | expected.before.keys()) - others
+    wrong = sorted(name for name in names if held.get(name) not in expected.may_be(name))
+    return f"after an early end these are wrong: {wrong}" if wrong else fault_of_counts(ended, source)
+
+
+def fault_of_counts(ended: Ended, source: Taking) -> str:
+    """What is wrong with what a run counted that ended early."""
+    kinds = [what for what, _ in source.acknowledged]
+    acknowledged = kinds.count("put"), kinds.count("delete")
+    if ended.status < 0:
+        return ""
+    is_told = " put (" in ended.output
+    counted = tuple(number_before(word, ended.output) if is_told else 0 for word in ("put", "deleted"))
+    return "" if counted == acknowledged else f"it counts {counted}, and {acknowledged} were acknowledged"
+
+
+def fault_at_end(expected: Expected, ended: Ended, held: Bodies, others: set[str]) -> str:
+    """What is wrong behind status 0 or 3."""
+    source, wanted = expected.source, expected.wanted
+    if (ended.status == 3) != bool(wanted.left_out):
+        return f"status {ended.status}, and {len(wanted.left_out)} were left out"
+    meant = {name: kept for name, kept in expected.before.items() if name not in expected.gone}
+    meant |= {name: wanted.files[name] for name in expected.differing}
+    names = (meant.keys() | held.keys()) - others
+    wrong = sorted(name for name in names if meant.get(name) != held.get(name))
+    if wrong:
+        return f"these are not what the folder has: {wrong}"
+    if others:
+        return ""
+    same = len(wanted.files) - len(expected.differing)
+    counted = tuple(number_before(word, ended.output) for word in ("put", "deleted", "the same", "left out"))
+    right = len(expected.differing), len(expected.gone), same, len(wanted.left_out)
+    if counted != right:
+        return f"it counts {counted}, and the model has {right}"
+    is_due = bool(expected.differing or expected.gone or not expected.was_published)
+    if "--no-publish" not in wanted.options and not source.is_published():
+        return "the Resource List is not what is held"
+    if source.name == "calm" and source.publications != (is_due and "--no-publish" not in wanted.options):
+        return f"it published {source.publications} times"
+    return ""

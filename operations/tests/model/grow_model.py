@@ -1,0 +1,126 @@
+"""What a run of grow must make of the sources of a collection (ropepeach-grow(1)).
+
+  - A run that ends with status 0: each resource is where it lives and nowhere else, with the bytes and the
+    type that it had; it told how many had to move, and each source has published what it holds, where it was
+    changed.
+  - Nothing is deleted before every put is acknowledged, and nothing is sent at all where the description does
+    not name each source, or two sources hold a name with different bytes.
+  - Nothing is put but what lives there, and nothing deleted but what lives elsewhere.
+Whether every resource is held somewhere at every moment, with its newest bytes, is looked at behind each
+answer (collection.py).
+"""
+from __future__ import annotations
+
+import hashlib
+
+from operations.tests.model.fill_model import held_by
+from operations.tests.model.runs import Ended
+from operations.tests.model.taking import Taking
+
+# Bytes and type by name, for each source.
+Sources = dict[str, dict[str, tuple[bytes, str]]]
+
+
+def home_of(name: str, members: list[str]) -> str:
+    """Where a name lives (ropepeach-collection(1))."""
+    return max(members, key=lambda member: hashlib.sha256(member.encode() + b"\0" + name.encode()).digest())
+
+
+class Expected:
+    """What has to move, by what is held before a run."""
+
+    def __init__(self, sources: dict[str, Taking], is_named: bool) -> None:
+        self.sources, self.is_named = sources, is_named
+        self.before: Sources = {member: held_by(taking) for member, taking in sources.items()}
+        self.homes = {name: home_of(name, list(sources)) for held in self.before.values() for name in held}
+        self.going = {(member, name) for member, held in self.before.items() for name in held
+                      if self.homes[name] != member}
+        kept = {name: {held[name] for held in self.before.values() if name in held} for name in self.homes}
+        self.differing = {name for name, those in kept.items() if len(those) > 1}
+        self.coming = {(self.homes[name], name) for _, name in self.going
+                       if name not in self.before[self.homes[name]]}
+
+    def is_refused(self) -> bool:
+        """Whether nothing may be changed."""
+        return not self.is_named or bool(self.differing)
+
+    def after(self) -> Sources:
+        """What each source holds at the end."""
+        kept = {name: held[name] for held in self.before.values() for name in held}
+        return {member: {name: kept[name] for name, home in self.homes.items() if home == member}
+                for member in self.sources}
+
+
+def fault_of(expected: Expected, ended: Ended, options: list[str], others: set[str], is_dry: bool) -> str:
+    """What is wrong with a run, or nothing. Others have put these names meanwhile."""
+    sources = expected.sources
+    sent = {(member, *change) for member, taking in sources.items() for change in taking.sent}
+    put = {(member, name) for member, what, name in sent if what == "put"}
+    deleted = {(member, name) for member, what, name in sent if what == "delete"}
+    has_published = any(taking.publications for taking in sources.values())
+    if (expected.is_refused() or is_dry) and (sent or has_published):
+        return f"it changed something: {sorted(sent)}"
+    if expected.is_refused() and not others and ended.status == 0:
+        return f"it ended well, though {sorted(expected.differing)} differ"
+    if put - expected.coming or deleted - expected.going:
+        return f"it moved more: {sorted(put - expected.coming)} {sorted(deleted - expected.going)}"
+    acknowledged = {(member, name) for member, taking in sources.items()
+                    for what, name in taking.acknowledged if what == "put"}
+    if deleted and expected.coming - acknowledged:
+        return f"it deletes before these puts are acknowledged: {sorted(expected.coming - acknowledged)}"
+    if "--no-publish" in options and has_published:
+        return "it published"
+    if ended.status == 0 and not is_dry:
+        return fault_at_end(expected, ended, options, others)
+    if is_dry and ended.status == 0:
+        return fault_of_dry(expected, ended, others)
+    is_calm = all(taking.name == "calm" for taking in sources.values())
+    return "it ended early where all answers were right" if is_calm and not expected.is_refused() else ""
+
+
+def fault_at_end(expected: Expected, ended: Ended, options: list[str], others: set[str]) -> str:
+    """What is wrong behind status 0."""
+    sources = expected.sources
+    found: Sources = {member: held_by(taking) for member, taking in sources.items()}
+    meant = expected.after()
+    wrong = sorted({(member, name) for member in sources
+                    for name in (found[member].keys() | meant[member].keys()) - others
+                    if found[member].get(name) != meant[member].get(name)})
+    if wrong:
+        return f"these are not where they live, or have other bytes: {wrong}"
+    astray = sorted((member, name) for member, held in found.items()
+                    for name in held if expected.homes[name] != member)
+    if astray:
+        return f"these were changed meanwhile, and status 0 tells nothing of them: {astray}"
+    if others:
+        return ""
+    changed = [member for member, taking in sources.items() if taking.sent]
+    unpublished = [member for member in changed if not sources[member].is_published()]
+    if unpublished and "--no-publish" not in options:
+        return f"these have not published what they hold: {unpublished}"
+    return fault_of_lines(expected, ended)
+
+
+def first_line(expected: Expected) -> str:
+    """What a run says of its work."""
+    held = sum(map(len, expected.before.values()))
+    going, coming = len(expected.going), len(expected.coming)
+    return f"{going:,} of {held:,} are where they do not live; {coming:,} have to be put"
+
+
+def fault_of_lines(expected: Expected, ended: Ended) -> str:
+    """What is wrong with what a run told that ended well."""
+    lines = [first_line(expected)]
+    for member in expected.sources:
+        put, deleted = (sum(it == member for it, _ in those) for those in (expected.coming, expected.going))
+        lines += [f"{member}: {put:,} put, {deleted:,} deleted"] if put or deleted else []
+    told = ended.output.splitlines()
+    return "" if told == lines else f"it told {told}, and the model has {lines}"
+
+
+def fault_of_dry(expected: Expected, ended: Ended, others: set[str]) -> str:
+    """What is wrong with what a dry run told."""
+    told = sorted(ended.output.splitlines())
+    moves = [f"move {member} {expected.homes[name]} {name}" for member, name in expected.going]
+    meant = sorted([first_line(expected), *moves])
+    return "" if others or told == meant else f"a dry run told {told}, and the model has {meant}"

@@ -1,0 +1,165 @@
+"""What a run of the mirror must make of its folder, by the history of its source (operations/docs/DESTINATIONS.md).
+
+  - A run that ends with status 0 tells a moment: the folder is what the source held behind all changes up to
+    it, and the moment is remembered. It is not before the changes that stood when the run began, unless an
+    answer was older.
+  - A run that ends otherwise, or is killed, keeps the moment that was remembered, or forgets it before a
+    baseline. Each file is whole, with bytes that its name once had; what has not changed since that moment is
+    as it was then.
+  - No run removes more of what was there than it may.
+  - Where nothing changes and all answers are right, a run ends well. It asks for what lacks and nothing else,
+    and tells it.
+"""
+from __future__ import annotations
+
+import pathlib
+from typing import NamedTuple
+
+from operations.tests.model.histories import History, laid_out
+from operations.tests.model.runs import Ended, number_behind
+from operations.tests.model.weather import Weather
+from tests.reading import crash_model
+
+
+class Before(NamedTuple):
+    """A mirror: its files, the moment that it remembers, how many changes its source has, and whether there
+    is a folder.
+    """
+
+    files: dict[str, bytes]
+    remembered: str | None
+    changes: int
+    is_there: bool
+
+
+def files_of(folder: pathlib.Path) -> dict[str, bytes]:
+    """The files of a mirror, but for its own."""
+    found = {str(path.relative_to(folder)): path for path in folder.rglob("*") if path.is_file()}
+    return {name: path.read_bytes() for name, path in found.items() if not name.startswith("#")}
+
+
+def names_of(files: dict[str, bytes]) -> set[str]:
+    """The names of resources whose files these are."""
+    return {path.removesuffix("#") for path in files}
+
+
+class Expected:
+    """What is known before a run."""
+
+    def __init__(self, history: History, before: Before, options: list[str], weather: Weather) -> None:
+        self.history, self.before, self.options, self.weather = history, before, options, weather
+        state = history.state
+        remembered = before.remembered or ""
+        self.is_incremental = "--baseline" not in options and text(state.begin) <= remembered
+        self.since = remembered if self.is_incremental else text(state.at)
+        later = [when for when, _, _ in history.changes if when > self.since]
+        self.until = later[-1] if later else self.since
+
+    def must_end_well(self) -> bool:
+        """Whether nothing stands against a good end."""
+        if "--incremental" in self.options and self.before.remembered is None:
+            return False
+        may_go = "--yes" in self.options or not self.lost(laid_out(self.history.held()))
+        return self.weather.name == "calm" and may_go
+
+    def lost(self, after: dict[str, bytes]) -> int:
+        """How many resources are gone."""
+        return len(names_of(self.before.files) - names_of(after))
+
+    def may_lose(self) -> int:
+        """How many resources may go."""
+        held = len(names_of(self.before.files))
+        if "--max-delete" in self.options:
+            return int(self.options[self.options.index("--max-delete") + 1])
+        return held if "--yes" in self.options else held // 2
+
+
+def text(moment: int) -> str:
+    """A moment as documents write it."""
+    return str(crash_model.moment_text(moment))
+
+
+def fault_of(expected: Expected, ended: Ended, after: Before, asked: list[str]) -> str:
+    """What is wrong with what a run left, or nothing."""
+    if expected.lost(after.files) > expected.may_lose():
+        return f"{expected.lost(after.files)} resources are gone, and {expected.may_lose()} may be"
+    if ended.status == 0:
+        return fault_at_end(expected, ended, after) or fault_in_calm(expected, ended, asked)
+    if expected.must_end_well():
+        return f"status {ended.status} where all answers were right"
+    return fault_amid(expected, after)
+
+
+def fault_at_end(expected: Expected, ended: Ended, after: Before) -> str:
+    """What is wrong behind status 0."""
+    told, history = ended.output.split()[-1], expected.history
+    if "--incremental" in expected.options and expected.before.remembered is None:
+        return "it began with a baseline"
+    if after.remembered != told:
+        return f"it told {told}, and remembers {after.remembered}"
+    wanted = laid_out(history.held(told))
+    paths = wanted.keys() | after.files.keys()
+    differing = sorted(path for path in paths if wanted.get(path) != after.files.get(path))
+    if differing:
+        return f"as of {told} these differ: {differing}"
+    count = sum(when <= told for when, _, _ in history.changes)
+    if count < expected.before.changes and not expected.weather.has_lied:
+        return f"it has {count} changes, and {expected.before.changes} stood when it began"
+    return ""
+
+
+def fault_amid(expected: Expected, after: Before) -> str:
+    """What is wrong behind a run that did not end well."""
+    history, remembered = expected.history, after.remembered
+    if remembered not in (expected.before.remembered, None):
+        return f"it remembers {remembered}, which was {expected.before.remembered} before"
+    known = {(name, body) for _, name, body in history.changes}
+    changed = [(path, body) for path, body in after.files.items() if expected.before.files.get(path) != body]
+    foreign = [path for path, body in changed if (path.removesuffix("#"), body) not in known]
+    if foreign:
+        return f"these have bytes that no put made: {foreign}"
+    if remembered is not None and expected.before.files.keys() >= laid_out(history.held(remembered)).keys():
+        then = history.held(remembered)
+        found = {path.removesuffix("#"): body for path, body in after.files.items()}
+        still = then.keys() - {name for when, name, _ in history.changes if when > remembered}
+        differing = sorted(name for name in still if found.get(name) != then[name])
+        if differing:
+            return f"as of {remembered}, which is remembered, these differ: {differing}"
+    return ""
+
+
+def fault_in_calm(expected: Expected, ended: Ended, asked: list[str]) -> str:
+    """What is wrong with a run of a source that stood still and answered rightly."""
+    if expected.weather.name != "calm" or expected.weather.has_lied:
+        return ""
+    history, before = expected.history, expected.before.files
+    found = {path.removesuffix("#"): body for path, body in before.items()}
+    wanted = history.held()
+    if expected.is_incremental:
+        later = {name for when, name, _ in history.changes if when > expected.since}
+        wanted = {name: body for name, body in wanted.items() if name in later}
+    lacking = sorted(name for name, body in wanted.items() if found.get(name) != body)
+    fetched = sorted(path.removeprefix("/resource/") for path in asked if path.startswith("/resource/"))
+    gone = len(found.keys() - history.held().keys())
+    counted = (number_behind(word, ended.output) for word in ("fetched", "removed"))
+    told = (ended.output.split(":")[0], ended.output.split()[-1], *counted)
+    meant = ("incremental" if expected.is_incremental else "baseline", expected.until, len(lacking), gone)
+    if told != meant:
+        return f"it told {told}, and the model has {meant}"
+    if fetched != lacking:
+        return f"it asked for {fetched}, and lacked {lacking}"
+    parts = sorted(path for path in asked if path.startswith("/changelist/"))
+    later_parts = parts_after(history, expected.since)
+    return "" if parts == later_parts else f"it asked for {parts}, and not for {later_parts}"
+
+
+def parts_after(history: History, moment: str) -> list[str]:
+    """The parts of the Change List that may have changes after a moment; one that is full ends with its last
+    change.
+    """
+    state = history.state
+    parts = crash_model.chunks(state.changes, state.limit)
+    if len(parts) <= 1:
+        return []
+    is_later = [len(part) < state.limit or text(part[-1].moment) > moment for part in parts]
+    return sorted(f"/changelist/{number}.xml" for number, later in enumerate(is_later, state.first) if later)

@@ -1,0 +1,112 @@
+"""How a made-up source answers: rightly or not, at once or late, while its history stands or goes on."""
+from __future__ import annotations
+
+import random
+import time
+from collections.abc import Callable
+
+from operations.tests.model.histories import History
+from operations.tests.model.made_up_source import Answer, Request
+from tests.reading import crash_model
+
+# How likely a request meets a fault, by the weather; `moving` has none, but the history goes on.
+FAULTS = {"calm": 0.0, "moving": 0.0, "unsettled": 0.04, "stormy": 0.2, "cached": 0.2, "gone": 0.0,
+          "killing": 0.02}
+STATUSES = [400, 401, 403, 404, 404, 410, 429, 500, 500, 501, 502, 503, 503, 504, 507]
+WRONG = [b"", b"<html><body>Error</body></html>\n", b"NoSuchDocument\n"]
+
+
+def served(state: crash_model.State, path: str) -> Answer | None:
+    """What a state of the source answers to a path, or nothing where it has nothing there."""
+    if path.startswith("/resource/"):
+        body = state.held.get(path.removeprefix("/resource/"), (None,))[0]
+        return None if body is None else Answer(200, body, "a/b")
+    text = crash_model.documents(state).get(path)
+    return None if text is None else Answer(200, text.encode())
+
+
+class Weather:
+    """Answers for a source.
+
+    `faults` counts the answers that were not right; `has_lied` is so once one was older than it should be.
+    """
+
+    def __init__(self, history: History, rng: random.Random) -> None:
+        self.history, self.rng, self.name = history, rng, "calm"
+        self.faults, self.requests, self.end, self.has_lied = 0, 0, -1, False
+        self.kill: Callable[[], None] = lambda: None
+
+    def calm(self) -> None:
+        """From now on all answers are right, and the history stands still."""
+        self.name = "calm"
+
+    def change(self) -> None:
+        """Other weather."""
+        self.name = self.rng.choice(["calm", "calm", "moving", "moving", "unsettled", "unsettled", "stormy",
+                                     "cached", "cached", "gone", "killing"])
+
+    def begin(self, kill: Callable[[], None]) -> None:
+        """Before a run. In some weather it is killed at a request, or the source is gone from one on."""
+        self.requests, self.faults, self.kill = 0, 0, kill
+        self.end = self.rng.randrange(1, 25) if self.name in ("gone", "killing") else -1
+
+    def answer(self, request: Request) -> Answer | None:
+        """The answer to a request."""
+        self.requests += 1
+        if self.requests == self.end and self.name == "killing":
+            self.kill()
+            return None
+        if self.requests >= self.end > 0 and self.name == "gone":
+            self.faults += 1
+            return self.rng.choice([None, Answer(503), Answer(502, b"<html>")])
+        if self.name != "calm" and self.rng.random() < 0.3:
+            self.history.advance()
+        if self.rng.random() < FAULTS[self.name]:
+            self.faults += 1
+            return self.older(request) if self.name == "cached" else self.wrong(request)
+        answer = self.right(request)
+        if self.name != "calm" and self.rng.random() < 0.05:
+            # It comes late: the source has gone on meanwhile.
+            time.sleep(0.003)
+            self.history.advance()
+        return answer
+
+    def right(self, request: Request) -> Answer:
+        """The right answer."""
+        return served(self.history.state, request.path) or Answer(404, b"NoSuchDocument\n", "text/plain")
+
+    def older(self, request: Request) -> Answer:
+        """What an earlier state would have answered, as a cache does."""
+        self.has_lied = True
+        state = self.rng.choice(self.history.states[-8:])
+        return served(state, request.path) or self.right(request)
+
+    def wrong(self, request: Request) -> Answer | None:
+        """An answer that is not right."""
+        right, what = self.right(request), self.rng.choice(["cut", "short", "older", "older", "other",
+                                                            "status", "status", "none", "moved", "partial"])
+        if what == "cut":
+            return right._replace(body=right.body[: self.rng.randrange(len(right.body) + 1)],
+                                  length=len(right.body) + 1, is_cut=True)
+        if what == "short":
+            return right._replace(body=right.body[: self.rng.randrange(len(right.body) + 1)])
+        if what == "older":
+            return self.older(request)
+        if what == "other":
+            return right._replace(body=self.other(right.body))
+        if what == "status":
+            body = self.rng.choice([*WRONG, right.body, self.older(request).body])
+            return Answer(self.rng.choice(STATUSES), body, self.rng.choice(["text/plain", "text/html",
+                                                                            "application/xml"]))
+        if what == "moved":
+            return Answer(self.rng.choice([301, 302, 307]), right.body,
+                          fields=f"Location: {self.history.state.base}/resource/a\r\n")
+        return None if what == "none" else right._replace(status=206, body=right.body[:20],
+                                                          fields="Content-Range: bytes 0-19/20\r\n")
+
+    def other(self, body: bytes) -> bytes:
+        """Other bytes, mostly of the same length."""
+        if not body or self.rng.random() < 0.3:
+            return body + b"\n"
+        at = self.rng.randrange(len(body))
+        return body[:at] + bytes([body[at] ^ 1 << self.rng.randrange(8)]) + body[at + 1 :]

@@ -1,0 +1,267 @@
+"""A CephFS over three machines, set up as operations/docs/REPLICAS.md says: on each a monitor, a copy (OSD) and a
+metadata server; and the steps of its page.
+
+The manager, which counts and decides nothing, lies beside the machines.
+"""
+import json
+import select
+import subprocess
+import uuid
+from pathlib import Path
+
+from operations.tests import PYTHON
+from operations.tests.replicas.machines import SECONDS, Stuck, done, until
+
+# The settings of operations/docs/REPLICAS.md.
+PAGE = {
+    "osd_pool_default_size": 3,
+    "osd_pool_default_min_size": 2,
+    "osd_heartbeat_interval": 2,
+    "osd_heartbeat_grace": 6,
+    "mon_osd_min_down_reporters": 1,
+    "mon_lease": 2,
+    "mon_election_timeout": 2,
+    "mds_beacon_interval": 2,
+    "mds_beacon_grace": 8,
+    # (where the machine of a monitor dies with it, this grace counts: 60 by default)
+    "mds_beacon_mon_down_grace": 8,
+    "mds_reconnect_timeout": 10,
+}
+# What makes the cluster small, and quiet about being small.
+SMALL = {
+    "auth_cluster_required": "none",
+    "auth_service_required": "none",
+    "auth_client_required": "none",
+    "auth_allow_insecure_global_id_reclaim": "false",
+    "osd_pool_default_pg_autoscale_mode": "off",
+    "osd_pool_default_pg_num": 8,
+    "osd_objectstore": "bluestore",
+    "bluestore_block_size": 2 << 30,
+    "bluestore_block_create": "true",
+    "bluestore_cache_autotune": "false",
+    "bluestore_cache_size": 64 << 20,
+    "osd_memory_target": 900 << 20,
+    "mds_cache_memory_limit": 128 << 20,
+    "mon_data_avail_warn": 2,
+    "mon_data_avail_crit": 1,
+    "mon_max_pg_per_osd": 500,
+    "mon_clock_drift_allowed": 1,
+    "mgr_stats_period": 1,
+    "rados_mon_op_timeout": 30,
+    "crash_dir": "/nowhere",
+}
+# Asks the monitors: a line of JSON with a command in, one with the answer out. Each start of the command `ceph` takes half a second of a
+# processor. The Python of Debian runs it, which has the module of Ceph.
+ASKER = """
+import json, sys, rados
+with rados.Rados(conffile=sys.argv[1], name="client.admin") as cluster:
+    print("ready", flush=True)
+    for line in sys.stdin:
+        status, text, words = cluster.mon_command(line.strip(), b"")
+        print(json.dumps([status, text.decode(errors="replace"), words]), flush=True)
+"""
+FOLDER, NAME = "mnt", "source.disk"
+A_YEAR = 31_536_000
+# A metadata server that hangs does not answer, and is asked again: by then another one may have its place.
+TOLD_WITHIN, EVICTED_WITHIN = 15, 180
+
+
+class Asker:
+    """Answers of the monitors, asked by a process in the switch's network."""
+
+    def __init__(self, switch, conf):
+        self.words = [PYTHON, "-c", ASKER, conf]
+        self.switch, self.process = switch, None
+
+    def start(self):
+        self.process = self.switch.started(*self.words, stdin=subprocess.PIPE, stdout=subprocess.PIPE, stderr=subprocess.DEVNULL, bufsize=0)
+        if self.line(SECONDS) != b"ready\n":
+            raise Stuck("the monitors do not answer")
+
+    def line(self, seconds):
+        is_told, _, _ = select.select([self.process.stdout], [], [], seconds)
+        return self.process.stdout.readline() if is_told else b""
+
+    def close(self):
+        if self.process:
+            self.process.kill()
+            self.process.wait()
+            self.process.stdin.close()
+            self.process.stdout.close()
+            self.process = None
+
+    def asked(self, prefix, **words):
+        """The answer of the monitors as a value, or None where there is none within half a minute."""
+        try:
+            if not self.process:
+                self.start()
+            self.process.stdin.write(json.dumps({"prefix": prefix, "format": "json", **words}).encode() + b"\n")
+            status, text, _ = json.loads(self.line(45))
+        except (ValueError, OSError, Stuck):
+            self.close()
+            return None
+        # (a list of fences has a line behind it)
+        return None if status else json.JSONDecoder().raw_decode(text.strip() or "null")[0]
+
+
+class CephFS:
+    """The file system, over machines that run."""
+
+    def __init__(self, switch, machines, room, settings=None):
+        self.switch, self.machines, self.room = switch, machines, Path(room)
+        self.conf, self.fsid, self.manager = self.room / "ceph.conf", str(uuid.uuid4()), None
+        self.settings = {**SMALL, **PAGE, **(settings or {})}
+        self.asker, self.heard = Asker(switch, self.conf), None
+
+    def configure(self):
+        addresses = ",".join(it.address for it in self.machines)
+        places = {"fsid": self.fsid, "mon_host": addresses, "mon_initial_members": ",".join(it.name for it in self.machines),
+                  "public_network": "10.78.0.0/24", "run_dir": "/run/ceph", "admin_socket": "/run/ceph/$cluster-$name.$pid.$cctid.asok",
+                  "log_file": f"{self.room}/$host/$name.log", "mon_cluster_log_file": f"{self.room}/$host/cluster.log",
+                  "mon_data": f"{self.room}/$host/data/mon", "osd_data": f"{self.room}/$host/data/osd", "mds_data": f"{self.room}/$host/data/mds",
+                  "mgr_data": f"{self.room}/m0/mgr", "keyring": f"{self.room}/keyring"}
+        self.conf.write_text("[global]\n" + "".join(f"{key} = {value}\n" for key, value in {**places, **self.settings}.items()))
+        (self.room / "keyring").touch()
+        (self.room / "m0" / "mgr").mkdir(parents=True, exist_ok=True)
+
+    def daemon(self, machine, *words, **how):
+        """Runs a program of Ceph on a machine; a daemon goes on by itself."""
+        return machine.done(words[0], "--conf", self.conf, *words[1:], **how)
+
+    def start_monitor(self, machine):
+        self.daemon(machine, "ceph-mon", "-i", machine.name, "--public-addr", machine.address)
+
+    def start_copy(self, machine):
+        self.daemon(machine, "ceph-osd", "-i", machine.number - 1)
+
+    def start_metadata(self, machine):
+        self.daemon(machine, "ceph-mds", "-i", machine.name)
+
+    def start_missing(self, machine):
+        """Starts what does not run on a machine."""
+        for name, start in (("mon", self.start_monitor), ("osd", self.start_copy), ("mds", self.start_metadata)):
+            if not machine.processes(f"^ceph-{name} "):
+                start(machine)
+
+    def make(self):
+        """Makes the cluster and its file system."""
+        self.configure()
+        monitors = [words for it in self.machines for words in ("--addv", it.name, f"[v2:{it.address}:3300,v1:{it.address}:6789]")]
+        done(["monmaptool", "--create", "--clobber", "--fsid", self.fsid, *monitors, self.room / "monmap"])
+        for it in self.machines:
+            self.daemon(it, "ceph-mon", "--mkfs", "-i", it.name, "--monmap", self.room / "monmap")
+            self.start_monitor(it)
+        until(lambda: len((self.asker.asked("quorum_status") or {"quorum": []})["quorum"]) == 3, 90, "three monitors agree")
+        self.manager = self.switch.started("ceph-mgr", "--conf", self.conf, "-i", "x", "-f", stdout=subprocess.DEVNULL, stderr=subprocess.DEVNULL)
+        for it in self.machines:
+            self.make_copy(it)
+        for it in self.machines:
+            (it.data / "mds").mkdir(exist_ok=True)
+            it.done("mkdir", "-p", it.data / "mds")
+            self.start_metadata(it)
+        for pool in ("data", "meta"):
+            self.must("osd pool create", pool=pool, pg_num=8)
+        self.must("fs new", fs_name="fs", metadata="meta", data="data")
+
+    def must(self, prefix, **words):
+        """A command of the monitors that has to be done; what it does is waited for elsewhere."""
+        self.asker.asked(prefix, **words)
+
+    def make_copy(self, machine):
+        number, name = machine.number - 1, str(uuid.uuid4())
+        self.must("osd new", uuid=name, id=str(number))
+        machine.done("mkdir", "-p", machine.data / "osd")
+        self.daemon(machine, "ceph-osd", "-i", number, "--mkfs", "--osd-uuid", name, seconds=120)
+        self.start_copy(machine)
+
+    def close(self):
+        self.asker.close()
+        if self.manager:
+            self.manager.kill()
+            self.manager.wait()
+
+    def status(self):
+        return self.asker.asked("status") or {}
+
+    def ails(self):
+        """What keeps the cluster from being as it should, or nothing."""
+        it = self.status()
+        if not it:
+            return "no answer"
+        states = {state["state_name"]: state["count"] for state in it["pgmap"].get("pgs_by_state", [])}
+        counts = len(it["quorum"]), it["osdmap"]["num_up_osds"], it["fsmap"].get("up:standby", 0)
+        is_clean = states and all(set(state.split("+")) <= {"active", "clean", "scrubbing", "deep"} for state in states)
+        if counts == (3, 3, 2) and is_clean and it["health"]["status"] == "HEALTH_OK":
+            return ""
+        return f"monitors, copies and servers that stand by {counts}, groups {states}, {list(it['health']['checks'])}"
+
+    def heal(self, seconds=180):
+        """Waits until all is well, and gives the seconds that it took."""
+        try:
+            return until(lambda: not self.ails(), seconds, "HEALTH_OK", 0.3)[1]
+        except Stuck as stuck:
+            raise Stuck(f"{stuck}: {self.ails()}") from None
+
+    # The steps of the page.
+    def folder(self, machine):
+        return machine.room / FOLDER
+
+    def file(self, machine):
+        return self.folder(machine) / NAME
+
+    def mount(self, machine, *more, seconds=100):
+        """Mounts the file system on a machine."""
+        machine.done("mkdir", "-p", self.folder(machine))
+        said = self.daemon(machine, "ceph-fuse", *more, self.folder(machine), seconds=seconds)
+        if machine.done("stat", "-f", "-c", "%T", self.folder(machine)) != "fuseblk":
+            raise Stuck(f"no file system on {machine.name}: {said}")
+
+    def unmount(self, machine, is_lost=False):
+        """Takes a mount away: in peace, or one whose process was lost."""
+        if is_lost:
+            machine.kill("^ceph-fuse ")
+            machine.done("umount", "--lazy", self.folder(machine), check=False)
+            return
+        machine.done("umount", self.folder(machine))
+        until(lambda: not machine.processes("^ceph-fuse "), SECONDS, f"the end of the mount on {machine.name}")
+
+    def end_sessions(self, machine, by):
+        """Ends the sessions of a machine's mounts. Whether the metadata server answered, and none is left."""
+        try:
+            said = self.command(by, "tell", "mds.fs:0", "session", "ls", seconds=TOLD_WITHIN)
+            for it in json.loads(said[said.index("["):]):
+                if it["entity"]["addr"]["addr"].startswith(machine.address + ":"):
+                    self.command(by, "tell", "mds.fs:0", "client", "evict", f"id={it['id']}", seconds=TOLD_WITHIN)
+            return True
+        except (Stuck, ValueError) as fault:
+            self.heard = fault
+            return False
+
+    def command(self, by, *words, seconds=SECONDS):
+        """Runs the command `ceph` on a machine, and gives its output alone."""
+        quiet = ["sh", "-c", 'exec "$@" 2>/dev/null', "sh", "ceph", "--conf", self.conf, "--connect-timeout", 30, "--format", "json", *words]
+        return by.done(*quiet, seconds=seconds)
+
+    def fence(self, machine, by):
+        """Fences a machine's mounts from another machine: no copy takes anything from its address, and its sessions are ended."""
+        self.command(by, "osd", "blocklist", "add", machine.address, A_YEAR)
+        try:
+            until(lambda: self.end_sessions(machine, by), EVICTED_WITHIN, f"the end of the sessions of {machine.name}", 0.5)
+        except Stuck as stuck:
+            raise Stuck(f"{stuck}: {self.heard}; {self.ails()}") from None
+
+    def fences(self, machine):
+        """The fences of a machine's mounts, each with its end, or None where the monitors do not answer."""
+        found = (self.asker.asked("osd dump") or {}).get("blocklist")
+        # (a mount has port 0, and a metadata server that was replaced another one)
+        return None if found is None else {it: end for it, end in found.items() if it.startswith(f"{machine.address}:0/")}
+
+    def lift(self, machine):
+        """Lets a machine's mounts in again, once nothing of before runs there."""
+        def is_lifted():
+            fences = self.fences(machine)
+            for it in fences or {}:
+                self.must("osd blocklist", blocklistop="rm", addr=it)
+            return fences == {}
+
+        until(is_lifted, SECONDS, f"the fence of {machine.name} is lifted", 0.2)

@@ -1,0 +1,17 @@
+"""The stamp of a program for the checks that make packages: its own, or one that says that a test made it."""
+from __future__ import annotations
+
+from pathlib import Path
+
+from operations.package import stamp
+from operations.package.program_facts import Unfit
+
+KIT = "none: a test made this stamp, and nobody proved the program"
+
+
+def stamp_of(program: Path | str) -> stamp.Stamp:
+    """The stamp of a program."""
+    try:
+        return stamp.read(Path(program))
+    except Unfit:
+        return stamp.made(Path(program), KIT)

@@ -1,0 +1,1 @@
+"""Checks of what is installed, of folders that are filled, and of the sizes of disks."""

@@ -1,0 +1,90 @@
+"""What the units of publications and fills run (install.py). Each function is one thing that has to hold; its
+first line says what.
+"""
+from __future__ import annotations
+
+import os
+import pathlib
+import re
+import shlex
+import subprocess
+
+from operations.tests import PYTHON
+from operations.tests.system import install_looks, install_scripts
+from operations.tests.system.install_looks import asked, compare_answers, told_by
+from tests.program import TOOLS, compare
+from tests.served_source import serving
+
+BASE = "http://a.example"
+
+
+def published(port: int) -> tuple[str, int]:
+    """What `publish` prints, and its exit status."""
+    environment = os.environ | {"PYTHONPATH": str(TOOLS), "no_proxy": "127.0.0.1"}
+    told: tuple[str, int] = told_by(PYTHON, install_looks.INSTALL / "publish", str(port), env=environment)
+    return told
+
+
+def a_publication_without_changes_is_skipped(program: str, room: str) -> None:
+    """`publish` publishes where the Resource List is not what is held, and only there; without an answer it
+    fails in a line.
+    """
+    subprocess.run([program, "format", "a.disk", "262144", BASE, "2"], cwd=room, check=True,
+                   capture_output=True)
+    with serving(program, room) as (url, _):
+        port = int(url.rpartition(":")[2])
+        compare_answers("a new source",
+                        ("nothing changed since the publication of 1970-01-01T00:00:00.000Z\n", 0),
+                        published(port))
+        for number in (1, 2):
+            asked(port, "PUT", "/resource/a", b"%d" % number)
+            told, status = published(port)
+            compare_answers(f"change {number}", (f"published {number} ", 0), (told[:12], status))
+            told, status = published(port)
+            compare_answers(f"no change after {number}", ("nothing changed since", 0), (told[:21], status))
+        asked(port, "PUT", "/resource/b", b"1")
+        asked(port, "DELETE", "/resource/b")
+        told, status = published(port)
+        compare_answers("a change that was taken back", ("nothing changed since", 0), (told[:21], status))
+    with install_scripts.answering(404, b"no\x1b[2J") as port:
+        told, status = published(port)
+    compare_answers("no source", (1, True, 1),
+                    (status, "404" in told and "\x1b" not in told, told.count("\n")))
+
+
+def the_unit_fills(program: str, room: str) -> None:
+    """What ropepeach-fill runs, by its settings, fills a source; what is remembered goes into its state
+    folder, and OPTIONS are words.
+    """
+    unit = install_looks.INSTALL.joinpath("ropepeach-fill@.service").read_text()
+    line = re.search(r"(?m)^ExecStart=(.*)", unit)
+    state = re.search(r"(?m)^StateDirectory=(.*)", unit)
+    assert line and state
+    compare("where it remembers", b"True", str(f"XDG_STATE_HOME=%S/{state[1]}" in unit).encode())
+    subprocess.run([program, "format", "a.disk", "262144", BASE, "2"], cwd=room, check=True,
+                   capture_output=True)
+    folder = pathlib.Path(room, "a folder")
+    folder.mkdir()
+    folder.joinpath("a.txt").write_bytes(b"a")
+    os.symlink("a.txt", folder / "link")
+    with serving(program, room) as (url, _):
+        for options, wanted in (("", 3), ("--skip-unlawful --no-publish", 0)):
+            settings = {"OPTIONS": options, "FOLDER": str(folder), "SOURCE": url}
+            words: list[str] = []
+            for word in shlex.split(line[1].replace("/usr/local/bin/ropepeach",
+                                                    shlex.join([PYTHON, str(TOOLS / "ropepeach-command")]))):
+                # (systemd splits the value of $NAME into words, and that of ${NAME} not)
+                braced = re.fullmatch(r"\$\{(\w+)\}", word)
+                split = settings[word[1:]].split() if word.startswith("$") and not braced else [word]
+                words += [settings[braced[1]]] if braced else split
+            told, status = told_by(*words, env=os.environ
+                                   | {"XDG_STATE_HOME": f"{room}/state", "no_proxy": "127.0.0.1"})
+            compare_answers(f"{options}: {told}", wanted, status)
+        compare_answers("what is held", (200, b"a"),
+                        asked(int(url.rpartition(":")[2]), "GET", "/resource/a.txt"))
+    compare("what is remembered", b"1",
+            b"%d" % len(list(pathlib.Path(room, "state/ropepeach/fill").iterdir())))
+
+
+# What is looked at, and which tools it needs.
+CHECKS: dict[object, list[str]] = {a_publication_without_changes_is_skipped: [], the_unit_fills: []}

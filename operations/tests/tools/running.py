@@ -1,0 +1,149 @@
+"""What the checks of operations/tests/tools share: runs of the command, sources that are served, stopped and killed, folders, and a line a row."""
+import contextlib
+import os
+import pathlib
+import re
+import signal
+import subprocess
+import sys
+import tempfile
+import time
+
+from operations.tests.mirror.mirrors import DIRECT
+from operations.tests.tools import COMMAND
+from tests.program import PROGRAM, Differs, room_in_memory
+from tests.served_source import free_port
+
+# No step takes longer than this.
+SECONDS = 60
+
+
+def same(what, wanted, found):
+    """Compares two values."""
+    if wanted != found:
+        raise Differs(f"{what}: wanted {wanted!r}, found {str(found)[:600]!r}")
+
+
+def has(what, words, text):
+    """Looks whether a text has some words."""
+    if words not in text:
+        raise Differs(f"{what}: {words!r} is not in {text[-600:]!r}")
+
+
+def begun(*words, **settings):
+    """A run of the command that has begun."""
+    how = {"stdout": subprocess.PIPE, "stderr": subprocess.PIPE, "text": True, "env": os.environ | DIRECT} | settings
+    return subprocess.Popen([*COMMAND, *map(str, words)], **how)
+
+
+def ended(run):
+    """How a run ends by itself: its status, what it wrote, and its complaints."""
+    try:
+        output, complaints = run.communicate(timeout=SECONDS)
+    except subprocess.TimeoutExpired:
+        run.kill()
+        raise Differs(f"a run goes on for more than {SECONDS} seconds: {run.args[2:]}") from None
+    return run.returncode, output, complaints
+
+
+def ropepeach(*words, **settings):
+    """A whole run of the command."""
+    return ended(begun(*words, **settings))
+
+
+class Server:
+    """A source on a file, at a port that stays, which is stopped and started again."""
+
+    def __init__(self, program, disk, size=8 << 20, limit=100, base=None, given=None):
+        self.program, self.disk, self.port, self.process = program, pathlib.Path(disk), free_port(), None
+        self.url = f"http://127.0.0.1:{self.port}"
+        if given:
+            self.disk.write_bytes(given)
+        else:
+            subprocess.run([program, "format", self.disk, str(size), base or self.url, str(limit)], check=True, capture_output=True, timeout=SECONDS)
+
+    def __enter__(self):
+        self.start()
+        return self
+
+    def __exit__(self, *fault):
+        self.kill()
+
+    def start(self, count=1_000_000):
+        words = [self.program, "serve", self.disk, str(self.port), str(count)]
+        self.process = subprocess.Popen(words, stdout=subprocess.PIPE)
+        with self.process.stdout as output:
+            same("the server's line", b"listening 127.0.0.1:%d\n" % self.port, output.readline())
+
+    def kill(self):
+        if self.process:
+            self.process.kill()
+            self.process.wait(SECONDS)
+
+    def hold(self):
+        """Stops the server by a signal, until `go_on`."""
+        self.process.send_signal(signal.SIGSTOP)
+
+    def go_on(self):
+        self.process.send_signal(signal.SIGCONT)
+
+    def answers(self, *lines):
+        """What the program answers to a script, once the server is killed."""
+        self.kill()
+        script = "".join(f"{it}\n" for it in lines).encode()
+        return subprocess.run([self.program, "run", self.disk], input=script, capture_output=True, check=True, timeout=SECONDS).stdout
+
+    def counts(self):
+        """How many resources it holds, how many changes it keeps, and the number of its publications."""
+        return tuple(map(int, re.findall(r"(?:resources|changes|publication) (\d+)", self.answers("status").decode())))
+
+    def holds(self, folder):
+        """Looks whether the source holds exactly the files of a folder, whose names stand for themselves."""
+        wanted = {str(it.relative_to(folder)): it.read_bytes() for it in sorted(pathlib.Path(folder).rglob("*")) if it.is_file()}
+        shown = self.answers("status", *(f"show /resource/{it}" for it in wanted)).partition(b"\n")
+        same("how many are held", b"resources %d" % len(wanted), b" ".join(shown[0].split()[:2]))
+        if shown[2] != b"".join(b"bytes %d\n%b\n" % (len(it), it) for it in wanted.values()):
+            raise Differs("the source holds other bytes than the folder")
+
+
+def written(folder, files):
+    """Writes files by their names, as they were written some time ago: a young file is waited for."""
+    for name, body in files.items():
+        path = pathlib.Path(folder, name)
+        path.parent.mkdir(parents=True, exist_ok=True)
+        path.write_bytes(body)
+        os.utime(path, (1_700_000_000, 1_700_000_000))
+    return pathlib.Path(folder)
+
+
+def files_of(folder):
+    """The bytes of all files of a mirror but its own."""
+    return {str(it.relative_to(folder)): it.read_bytes() for it in pathlib.Path(folder).rglob("*") if it.is_file() and it.name != "#state"}
+
+
+def wait_until(is_so, what):
+    """Waits until something is so."""
+    end = time.monotonic() + SECONDS
+    while not is_so():
+        if time.monotonic() > end:
+            raise Differs(f"{what}: not within {SECONDS} seconds")
+        time.sleep(0.005)
+
+
+def rows(name, checks):
+    """Runs functions, each with the program and a folder, and prints a line for each; gives the exit status."""
+    # (what a shell begins behind its back ignores this signal, and so would the command)
+    signal.signal(signal.SIGINT, signal.default_int_handler)
+    given = sys.argv[1:]
+    program = os.path.abspath(given.pop(0) if given and os.path.isfile(given[0]) else PROGRAM)
+    checks, failed = [it for it in checks if not given or it.__name__ in given], 0
+    for check in checks:
+        started, why = time.monotonic(), ""
+        with room_in_memory("tools-") as room, contextlib.chdir(room):
+            try:
+                check(program, pathlib.Path(room))
+            except (Differs, OSError, ValueError, LookupError, subprocess.SubprocessError) as fault:
+                why, failed = f": {type(fault).__name__} {fault}", failed + 1
+        print(f"{name}: {'FAILS' if why else 'holds'}, {time.monotonic() - started:.1f} s: {check.__name__}{why}", flush=True)
+    print(f"{name}: {len(checks) - failed} of {len(checks)} rows hold")
+    return 1 if failed or not checks else 0

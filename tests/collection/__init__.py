@@ -1,1 +1,0 @@
-"""Collections of several sources: their settings, the site before them, and what `ropepeach` does with all of them (docs/OPERATING.md)."""

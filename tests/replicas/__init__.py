@@ -1,1 +1,0 @@
-"""A source on a replicated store: three machines on one kernel, of which one dies after another (docs/REPLICAS.md)."""
