@@ -90,7 +90,7 @@ module _ {D : Type 0} {device : D → DiskState} (turn : Turn device) where
       (λ s held free. record {
         is_open = free;
         ready = rw (a.slots, same) held.ready;
-        told = λ image is. rw (a.slots, a.contents) (held.told image (subst (λ (m : Medium). IsImage m image) same is));
+        tells = λ image is. rw (a.slots, a.contents) (held.tells image (subst (λ (m : Medium). IsImage m image) same is));
       })
 
   module _ (command : Command) where

@@ -125,6 +125,7 @@ module _ {D : Type 0} {device : D → DiskState} (turn : Turn device) where
       version = a.version;
       leads = λ s held. early_leads r s e (a.leads s held);
       runs = a.runs;
+      closed = a.closed;
       closes = a.closes;
       stays_open = a.stays_open;
       unchanged = a.unchanged;

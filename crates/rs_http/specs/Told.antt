@@ -14,7 +14,7 @@ use Rattle.rs_http.specs.Outcomes.{RequestGives}
 use Rattle.rs_http.specs.Responses.{RequestOutcome, replied, response_text, go_on}
 use Rattle.rs_http.specs.Serving.{IsBroken}
 
--- the reply that an outcome tells, where a command was accepted
+-- the reply that the outcome of a request tells, where a command was accepted
 abbrev pub told_by : RequestOutcome → List Reply
 told_by (replied reply) = reply ∷ []
 told_by outcome = []

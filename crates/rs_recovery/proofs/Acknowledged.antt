@@ -45,7 +45,7 @@ answered_by_end : (old : DiskState) (is : Condition) (cs : Commands) (acks : Ack
 answered_by_end old is [] [] new all = tt
 answered_by_end old is (c ∷ cs) (a ∷ acks) new all =
     let next = condition_after is c a.reply in
-    (omega (arith, all.1.counted, answered_rise all.0 next cs acks new all.2), answered_by_end all.0 next cs acks new all.2)
+    (omega (arith, all.1.at_call, answered_rise all.0 next cs acks new all.2), answered_by_end all.0 next cs acks new all.2)
 answered_by_end old is cs acks new all = absurd all
 
 pub accepted_acknowledged : (old : DiskState) (is : Condition) (cs : Commands) (acks : Acks) (new : DiskState) → AreAnswered old is cs acks new

@@ -53,7 +53,7 @@ last_missing t c a old last none all =
         idle = all.1.idle;
         within = weaker ready last (λ _. Doubt) (λ _ image. StandsFor image t ⊎ Doubt image) (λ m image is. inr is) whole;
         reply = may_fail (refusal_of t c.0 c.1) none;
-        counted = refl;
+        at_call = refl;
       },
       started last (λ _. Doubt) (λ image is. exit_images ready last (λ _. Doubt) whole image is),
     )

@@ -42,6 +42,7 @@ module _ {D : Type 0} (device : D → DiskState) where
       turn.2,
       below.answered s old turn.0 turn.1 new held turn.3,
       below.end s old turn.0 turn.1 new held turn.3,
+      below.closes old turn.0 turn.1 new turn.3,
     );
     closed = λ shut.
         let stays = below.closed old turn.0 turn.1 new shut turn.3 in

@@ -38,7 +38,7 @@ use Rattle.rs_store.specs.declared.running.Ack.{Ack}
 use Rattle.rs_store.specs.Runs.{Holding, AreAnswered}
 use Rattle.rs_recovery.specs.Sessions.{Session, IsStop, IsLeftBy, AreSessions}
 use Rattle.rs_recovery.proofs.FromBelow.{resting_image}
-use Rattle.rs_recovery.specs.Served.{Asking, CouldServe, HasServed, IsNoLater}
+use Rattle.rs_recovery.specs.Served.{Asking, CouldServe, HasServedIn, HasServed, IsNoLater}
 use Rattle.rs_recovery.specs.Mirrored.{AreLawfulSessions, list_head, changes_head, Asked, answered_by, IsAskedPart, AsksBoth}
 use Rattle.rs_recovery.proofs.Below.{Commands, Acks}
 use Rattle.rs_recovery.proofs.Missing.{answers_may_be_missing}
@@ -136,9 +136,12 @@ abbrev behind_in : Bool → Commands
 behind_in true = first_commands
 behind_in false = first_commands ++ second_commands
 
+pub served_second : (d e f g : DiskState) (image other : List ℕ) → HasServedIn start (second f g other) (first d e image ∷ []) (2 ∷ []) (asking_in false) (behind_in false)
+served_second d e f g image other = record { after = refl; could = could_serve_second f g other; behind = refl }
+
 served_in : (d e f g : DiskState) (image other : List ℕ) (is_first : Bool) → HasServed start (two d e f g image other) standing (asking_in is_first) (behind_in is_first)
-served_in d e f g image other true = inr (inl (refl, could_serve_first d e image, refl))
-served_in d e f g image other false = inl (refl, could_serve_second f g other, refl)
+served_in d e f g image other true = inr (inl (record { after = refl; could = could_serve_first d e image; behind = refl }))
+served_in d e f g image other false = inl (served_second d e f g image other)
 
 -- The Resource List is asked for in the first session, all else in the second.
 abbrev asking : List ℕ → Asking

@@ -174,7 +174,7 @@ serves_on s x n m t le could =
 served_in : (start : Source) (sessions : List Session) (standing : List ℕ) (asking : Asking) (commands : Commands) → HasServed start sessions standing asking commands → asking.sessions < length sessions
 served_in start [] standing asking commands has = absurd has
 served_in start (x ∷ past) [] asking commands has = absurd has
-served_in start (x ∷ past) (j ∷ standing) asking commands (inl here) = let same : asking.sessions ≡ length past = here.0 in omega (arith, same)
+served_in start (x ∷ past) (j ∷ standing) asking commands (inl here) = let same : asking.sessions ≡ length past = here.after in omega (arith, same)
 served_in start (x ∷ past) (j ∷ standing) asking commands (inr older) = omega (arith, served_in start past standing asking commands older)
 
 abbrev AreServed : Source → List Session → List ℕ → Type 0
@@ -187,26 +187,26 @@ AreOrdered start sessions standing = (asking later : Asking) (commands more : Co
 
 order_on : (start : Source) (x : Session) (past : List Session) (j : ℕ) (standing : List ℕ) → AreServed start past standing → AreOrdered start past standing → AreOrdered start (x ∷ past) (j ∷ standing)
 order_on start x past j standing served ordered asking later commands more (inl earlier) (inl first) (inl then) =
-    let one : asking.sessions ≡ length past = first.0 in
-    let two : later.sessions ≡ length past = then.0 in
+    let one : asking.sessions ≡ length past = first.after in
+    let two : later.sessions ≡ length past = then.after in
     absurd (omega (arith, earlier, one, two))
 order_on start x past j standing served ordered asking later commands more (inr same) (inl first) (inl then) =
     let n = asking.commands in
     let m = later.commands in
     let before : Commands = commands_left past standing in
-    let front = prefix_under before (counted_commands (take n x.commands) (take n x.acks)) (counted_commands (take m x.commands) (take m x.acks)) (serves_on (fold_of start before) x n m asking.state same.1 first.1) in
-    subst (λ (l : Commands). IsPrefixOf commands l) (sym then.2)
-    (subst (λ (l : Commands). IsPrefixOf l (before ++ counted_commands (take m x.commands) (take m x.acks))) (sym first.2) front)
+    let front = prefix_under before (counted_commands (take n x.commands) (take n x.acks)) (counted_commands (take m x.commands) (take m x.acks)) (serves_on (fold_of start before) x n m asking.state same.1 first.could) in
+    subst (λ (l : Commands). IsPrefixOf commands l) (sym then.behind)
+    (subst (λ (l : Commands). IsPrefixOf l (before ++ counted_commands (take m x.commands) (take m x.acks))) (sym first.behind) front)
 order_on start x past j standing served ordered asking later commands more (inl earlier) (inl first) (inr older) =
-    let one : asking.sessions ≡ length past = first.0 in
+    let one : asking.sessions ≡ length past = first.after in
     absurd (omega (arith, earlier, one, served_in start past standing later more older))
 order_on start x past j standing served ordered asking later commands more (inr same) (inl first) (inr older) =
-    let one : asking.sessions ≡ length past = first.0 in
+    let one : asking.sessions ≡ length past = first.after in
     let two : asking.sessions ≡ later.sessions = same.0 in
     absurd (omega (arith, one, two, served_in start past standing later more older))
 order_on start x past j standing served ordered asking later commands more no_later (inr older) (inl then) =
     let m = later.commands in
-    subst (λ (l : Commands). IsPrefixOf commands l) (sym then.2)
+    subst (λ (l : Commands). IsPrefixOf commands l) (sym then.behind)
     (prefix_on commands (commands_left past standing) (counted_commands (take m x.commands) (take m x.acks)) (served asking commands older).1)
 order_on start x past j standing served ordered asking later commands more no_later (inr older) (inr then) = ordered asking later commands more no_later older then
 
@@ -242,8 +242,8 @@ module _ (once : StandsOnce) where
             holds = (p.least, p.most, image, held);
             ordered = order_on start x past p.j standing served ordered;
             served = λ asking commands has. ⊎_elim
-                (λ here. subst (λ (l : Commands). (asking.state ≡ fold_of start l) × IsPrefixOf l (commands_left (x ∷ past) (p.j ∷ standing))) (sym here.2)
-                (serves start before x p.j asking.commands asking.state (session_lengths (fold_of start before) x is) p.least here.1))
+                (λ here. subst (λ (l : Commands). (asking.state ≡ fold_of start l) × IsPrefixOf l (commands_left (x ∷ past) (p.j ∷ standing))) (sym here.behind)
+                (serves start before x p.j asking.commands asking.state (session_lengths (fold_of start before) x is) p.least here.could))
                 (λ older. let found = served asking commands older in (found.0, prefix_on commands before (take p.j (counted x)) found.1))
                 has;
           },

@@ -27,9 +27,9 @@ module _ {D : Type 0} (device : D → DiskState) (images_stand : HeldStands devi
   holds_on old new reads s holds = record {
     is_open = reads.is_closed ∙ holds.is_open;
     ready = subst (λ (x : Standing). IsReady x (device new.disk).now) (sym reads.slots) (subst (λ (m : Medium). IsReady old.slots m) (sym reads.rests.now) holds.ready);
-    told = λ image is.
+    tells = λ image is.
         let here : IsImage (device old.disk).now image = subst (λ (m : Medium). IsImage m image) reads.rests.now is in
-        subst (λ (x : Standing). Tells x.root new.contents image s) (sym reads.slots) (subst (λ (x : Contents). Tells old.slots.root x image s) (sym reads.contents) (holds.told image here));
+        subst (λ (x : Standing). Tells x.root new.contents image s) (sym reads.slots) (subst (λ (x : Contents). Tells old.slots.root x image s) (sym reads.contents) (holds.tells image here));
   }
 
   pub readings_idle : ReadingsIdle device

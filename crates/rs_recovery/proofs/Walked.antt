@@ -50,7 +50,7 @@ walk_behind device s first M N new are walk = record {
 -- a source's lists have the state that it holds
 pub told : {D : Type 0} (device : D → DiskState) (sound : (disk : D) → IsMedium (device disk).size (device disk).now) (source : Stored D) (s : Source)
     → Holds device source s → state_of device source ≡ s
-told device sound source s holds = (holds.told (device source.disk).now.seen (sound source.disk).image).state
+told device sound source s holds = (holds.tells (device source.disk).now.seen (sound source.disk).image).state
 
 -- a source holds the state after these events
 pub walked : {D : Type 0} (device : D → DiskState) → HeldStands device → (s : Source) (M : Kind) (new : Stored D) (events : List Event)

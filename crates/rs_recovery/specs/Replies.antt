@@ -11,6 +11,7 @@ use Rattle.rs_store.specs.declared.running.Ack.{Ack}
 use Rattle.rs_store.specs.Source.{Stored, Holds}
 use Rattle.rs_store.specs.Answered.{Answers}
 use Rattle.rs_store.specs.Counted.{counted_commands}
+use Rattle.rs_store.specs.Laws.{AreNotDevice}
 use Rattle.rs_store.specs.Runs.{IsIdle, InTurn, Holding, AreAnswered}
 
 -- the reply in an answer, where the command was accepted
@@ -24,13 +25,14 @@ replies_in acks = flat_map (λ a. reply_in a.reply) acks
 
 -- What a source did, where these are its replies to the commands that it accepted.
 -- `answered`: where it held a state, its disk saw commands answered in their order, from that state on. If it is open at the
--- end, it holds the state after the counted ones. So what comes next begins with that state.
+-- end, it holds the state after the counted ones, and answered Device to none. So what comes next begins with that state.
 -- `closed`: where it was closed, it accepts no command and stays closed, and only the counts of the disk change.
 pub record HasReplied {D : Type 0} (device : D → DiskState) (old : Stored D) (replies : List Reply) (new : Stored D) : Type 0 where
   pub answered : (s : Source) → Holds device old s
       → (commands : List (Command × ℕ)) × (acks : List Ack) × (replies_in acks ≡ replies)
       × AreAnswered (device old.disk) (Holding s) commands acks (device new.disk)
       × (new.is_closed ≡ false → Holds device new (fold_of s (counted_commands commands acks)))
+      × (new.is_closed ≡ false → AreNotDevice acks)
   pub closed : old.is_closed ≡ true → (replies ≡ []) × (new.is_closed ≡ true) × Rests (device old.disk) (device new.disk)
 
 -- A source answered commands in their turn, with these replies.

@@ -21,14 +21,17 @@ pub record CouldServe (s : Source) (x : Session) (n : ℕ) (t : Source) : Type 0
   pub before : AllByRecursion (λ a. a.at_call ≤ x.stop) (take n x.acks)
   pub held : condition_behind (Holding s) (take n x.commands) (take n x.acks) ≡ Holding t
 
--- The source could be asked then, and these are the commands behind it: the surviving ones of the sessions before, and
--- then the counted ones of its own session.
+-- The source of the session `x` is asked, which came after the sessions `past`. These are the commands behind it: the
+-- surviving ones of the sessions before, and then the counted ones of its own session.
+pub record HasServedIn (start : Source) (x : Session) (past : List Session) (standing : List ℕ) (asking : Asking) (commands : List (Command × ℕ)) : Type 0 where
+  pub after : asking.sessions ≡ length past
+  pub could : CouldServe (fold_of start (commands_left past standing)) x asking.commands asking.state
+  pub behind : commands ≡ commands_left past standing ++ counted_commands (take asking.commands x.commands) (take asking.commands x.acks)
+
+-- The source was asked in one of these sessions, the latest or an earlier one, and these are the commands behind it.
 abbrev pub HasServed : Source → List Session → List ℕ → Asking → List (Command × ℕ) → Type 0
 HasServed start (x ∷ past) (j ∷ standing) asking commands =
-    ((asking.sessions ≡ length past)
-    × CouldServe (fold_of start (commands_left past standing)) x asking.commands asking.state
-    × (commands ≡ commands_left past standing ++ counted_commands (take asking.commands x.commands) (take asking.commands x.acks)))
-    ⊎ HasServed start past standing asking commands
+    HasServedIn start x past standing asking commands ⊎ HasServed start past standing asking commands
 HasServed start sessions standing asking commands = ⊥
 
 -- in an earlier session, or in the same one after no more commands

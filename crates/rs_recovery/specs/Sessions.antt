@@ -56,12 +56,25 @@ pub record IsStopped (s : Source) (x : Session) : Type 0 where
   pub answered : AreAnswered x.first (Holding s) (asked x) (ended x) x.last
   pub stopped : IsStop x.first x.last x.stop x.image
 
--- Sessions of one source, the latest first. The first one began with this state. Each later one began with the state of
--- the image that the stop before it had left. Each may be on a disk of another type.
+-- Sessions of one source, the latest first: `x` came after `y`. The first one began with this state. Each later one began
+-- with the state `s` of the image that the stop before it had left. Each may be on a disk of another type.
 abbrev pub AreSessions : Source → List Session → Type 0
 AreSessions start [] = ⊥
 AreSessions start (x ∷ []) = IsStopped start x
 AreSessions start (x ∷ y ∷ past) = (s : Source) × StandsFor y.image s × IsStopped s x × AreSessions start (y ∷ past)
+
+-- A session whose disk saw its commands answered from a state on, and which a stop then ended, is stopped.
+abbrev pub StopsEndSessions : Type 0
+StopsEndSessions = (s : Source) (x : Session) → AreAnswered x.first (Holding s) (asked x) (ended x) x.last → IsStop x.first x.last x.stop x.image → IsStopped s x
+
+-- A stopped session alone is the first one.
+abbrev pub SessionsBegin : Type 0
+SessionsBegin = (start : Source) (x : Session) → IsStopped start x → AreSessions start (x ∷ [])
+
+-- A stopped session is one more, if it began with the state of the image that the latest stop before it had left.
+abbrev pub SessionsFollow : Type 0
+SessionsFollow = (start s : Source) (x y : Session) (past : List Session) → AreSessions start (y ∷ past) → StandsFor y.image s → IsStopped s x
+    → AreSessions start (x ∷ y ∷ past)
 
 -- the commands behind the image of the latest stop, where of each session this many of its counted commands survive
 abbrev pub commands_left : List Session → List ℕ → List (Command × ℕ)

@@ -14,7 +14,14 @@ ghost use Rattle.rs_recovery.specs.Below.{Below};
 ghost use Rattle.rs_recovery.specs.Turns.{CommandsAreTurns, ReadingsIdle, CutPutsIdle};
 ghost use Rattle.rs_recovery.specs.Prefixes.{RunsRecover, RunsHaveAnswered, IdleIsRun, CommandIsRun, RunsJoin};
 ghost use Rattle.rs_recovery.specs.Replies.{IdleHasNoReply, CommandHasReply, RepliesJoin, RepliesAreSeen};
-ghost use Rattle.rs_recovery.specs.Sessions.{OneStanding, OpeningsStopToo, AnswersMayBeMissing};
+ghost use Rattle.rs_recovery.specs.Sessions.{
+  StopsEndSessions,
+  SessionsBegin,
+  SessionsFollow,
+  OneStanding,
+  OpeningsStopToo,
+  AnswersMayBeMissing,
+};
 ghost use Rattle.rs_recovery.specs.Served.{SessionsStand};
 ghost use Rattle.rs_recovery.specs.Recovered.{YieldsHeld};
 ghost use Rattle.rs_recovery.specs.Documents.{DocumentsAreOfTheState};
@@ -89,6 +96,14 @@ pub fn sessions_stand()
     stands_once();
     answers_leave_prefixes();
 }
+
+/// Each run of commands that a stop ends is a session more. Its source was formatted or copied, or opened on the image
+/// that the latest stop before had left.
+pub fn sessions_follow()
+    ensures stopped { StopsEndSessions }
+    ensures first { SessionsBegin }
+    ensures next { SessionsFollow }
+{}
 
 /// What the stops left determines how many commands of each session survive.
 pub fn one_standing()

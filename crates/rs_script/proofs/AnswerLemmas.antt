@@ -24,35 +24,35 @@ use Rattle.rs_script.specs.declared.request.Request.TheVariants.{At, Run, Docume
 use Rattle.rs_script.specs.Answers.{outcome_text, shown_text, verified_text}
 use Rattle.rs_store.specs.AnswersBody.{AnswersBody}
 use Rattle.rs_store.specs.Verified.{AnswersVerify}
-use Rattle.rs_script.specs.Outcomes.{outcome_of_reply, shown_as, verified_as, RequestGives, AnswerGives, LineGives}
+use Rattle.rs_script.specs.Outcomes.{outcome_of_reply, shown_as, verified_as, AskedGives, AnswerGives, LineGives}
 use Rattle.rs_script.specs.Lines.{line_limit}
 use Rattle.rs_script.specs.Model.{shown_or}
-use Rattle.rs_script.specs.Progress.{IsAnswered}
+use Rattle.rs_script.specs.Progress.{HasAnswer}
 use Rattle.rs_script.specs.Requests.{request_of}
 use Rattle.rs_script.specs.Room.{TakesRoom}
 use Rattle.rs_script.specs.Session.{ScriptState, script_state, LineOutcome, moment_set, counted, refused, Answer, unchanged}
 
 -- this is the answer, and the session after it is its own
-abbrev was : {S : Type 0} {Gives : Answer S → Type 0} {P : List ℕ → Type 0} (answer : Answer S) → Gives answer → P (outcome_text answer.outcome) → IsAnswered Gives answer.session P
+abbrev was : {S : Type 0} {Gives : Answer S → Type 0} {P : List ℕ → Type 0} (answer : Answer S) → Gives answer → P (outcome_text answer.outcome) → HasAnswer Gives answer.session P
 was answer gives w = record { answer = answer; gives = gives; session_is = refl; written = w }
 
 -- the source got a command
 pub ran : {D : Type 0} (device : D → DiskState) (old new : Stored D) (command : Command) (now : ℕ) (result : Result Reply denials.Refusal) (P : List ℕ → Type 0)
     → stored.Answers device old new command now result → P (outcome_text (outcome_of_reply result))
-    → IsAnswered (RequestGives device (script_state old now) (Ok (Run command))) (script_state new now) P
+    → HasAnswer (AskedGives device (script_state old now) (Ok (Run command))) (script_state new now) P
 ran device old new command now result P a w =
     was (record { outcome = outcome_of_reply result; commands = counted_as command now result; session = script_state new now }) (record { result = result; answers = a; outcome = refl; commands = refl; now = refl }) w
 
 -- the source was asked for a body
 pub was_read : {D : Type 0} (device : D → DiskState) (old new : Stored D) (name : List ℕ) (now : ℕ) (result : Result (Vec ℕ Global) denials.Refusal) (P : List ℕ → Type 0)
     → AnswersBody device old new name result → P (outcome_text (shown_as result))
-    → IsAnswered (RequestGives device (script_state old now) (Ok (Body name))) (script_state new now) P
+    → HasAnswer (AskedGives device (script_state old now) (Ok (Body name))) (script_state new now) P
 was_read device old new name now result P a w =
     was (record { outcome = shown_as result; commands = []; session = script_state new now }) (record { result = result; answers = a; outcome = refl; commands = refl; now = refl }) w
 
 -- the moment is set
 pub moment_answered : {D : Type 0} (device : D → DiskState) (s : Stored D) (now t : ℕ) (P : List ℕ → Type 0)
-    → P (outcome_text moment_set) → IsAnswered (RequestGives device (script_state s now) (Ok (At t))) (script_state s t) P
+    → P (outcome_text moment_set) → HasAnswer (AskedGives device (script_state s now) (Ok (At t))) (script_state s t) P
 moment_answered device s now t P w = was (record { outcome = moment_set; commands = []; session = script_state s t }) refl w
 
 -- an open source answers
@@ -62,7 +62,7 @@ when_open closed outcome opened = ap (λ b. if b then refused (Source Closed) el
 -- a document is shown, or does not exist
 pub document_answered : DocumentsAreOfTheState → {D : Type 0} (device : D → DiskState) (s : Stored D) (now : ℕ) (doc : Doc) (view : Shown) (outcome : LineOutcome) (P : List ℕ → Type 0)
     → s.is_closed ≡ false → view ≡ views.shown_in s.contents → shown_or NoSuchDocument (document_text view doc) ≡ outcome
-    → P (outcome_text outcome) → IsAnswered (RequestGives device (script_state s now) (Ok (Document doc))) (script_state s now) P
+    → P (outcome_text outcome) → HasAnswer (AskedGives device (script_state s now) (Ok (Document doc))) (script_state s now) P
 document_answered one_text device s now doc view outcome P opened is e w =
     let text = ap (λ v. document_text v doc) is ∙ one_text (device s.disk).now.seen s.contents doc in
     let found = sym e ∙ ap (shown_or NoSuchDocument) text in
@@ -71,28 +71,28 @@ document_answered one_text device s now doc view outcome P opened is e w =
 -- a closed source shows no document
 pub document_closed : {D : Type 0} (device : D → DiskState) (s : Stored D) (now : ℕ) (doc : Doc) (refusal : denials.Refusal) (P : List ℕ → Type 0)
     → refusal ≡ Closed → s.is_closed ≡ true → P (outcome_text (refused (Source refusal)))
-    → IsAnswered (RequestGives device (script_state s now) (Ok (Document doc))) (script_state s now) P
+    → HasAnswer (AskedGives device (script_state s now) (Ok (Document doc))) (script_state s now) P
 document_closed device s now doc refusal P same closed w =
     was (unchanged (script_state s now) (refused (Source Closed))) (rw closed refl) (subst (λ r. P (outcome_text (refused (Source r)))) same w)
 
 -- an open source is counted
 pub counted_answered : {D : Type 0} (device : D → DiskState) (s : Stored D) (now : ℕ) (status : counts.Status) (P : List ℕ → Type 0)
     → s.is_closed ≡ false → status ≡ status_of (state_of device s) → P (outcome_text (counted status))
-    → IsAnswered (RequestGives device (script_state s now) (Ok Status)) (script_state s now) P
+    → HasAnswer (AskedGives device (script_state s now) (Ok Status)) (script_state s now) P
 counted_answered device s now status P opened e w =
     was (unchanged (script_state s now) (counted status)) (ap (unchanged (script_state s now)) (ap counted e ∙ sym (when_open s.is_closed (counted (status_of (state_of device s))) opened))) w
 
 -- a closed source is not counted
 pub counted_closed : {D : Type 0} (device : D → DiskState) (s : Stored D) (now : ℕ) (refusal : denials.Refusal) (P : List ℕ → Type 0)
     → refusal ≡ Closed → s.is_closed ≡ true → P (outcome_text (refused (Source refusal)))
-    → IsAnswered (RequestGives device (script_state s now) (Ok Status)) (script_state s now) P
+    → HasAnswer (AskedGives device (script_state s now) (Ok Status)) (script_state s now) P
 counted_closed device s now refusal P same closed w =
     was (unchanged (script_state s now) (refused (Source Closed))) (rw closed refl) (subst (λ r. P (outcome_text (refused (Source r)))) same w)
 
 -- the source was asked for the damaged bodies
 pub was_verified : {D : Type 0} (device : D → DiskState) (old new : Stored D) (now : ℕ) (result : Result (Vec (List ℕ) Global) denials.Refusal) (P : List ℕ → Type 0)
     → AnswersVerify device old new result → P (outcome_text (verified_as (length (state_of device old).held) result))
-    → IsAnswered (RequestGives device (script_state old now) (Ok Verify)) (script_state new now) P
+    → HasAnswer (AskedGives device (script_state old now) (Ok Verify)) (script_state new now) P
 was_verified device old new now result P a w =
     was (record { outcome = verified_as (length (state_of device old).held) result; commands = []; session = script_state new now }) (record { result = result; answers = a; outcome = refl; commands = refl; now = refl }) w
 
@@ -100,7 +100,7 @@ was_verified device old new now result P a w =
 pub damaged_told : {D : Type 0} (device : D → DiskState) (old new : Stored D) (now : ℕ) (names : Vec (List ℕ) Global) (written : List (List ℕ)) (sound : ℕ) (status : counts.Status) (P : List ℕ → Type 0)
     → AnswersVerify device old new (Ok names) → written ≡ names.items → status ≡ status_of (state_of device old)
     → sound ≡ status.resources - length names.items → P (verified_text written sound)
-    → IsAnswered (RequestGives device (script_state old now) (Ok Verify)) (script_state new now) P
+    → HasAnswer (AskedGives device (script_state old now) (Ok Verify)) (script_state new now) P
 damaged_told device old new now names written sound status P a same e is w =
     let number : sound ≡ length (state_of device old).held - length names.items = is ∙ ap (λ (s : counts.Status). s.resources - length names.items) e in
     was_verified device old new now (Ok names) P a (subst (λ n. P (verified_text names.items n)) number (subst (λ l. P (verified_text l sound)) same w))
@@ -108,7 +108,7 @@ damaged_told device old new now names written sound status P a same e is w =
 -- a closed source checks no body
 pub verified_closed : {D : Type 0} (device : D → DiskState) (s : Stored D) (now : ℕ) (refusal : denials.Refusal) (P : List ℕ → Type 0)
     → refusal ≡ Closed → s.is_closed ≡ true → P (outcome_text (refused (Source refusal)))
-    → IsAnswered (RequestGives device (script_state s now) (Ok Verify)) (script_state s now) P
+    → HasAnswer (AskedGives device (script_state s now) (Ok Verify)) (script_state s now) P
 verified_closed device s now refusal P same closed w =
     was_verified device s s now (Err Closed) P (record {
       names = tt;
@@ -125,7 +125,7 @@ denied refusal = Err refusal
 
 -- the line asks for nothing, or there was no memory for what it asks for
 pub refused_answered : {D : Type 0} (device : D → DiskState) (s : ScriptState (Stored D)) (found : Result Request Refusal) (Room : Type 0) (refusal : Refusal) (P : List ℕ → Type 0)
-    → (Err refusal ≡ found) ⊎ ((denied refusal ≡ denied NoMemory) × Room) → P (outcome_text (refused refusal)) → IsAnswered (AnswerGives device s found Room) s P
+    → (Err refusal ≡ found) ⊎ ((denied refusal ≡ denied NoMemory) × Room) → P (outcome_text (refused refusal)) → HasAnswer (AnswerGives device s found Room) s P
 refused_answered device s found Room refusal P (inl e) w = was (unchanged s (refused refusal)) (inl (rw (sym e) refl)) w
 refused_answered device s found Room refusal P (inr (e, room)) w =
     was (unchanged s (refused refusal)) (inr (room, let same : refusal ≡ NoMemory = cc in rw same refl)) w
@@ -135,10 +135,10 @@ asked request = Ok request
 
 -- the line asks for something
 pub understood : {D : Type 0} (device : D → DiskState) (s new : ScriptState (Stored D)) (found : Result Request Refusal) (Room : Type 0) (request : Request) (P : List ℕ → Type 0)
-    → (Ok request ≡ found) ⊎ ((asked request ≡ denied NoMemory) × Room) → IsAnswered (RequestGives device s (Ok request)) new P → IsAnswered (AnswerGives device s found Room) new P
+    → (Ok request ≡ found) ⊎ ((asked request ≡ denied NoMemory) × Room) → HasAnswer (AskedGives device s (Ok request)) new P → HasAnswer (AnswerGives device s found Room) new P
 understood device s new found Room request P (inl e) given = record {
   answer = given.answer;
-  gives = inl (subst (λ r. RequestGives device s r given.answer) e given.gives);
+  gives = inl (subst (λ r. AskedGives device s r given.answer) e given.gives);
   session_is = given.session_is;
   written = given.written;
 }
@@ -146,23 +146,23 @@ understood device s new found Room request P (inr (e, room)) given = absurd cc
 
 -- a line that asks for nothing
 pub foreign_answered : {D : Type 0} (device : D → DiskState) (s : ScriptState (Stored D)) (line : List ℕ) (P : List ℕ → Type 0)
-    → (length line ≤ line_limit) × (request_of line ≡ Err BadLine) → P (outcome_text (refused BadLine)) → IsAnswered (LineGives device s line) s P
+    → (length line ≤ line_limit) × (request_of line ≡ Err BadLine) → P (outcome_text (refused BadLine)) → HasAnswer (LineGives device s line) s P
 foreign_answered device s line P h w = was (unchanged s (refused BadLine)) (inr (h.0, inl (rw h.1 refl))) w
 
 -- a line past the limit
 pub long_answered : {D : Type 0} (device : D → DiskState) (s : ScriptState (Stored D)) (line : List ℕ) (P : List ℕ → Type 0)
-    → line_limit < length line → P (outcome_text (refused LongLine)) → IsAnswered (LineGives device s line) s P
+    → line_limit < length line → P (outcome_text (refused LongLine)) → HasAnswer (LineGives device s line) s P
 long_answered device s line P h w = was (unchanged s (refused LongLine)) (inl (h, refl)) w
 
 -- there was no memory for a line
 pub no_room_for_line : {D : Type 0} (device : D → DiskState) (s : ScriptState (Stored D)) (line : List ℕ) (P : List ℕ → Type 0)
-    → (length line ≤ line_limit) × (9 ≤ length line) → P (outcome_text (refused NoMemory)) → IsAnswered (LineGives device s line) s P
+    → (length line ≤ line_limit) × (9 ≤ length line) → P (outcome_text (refused NoMemory)) → HasAnswer (LineGives device s line) s P
 no_room_for_line device s line P h w = was (unchanged s (refused NoMemory)) (inr (h.0, inr (inl h.1, refl))) w
 
 -- a line of these bytes
 pub bytes_answered : {D : Type 0} (device : D → DiskState) (s new : ScriptState (Stored D)) (bytes line : List ℕ) (P : List ℕ → Type 0)
     → (bytes ≡ line) × (length line ≤ line_limit)
-    → IsAnswered (AnswerGives device s (request_of bytes) (TakesRoom bytes)) new P → IsAnswered (LineGives device s line) new P
+    → HasAnswer (AnswerGives device s (request_of bytes) (TakesRoom bytes)) new P → HasAnswer (LineGives device s line) new P
 bytes_answered device s new bytes line P h given = record {
   answer = given.answer;
   gives = inr (h.1, rw (sym h.0) given.gives);
@@ -173,7 +173,7 @@ bytes_answered device s new bytes line P h given = record {
 -- the body is shown
 pub body_shown : {D : Type 0} (device : D → DiskState) (old new : Stored D) (name : List ℕ) (now : ℕ) (bytes : Vec ℕ Global) (written : List ℕ) (P : List ℕ → Type 0)
     → AnswersBody device old new name (Ok bytes) → written ≡ bytes.items → P (shown_text written)
-    → IsAnswered (RequestGives device (script_state old now) (Ok (Body name))) (script_state new now) P
+    → HasAnswer (AskedGives device (script_state old now) (Ok (Body name))) (script_state new now) P
 body_shown device old new name now bytes written P a same w = was_read device old new name now (Ok bytes) P a (subst (λ b. P (shown_text b)) same w)
 
 -- a source that refuses nothing is open

@@ -18,7 +18,7 @@ use Rattle.rs_script.specs.declared.refusal.Refusal.{Refusal}
 use Rattle.rs_script.specs.declared.request.Request.{Request}
 use Rattle.rs_script.specs.declared.request.Request.TheVariants.{At, Run, Document, Body, Status, Verify}
 use Rattle.rs_store.specs.OnlyReads.{OnlyReads}
-use Rattle.rs_script.specs.Outcomes.{outcome_of_reply, RequestGives, AnswerGives, LineGives, StatementGives}
+use Rattle.rs_script.specs.Outcomes.{outcome_of_reply, AskedGives, AnswerGives, LineGives, StatementGives}
 use Rattle.rs_script.specs.Requests.{request_of}
 use Rattle.rs_script.specs.Room.{TakesRoom, GroupTakesRoom}
 use Rattle.rs_script.specs.Statements.{Statement, single, grouped, cut_off, request_by}
@@ -96,10 +96,10 @@ module _ {D : Type 0} (device : D → DiskState) (old : Stored D) where
         holds = λ s held free. record {
           is_open = free;
           ready = subst (λ (slots : Standing). IsReady slots (device new.disk).now) (sym a.slots) (subst (IsReady old.slots) (sym a.rests.now) held.ready);
-          told = λ image is.
+          tells = λ image is.
               let was : IsImage (device old.disk).now image = subst (λ (m : Medium). IsImage m image) a.rests.now is in
               subst (λ (slots : Standing). Tells slots.root new.contents image s) (sym a.slots)
-              (subst (λ (c : Contents). Tells old.slots.root c image s) (sym a.contents) (held.told image was));
+              (subst (λ (c : Contents). Tells old.slots.root c image s) (sym a.contents) (held.tells image was));
         };
       }
 
@@ -107,7 +107,7 @@ module _ {D : Type 0} (device : D → DiskState) (old : ScriptState (Stored D)) 
   AnswerFollows : Answer (Stored D) → Type 0
   AnswerFollows a = Follows device old.source a.session.source a.commands
 
-  request_follows : (request : Result Request Refusal) → RequestGives device old request answer → AnswerFollows answer
+  request_follows : (request : Result Request Refusal) → AskedGives device old request answer → AnswerFollows answer
   unfolding AnswerFollows
   request_follows (Ok (At t)) e = subst AnswerFollows (sym e) (stays device old.source)
   request_follows (Ok (Run command)) r = run_follows device old.source answer.session.source command old.now r.result answer.commands r.commands r.answers
@@ -159,7 +159,7 @@ module _ {D : Type 0} (device : D → DiskState) (old : ScriptState (Stored D)) 
   run_rises command (Err TooManyChanges) a o = alike_rises answer.session.source (a.unchanged TooManyChanges refl (λ e. absurd cc)).slots
   run_rises command (Err Exhausted) a o = alike_rises answer.session.source (a.unchanged Exhausted refl (λ e. absurd cc)).slots
 
-  request_rises : (request : Result Request Refusal) → RequestGives device old request answer → Rises answer
+  request_rises : (request : Result Request Refusal) → AskedGives device old request answer → Rises answer
   unfolding Rises
   request_rises (Ok (At t)) e = subst Rises (sym e) (omega arith)
   request_rises (Ok (Run command)) r = run_rises command r.result r.answers r.outcome

@@ -16,6 +16,8 @@ pub mod Chains
 pub mod Transcripts
 pub mod Runs
 pub mod Replies
+pub mod Parts
+pub mod PartedExamples
 pub mod NamedDocuments
 pub mod Walks
 pub mod WalkedLines

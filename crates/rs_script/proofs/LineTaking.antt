@@ -8,7 +8,7 @@ use Rattle.rs_script.specs.declared.group.Taking.{Taking}
 use Rattle.rs_script.specs.declared.refusal.Refusal.{Refusal}
 use Rattle.rs_script.specs.Answers.{outcome_text, output_of}
 use Rattle.rs_script.specs.Outcomes.{StatementGives, GroupGives}
-use Rattle.rs_script.specs.Progress.{IsAnswered, LinesTaken}
+use Rattle.rs_script.specs.Progress.{HasAnswer, LinesTaken}
 use Rattle.rs_script.specs.Session.{ScriptState}
 use Rattle.rs_script.specs.Statements.{Statement, grouped, statement_lines, IsWholeStatement}
 use Rattle.rs_script.specs.Taken.{KeepsItems, KeepsGroup}
@@ -21,7 +21,7 @@ module _ {D : Type 0} (device : D → DiskState) (old new : ScriptState (Stored 
 
   -- a statement is answered
   pub one_taken : (group : Option Taking) (statement : Statement) → statement_lines statement ≡ begun ++ line ∷ [] → IsWholeStatement statement → group ≡ None
-      → IsAnswered (StatementGives device old statement) new Written → Leaves group
+      → HasAnswer (StatementGives device old statement) new Written → Leaves group
   one_taken group statement lines whole none is = (
     record {
       whole = statement ∷ [];
@@ -57,7 +57,7 @@ module _ {D : Type 0} (device : D → DiskState) (old new : ScriptState (Stored 
   -- the line was the last of its group
   pub group_done : (group after : Option Taking) (taking : Taking) (items : Result (Vec Item Global) Refusal) → group ≡ Some taking → after ≡ None
       → taking.later ≡ 0 → ((lines : List (List ℕ)) → KeepsItems taking.items lines → KeepsItems items (lines ++ line ∷ []))
-      → ((lines : List (List ℕ)) → KeepsItems items lines → IsAnswered (GroupGives device old lines) new Written)
+      → ((lines : List (List ℕ)) → KeepsItems items lines → HasAnswer (GroupGives device old lines) new Written)
       → KeepsGroup group begun → Leaves after
   group_done None after taking items is none last more answers kept = absurd cc
   group_done (Some kept) after taking items is none last more answers (first, lines, are, size, had) =

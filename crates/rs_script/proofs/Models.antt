@@ -28,20 +28,20 @@ use Rattle.rs_script.specs.declared.request.Request.TheVariants.{At, Run, Docume
 use Rattle.rs_store.specs.AnswersBody.{AnswersBody}
 use Rattle.rs_store.specs.OnlyReads.{OnlyReads}
 use Rattle.rs_store.specs.Verified.{AnswersVerify, is_sound, damaged_names}
-use Rattle.rs_script.specs.Outcomes.{outcome_of_reply, shown_as, verified_as, if_open, RequestGives, AnswerGives, LineGives, StatementGives}
+use Rattle.rs_script.specs.Outcomes.{outcome_of_reply, shown_as, verified_as, if_open, AskedGives, AnswerGives, LineGives, StatementGives}
 use Rattle.rs_script.specs.Lines.{line_limit}
 use Rattle.rs_script.specs.Model.{stepped, shown_or, sound_count, answer_to, line_answer, statement_answer}
 use Rattle.rs_script.specs.Requests.{request_of}
 use Rattle.rs_script.specs.Room.{TakesRoom, GroupTakesRoom}
 use Rattle.rs_script.specs.Statements.{Statement, single, grouped, cut_off, request_by}
-use Rattle.rs_script.specs.Script.{IsOfMachine, IsMachine, told}
+use Rattle.rs_script.specs.Script.{IsOfMachine, IsMachine, model_state}
 use Rattle.rs_script.specs.Session.{ScriptState, script_state, LineOutcome, refused, counted, verified, Answer, unchanged}
 
 -- an answer of a stored source is this one of the model
 pub record IsSame {D : Type 0} (device : D → DiskState) (answer : Answer (Stored D)) (expected : Answer Source) : Type 0 where
   pub outcome : answer.outcome ≡ expected.outcome
   pub commands : answer.commands ≡ expected.commands
-  pub session : told device answer.session ≡ expected.session
+  pub session : model_state device answer.session ≡ expected.session
 
 -- a cause that is not the machine's is the model's
 model_cause : (closed spent : Bool) (found : Option model.Refusal) (r : stored.Refusal)
@@ -81,7 +81,7 @@ module _ {D : Type 0} (device : D → DiskState) (old : ScriptState (Stored D)) 
       → decided old.source state command old.now ≡ Some r
       → answer.outcome ≡ refused (refusals.Source r) → answer.commands ≡ [] → answer.session.now ≡ old.now
       → state_of device answer.session.source ≡ state
-      → IsSame device answer (stepped (told device old) command (step state command old.now))
+      → IsSame device answer (stepped (model_state device old) command (step state command old.now))
   run_refused command r other left cause o c n same =
       let m = model_cause old.source.is_closed (nat_le (2 ^ 64) (old.source.slots.root.generation + 1)) (refusal_of state command old.now) r cause other
       (is_left old.source.slots.root.generation left) in
@@ -97,7 +97,7 @@ module _ {D : Type 0} (device : D → DiskState) (old : ScriptState (Stored D)) 
   run_same : (command : Command) (result : Result Reply stored.Refusal) → Answers device old.source answer.session.source command old.now result
       → old.source.slots.root.generation + 1 < 2 ^ 64
       → answer.outcome ≡ outcome_of_reply result → answer.commands ≡ counted_as command old.now result → answer.session.now ≡ old.now
-      → IsSame device answer (stepped (told device old) command (step state command old.now))
+      → IsSame device answer (stepped (model_state device old) command (step state command old.now))
   run_same command (Ok reply) a left o c n =
       rw a.accepted record {
         outcome = o;
@@ -125,7 +125,7 @@ module _ {D : Type 0} (device : D → DiskState) (old : ScriptState (Stored D)) 
       run_refused command Exhausted (λ e. absurd cc) left (a.refused Exhausted refl) o c n (a.unchanged Exhausted refl (λ e. absurd cc)).state
 
   -- the state of the script is the same after a read
-  read_session : OnlyReads device old.source answer.session.source → answer.session.now ≡ old.now → told device answer.session ≡ told device old
+  read_session : OnlyReads device old.source answer.session.source → answer.session.now ≡ old.now → model_state device answer.session ≡ model_state device old
   read_session a n =
       ap (λ held. script_state (state_in held.seen answer.session.source.contents) answer.session.now) a.rests.now
       ∙ ap (λ c. script_state (state_in (device old.source.disk).now.seen c) answer.session.now) a.contents
@@ -135,7 +135,7 @@ module _ {D : Type 0} (device : D → DiskState) (old : ScriptState (Stored D)) 
   read_same : (name : List ℕ) (result : Result (Vec ℕ Global) stored.Refusal) → AnswersBody device old.source answer.session.source name result
       → IsTrue (device answer.session.source.disk).honest
       → answer.outcome ≡ shown_as result → answer.commands ≡ [] → answer.session.now ≡ old.now
-      → IsSame device answer (unchanged (told device old) (shown_or (refusals.Source NotHeld) (body_of name state)))
+      → IsSame device answer (unchanged (model_state device old) (shown_or (refusals.Source NotHeld) (body_of name state)))
   read_same name (Ok bytes) a honest o c n =
       rw (a.reads honest) record { outcome = o; commands = c; session = read_session a.reads_only n }
   read_same name (Err NotHeld) a honest o c n =
@@ -157,7 +157,7 @@ module _ {D : Type 0} (device : D → DiskState) (old : ScriptState (Stored D)) 
   verify_same : (result : Result (Vec (List ℕ) Global) stored.Refusal) → AnswersVerify device old.source answer.session.source result
       → IsTrue (device answer.session.source.disk).honest
       → answer.outcome ≡ verified_as (length state.held) result → answer.commands ≡ [] → answer.session.now ≡ old.now
-      → IsSame device answer (unchanged (told device old) (verified (damaged_names state) (sound_count state)))
+      → IsSame device answer (unchanged (model_state device old) (verified (damaged_names state) (sound_count state)))
   verify_same (Ok names) a honest o c n = record {
     outcome = o ∙ ap (λ found. verified found (length state.held - length found)) (a.names honest) ∙ ap (verified (damaged_names state)) (sound_rest state);
     commands = c;
@@ -184,21 +184,21 @@ module _ {D : Type 0} (device : D → DiskState) (old : ScriptState (Stored D)) 
   open_same outcome false is e = e ∙ ap (λ b. unchanged old (if b then refused (refusals.Source Closed) else outcome)) is
 
   -- nothing changed, and this is the outcome
-  left_same : (outcome : LineOutcome) → answer ≡ unchanged old outcome → IsSame device answer (unchanged (told device old) outcome)
+  left_same : (outcome : LineOutcome) → answer ≡ unchanged old outcome → IsSame device answer (unchanged (model_state device old) outcome)
   left_same outcome e = record {
     outcome = ap (λ (a : Answer (Stored D)). a.outcome) e;
     commands = ap (λ (a : Answer (Stored D)). a.commands) e;
-    session = ap (λ (a : Answer (Stored D)). told device a.session) e;
+    session = ap (λ (a : Answer (Stored D)). model_state device a.session) e;
   }
 
   -- a request is answered as the model answers it
-  request_same : (request : Result Request Refusal) → RequestGives device old request answer
+  request_same : (request : Result Request Refusal) → AskedGives device old request answer
       → IsTrue (device answer.session.source.disk).honest → old.source.slots.root.generation + 1 < 2 ^ 64
-      → IsSame device answer (answer_to (told device old) request)
+      → IsSame device answer (answer_to (model_state device old) request)
   request_same (Ok (At t)) e honest left = record {
     outcome = ap (λ (a : Answer (Stored D)). a.outcome) e;
     commands = ap (λ (a : Answer (Stored D)). a.commands) e;
-    session = ap (λ (a : Answer (Stored D)). told device a.session) e;
+    session = ap (λ (a : Answer (Stored D)). model_state device a.session) e;
   }
   request_same (Ok (Run command)) r honest left = run_same command r.result r.answers left r.outcome r.commands r.now
   request_same (Ok (Document doc)) e honest left =
@@ -214,13 +214,13 @@ module _ {D : Type 0} (device : D → DiskState) (old : ScriptState (Stored D)) 
   -- and so is a request for which there may be no memory
   possible_same : (request : Result Request Refusal) (Room : Type 0) → AnswerGives device old request Room answer
       → IsTrue (device answer.session.source.disk).honest → old.source.slots.root.generation + 1 < 2 ^ 64
-      → IsSame device answer (answer_to (told device old) request)
+      → IsSame device answer (answer_to (model_state device old) request)
   possible_same request Room (inl gives) honest left = request_same request gives honest left
   possible_same request Room (inr (room, e)) honest left = absurd (models (subst (λ (a : Answer (Stored D)). IsMachine a.outcome) (sym e) tt))
 
   line_same : (line : List ℕ) → LineGives device old line answer
       → IsTrue (device answer.session.source.disk).honest → old.source.slots.root.generation + 1 < 2 ^ 64
-      → IsSame device answer (line_answer (told device old) line)
+      → IsSame device answer (line_answer (model_state device old) line)
   line_same line (inl long) honest left =
       let past : nat_lt line_limit (length line) ≡ true = grind (arith, nat_tests, long.0) in
       rw past (left_same (refused refusals.LongLine) long.1)
@@ -231,7 +231,7 @@ module _ {D : Type 0} (device : D → DiskState) (old : ScriptState (Stored D)) 
   -- and so is a statement
   pub statement_same : (statement : Statement) → StatementGives device old statement answer
       → IsTrue (device answer.session.source.disk).honest → old.source.slots.root.generation + 1 < 2 ^ 64
-      → IsSame device answer (statement_answer (told device old) statement)
+      → IsSame device answer (statement_answer (model_state device old) statement)
   statement_same (single line) gives honest left = line_same line gives honest left
   statement_same (grouped first lines) gives honest left = possible_same (request_by (grouped first lines)) (GroupTakesRoom lines) gives honest left
   statement_same cut_off gives honest left = request_same (request_by cut_off) gives honest left

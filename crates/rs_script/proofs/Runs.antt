@@ -10,7 +10,7 @@ use Rattle.rs_recovery.specs.Turns.{ReadingsIdle}
 use Rattle.rs_script.specs.declared.refusal.Refusal.{Refusal}
 use Rattle.rs_script.specs.declared.request.Request.{Request}
 use Rattle.rs_script.specs.declared.request.Request.TheVariants.{At, Run, Document, Body, Status, Verify}
-use Rattle.rs_script.specs.Outcomes.{RequestGives, AnswerGives, LineGives, StatementGives}
+use Rattle.rs_script.specs.Outcomes.{AskedGives, AnswerGives, LineGives, StatementGives}
 use Rattle.rs_script.specs.Requests.{request_of}
 use Rattle.rs_script.specs.Room.{TakesRoom, GroupTakesRoom}
 use Rattle.rs_script.specs.Statements.{Statement, single, grouped, cut_off, request_by}
@@ -28,7 +28,7 @@ module _ {D : Type 0} (device : D → DiskState) (rest : RestIsIdle device) (rea
   read_only : (old new : Stored D) (commands : List (Command × ℕ)) → commands ≡ [] → OnlyReads device old new → IsRunOf device old commands new
   read_only old new commands nothing reads = subst (λ (l : List (Command × ℕ)). IsRunOf device old l new) (sym nothing) (idle old new (reading old new reads))
 
-  request_runs : (old : ScriptState (Stored D)) (request : Result Request Refusal) (answer : Answer (Stored D)) → RequestGives device old request answer → IsRun old.source answer
+  request_runs : (old : ScriptState (Stored D)) (request : Result Request Refusal) (answer : Answer (Stored D)) → AskedGives device old request answer → IsRun old.source answer
   unfolding IsRun
   request_runs old (Ok (At t)) answer e = subst (IsRun old.source) (sym e) (none old.source)
   request_runs old (Ok (Run command)) answer r =

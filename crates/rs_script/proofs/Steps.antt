@@ -24,7 +24,7 @@ use Rattle.rs_script.specs.Progress.{Between, LinesTaken, TakesLine, Beginning, 
 use Rattle.rs_script.specs.Statements.{Statement, statement_lines, IsWholeStatement, AreWholeStatements, IsUnfinished, IsPart, Groups}
 use Rattle.rs_script.specs.Taken.{KeepsGroup}
 use Rattle.rs_script.proofs.Grouped.{kept_part, none_kept, more_lines, whole_lines, whole_script}
-use Rattle.rs_script.specs.Broken.{BreaksWithin, BreaksAfter}
+use Rattle.rs_script.specs.Broken.{BreaksLast, BreaksAfter}
 use Rattle.rs_script.specs.Script.{Transcript, ScriptGives, Ran, ScriptsRecover, ScriptsMakeWalks}
 use Rattle.rs_script.specs.Session.{ScriptState, script_state, LineOutcome}
 
@@ -145,7 +145,7 @@ take_ok device contents (Ok x) mid old new run k given fresh = λ h begin input 
 
 -- the writer took all answers but the last, and failed in a write of that one
 pub broke_within : {W : Type 0} (contents : W → Option (List ℕ)) (a b c : Watched W) (outcomes : List LineOutcome) (last : LineOutcome)
-    → Wrote contents a b (output_of outcomes) → FailedWithin contents b c (outcome_text last) → BreaksWithin contents a c (outcomes ++ last ∷ [])
+    → Wrote contents a b (output_of outcomes) → FailedWithin contents b c (outcome_text last) → BreaksLast contents a c (outcomes ++ last ∷ [])
 broke_within contents a b c outcomes last wrote failed = record {
   whole = outcomes;
   last = last;
@@ -187,10 +187,10 @@ one_answered device begun line (statement ∷ whole) part old outcomes commands 
 -- and the writer failed within its answer
 pub broke_line : {D W : Type 0} (device : D → DiskState) (contents : W → Option (List ℕ)) (begun : List (List ℕ)) (line : List ℕ) (old : ScriptState (Stored D)) (here : Between D) (a b c : Watched W)
     (outcomes : List LineOutcome) → (e : LinesTaken device old (begun ++ line ∷ []) here) → e.part ≡ [] → length e.outcomes ≤ 1 → Wrote contents a b (output_of outcomes)
-    → FailedWithin contents b c (output_of e.outcomes) → BreaksWithin contents a c (outcomes ++ e.outcomes)
+    → FailedWithin contents b c (output_of e.outcomes) → BreaksLast contents a c (outcomes ++ e.outcomes)
 broke_line device contents begun line old here a b c outcomes e none few wrote failed =
     let one = one_answered device begun line e.whole e.part old e.outcomes e.commands here.session e.lines_are none e.answered few in
-    let P : List LineOutcome → Type 0 = λ l. BreaksWithin contents a c (outcomes ++ l) in
+    let P : List LineOutcome → Type 0 = λ l. BreaksLast contents a c (outcomes ++ l) in
     let text : output_of e.outcomes ≡ outcome_text one.0 = ap output_of one.1 ∙ append-nil (outcome_text one.0) in
     subst P (sym one.1) (broke_within contents a b c outcomes one.0 wrote (failed_same contents b c (output_of e.outcomes) (outcome_text one.0) failed text))
 

@@ -9,7 +9,7 @@ use Rattle.rs_model.specs.declared.command.Command.{Command}
 use Rattle.rs_store.specs.Source.{Stored, Holds, state_of}
 use Rattle.rs_script.specs.Model.{statement_answer, answers_of}
 use Rattle.rs_script.specs.Statements.{Statement}
-use Rattle.rs_script.specs.Script.{Transcript, ScriptsFollowTheModel, ScriptsTellTheFold, ScriptsHoldTheFold, IsMachine, AreDecided, told}
+use Rattle.rs_script.specs.Script.{Transcript, ScriptsFollowTheModel, ScriptsTellTheFold, ScriptsHoldTheFold, IsMachine, AreDecided, model_state}
 use Rattle.rs_script.specs.Session.{ScriptState, LineOutcome, Answer}
 use Rattle.rs_script.proofs.Chains.{statement_follows, statement_rises}
 use Rattle.rs_script.proofs.Grouped.{IsScript-once}
@@ -47,7 +47,7 @@ module _ {D : Type 0} (device : D → DiskState) where
   statements_same : (statements : List Statement) (old : ScriptState (Stored D)) (outcomes : List LineOutcome) (commands : List (Command × ℕ)) (new : ScriptState (Stored D))
       → Transcript device old statements outcomes commands new → AreDecided outcomes
       → IsTrue (device new.source.disk).honest → new.source.slots.root.generation + 1 < 2 ^ 64
-      → (outcomes ≡ outcomes_in (answers_of (told device old) statements)) × (commands ≡ commands_in (answers_of (told device old) statements))
+      → (outcomes ≡ outcomes_in (answers_of (model_state device old) statements)) × (commands ≡ commands_in (answers_of (model_state device old) statements))
   statements_same [] old outcomes commands new t h honest left = (t.0, t.1)
   statements_same (statement ∷ statements) old outcomes commands new t h honest left =
       let h' : AreDecided (t.0.outcome ∷ t.1) = subst AreDecided t.4 h in
@@ -58,10 +58,10 @@ module _ {D : Type 0} (device : D → DiskState) where
       let rest = statements_rise statements t.0.session t.1 t.2 new t.6 later in
       let same = statement_same device old t.0 here statement t.3 (statements_last statements t.0.session t.1 t.2 new t.6 honest) (omega (arith, first, rest, left)) in
       let more = statements_same statements t.0.session t.1 t.2 new t.6 later honest left in (
-        t.4 ∙ ap (λ o. o ∷ t.1) same.outcome ∙ ap (λ z. (statement_answer (told device old) statement).outcome ∷ z) more.0
-            ∙ ap (λ s. (statement_answer (told device old) statement).outcome ∷ outcomes_in (answers_of s statements)) same.session,
-        t.5 ∙ ap (λ c. c ++ t.2) same.commands ∙ ap (λ z. (statement_answer (told device old) statement).commands ++ z) more.1
-            ∙ ap (λ s. (statement_answer (told device old) statement).commands ++ commands_in (answers_of s statements)) same.session,
+        t.4 ∙ ap (λ o. o ∷ t.1) same.outcome ∙ ap (λ z. (statement_answer (model_state device old) statement).outcome ∷ z) more.0
+            ∙ ap (λ s. (statement_answer (model_state device old) statement).outcome ∷ outcomes_in (answers_of s statements)) same.session,
+        t.5 ∙ ap (λ c. c ++ t.2) same.commands ∙ ap (λ z. (statement_answer (model_state device old) statement).commands ++ z) more.1
+            ∙ ap (λ s. (statement_answer (model_state device old) statement).commands ++ commands_in (answers_of s statements)) same.session,
       )
 
   -- where the model decides each outcome, a script does what the model does

@@ -9,7 +9,7 @@ use Rattle.rs_io.specs.Watch.{watched, calls, failures, is_broken, seen_by, IsCa
 use Rattle.rs_store.specs.Source.{Stored}
 use Rattle.rs_model.specs.declared.command.Command.{Command}
 use Rattle.rs_script.specs.Answers.{outcome_text, output_of}
-use Rattle.rs_script.specs.Broken.{BreaksWithin}
+use Rattle.rs_script.specs.Broken.{BreaksLast}
 use Rattle.rs_script.specs.Finished.{bytes_of, StopsReading, StopsWriting, ReadsWithin}
 use Rattle.rs_script.specs.Progress.{IsCalled, Beginning, Stand, Progress, Answered, Came, ReadsNoMore}
 use Rattle.rs_script.specs.Script.{ScriptGives, ScriptsRecover, ScriptsMakeWalks}
@@ -64,8 +64,8 @@ pub record Turned {D R W : Type 0} (device : D → DiskState) (remaining : R →
   pub reader_still : IsTrue (is_broken first) → (reader ≡ first) × (here.source ≡ start)
 
 -- a writer that failed within an answer, as its bytes show it
-seen_within : {W : Type 0} (contents : W → Option (List ℕ)) (a b : Watched W) (outcomes : List LineOutcome) → BreaksWithin contents a b outcomes
-    → BreaksWithin bytes_of (seen_by contents a) (seen_by contents b) outcomes
+seen_within : {W : Type 0} (contents : W → Option (List ℕ)) (a b : Watched W) (outcomes : List LineOutcome) → BreaksLast contents a b outcomes
+    → BreaksLast bytes_of (seen_by contents a) (seen_by contents b) outcomes
 seen_within contents a b outcomes breaks = record {
   whole = breaks.whole;
   last = breaks.last;
@@ -134,7 +134,7 @@ module _ {D W : Type 0} (device : D → DiskState) (contents : W → Option (Lis
     }
 
     -- the last one is written in part
-    pub tells_part : BreaksWithin contents before after outcomes → TellsReplies device start new (seen_by contents before) (seen_by contents after)
+    pub tells_part : BreaksLast contents before after outcomes → TellsReplies device start new (seen_by contents before) (seen_by contents after)
     tells_part breaks =
         let first = output_of breaks.whole in
         let text = outcome_text breaks.last in

@@ -27,12 +27,12 @@ use Rattle.rs_script.specs.declared.refusal.Refusal.TheVariants as refusals
 use Rattle.rs_script.specs.declared.request.Request.{Request}
 use Rattle.rs_script.specs.declared.request.Request.TheVariants.{At, Run, Document, Body, Status, Verify}
 use Rattle.rs_script.specs.Model.{shown_or}
-use Rattle.rs_script.specs.Outcomes.{RunAnswers, ReadAnswers, outcome_of_reply, shown_as, if_open, RequestGives, AnswerGives, LineGives, StatementGives}
+use Rattle.rs_script.specs.Outcomes.{RunAnswers, ReadAnswers, outcome_of_reply, shown_as, if_open, AskedGives, AnswerGives, LineGives, StatementGives}
 use Rattle.rs_script.specs.Requests.{request_of}
 use Rattle.rs_script.specs.Room.{TakesRoom, GroupTakesRoom}
 use Rattle.rs_script.specs.Statements.{Statement, single, grouped, cut_off, request_by}
 use Rattle.rs_script.specs.Session.{ScriptState, LineOutcome, shown, refused, Answer, unchanged}
-use Rattle.rs_script.specs.Walked.{RunEvents, ShowEvents, StatementEvents, now_after}
+use Rattle.rs_script.specs.Walked.{RunStatementEvents, FetchEvents, StatementEvents, now_after}
 use Rattle.rs_script.proofs.NamedDocuments.{HasPath}
 
 abbrev Kind : Type 1
@@ -74,7 +74,7 @@ module _ {D : Type 0} (device : D → DiskState) where
   SetsNow old request answer = answer.session.now ≡ now_after old.now request answer.outcome
 
   request_now : (old : ScriptState (Stored D)) (request : Result Request Refusal) (answer : Answer (Stored D))
-      → RequestGives device old request answer → SetsNow old request answer
+      → AskedGives device old request answer → SetsNow old request answer
   unfolding SetsNow
   request_now old (Ok (At t)) answer e = subst (SetsNow old (Ok (At t))) (sym e) refl
   request_now old (Ok (Run command)) answer r = r.now
@@ -116,22 +116,22 @@ module _ {D : Type 0} (device : D → DiskState) (sound : (disk : D) → IsMediu
   nothing M new none held = walked device stands s M new [] none held
 
   of_reply : (command : Command) (result : Result Reply stored.Refusal) (new : Stored D) → LeavesWalk device s (CommandEvents s command old.now result) new
-      → LeavesWalk device s (RunEvents s command old.now (outcome_of_reply result)) new
+      → LeavesWalk device s (RunStatementEvents s command old.now (outcome_of_reply result)) new
   of_reply command (Ok reply) new walk = walk
   of_reply command (Err refusal) new walk = walk
 
   run_walk : (command : Command) (answer : Answer (Stored D)) → RunAnswers device old command answer → Walk (Ok (Run command)) answer
   unfolding Walk
   run_walk command answer r =
-      let P : LineOutcome → Type 0 = λ outcome. LeavesWalk device s (RunEvents s command old.now outcome) answer.session.source in
+      let P : LineOutcome → Type 0 = λ outcome. LeavesWalk device s (RunStatementEvents s command old.now outcome) answer.session.source in
       subst P (sym r.outcome) (of_reply command r.result answer.session.source
       (commands old.source answer.session.source s command old.now r.result holds r.answers))
 
   shown_walk : (path : List ℕ) (refusal : Refusal) (found : Option (List ℕ)) (new : Stored D) → answer s path ≡ found → Holds device new s
-      → LeavesWalk device s (ShowEvents s path (shown_or refusal found)) new
-  shown_walk path refusal None new is held = nothing (ShowEvents s path (refused refusal)) new refl held
+      → LeavesWalk device s (FetchEvents s path (shown_or refusal found)) new
+  shown_walk path refusal None new is held = nothing (FetchEvents s path (refused refusal)) new refl held
   shown_walk path refusal (Some bytes) new is held =
-      walked device stands s (ShowEvents s path (shown bytes)) new (Fetch ∷ []) (is, refl) held
+      walked device stands s (FetchEvents s path (shown bytes)) new (Fetch ∷ []) (is, refl) held
 
   -- an open source shows the state that it holds
   open_shows : (doc : Doc) → if_open old (shown_or refusals.NoSuchDocument (document_text (shown_of (state_of device old.source)) doc))
@@ -141,7 +141,7 @@ module _ {D : Type 0} (device : D → DiskState) (sound : (disk : D) → IsMediu
       ap (λ (b : Bool). cond b (refused (refusals.Source Closed)) (outcome (state_of device old.source))) holds.is_open
       ∙ ap outcome (told device sound old.source s holds)
 
-  document_walk : (doc : Doc) → HasCounts doc → (answer : Answer (Stored D)) → RequestGives device old (Ok (Document doc)) answer → Walk (Ok (Document doc)) answer
+  document_walk : (doc : Doc) → HasCounts doc → (answer : Answer (Stored D)) → AskedGives device old (Ok (Document doc)) answer → Walk (Ok (Document doc)) answer
   unfolding Walk
   document_walk doc counts answer e =
       let is : answer ≡ unchanged old (shown_or refusals.NoSuchDocument (document_text (shown_of s) doc)) = e ∙ ap (unchanged old) (open_shows doc) in
@@ -152,18 +152,18 @@ module _ {D : Type 0} (device : D → DiskState) (sound : (disk : D) → IsMediu
   kept new reads = ((reading old.source new reads).holds s holds).0
 
   body_walk : (name : List ℕ) (result : Result (Vec ℕ Global) stored.Refusal) (new : Stored D) → AnswersBody device old.source new name result
-      → IsTrue (device new.disk).honest → LeavesWalk device s (ShowEvents s (body_path name) (shown_as result)) new
+      → IsTrue (device new.disk).honest → LeavesWalk device s (FetchEvents s (body_path name) (shown_as result)) new
   body_walk name (Ok bytes) new a honest =
       let here : body_of name s ≡ Some bytes.items = ap (body_of name) (sym (told device sound old.source s holds)) ∙ a.reads honest in
-      walked device stands s (ShowEvents s (body_path name) (shown bytes.items)) new (Fetch ∷ []) (bodies s name ∙ here, refl) (kept new a.reads_only)
+      walked device stands s (FetchEvents s (body_path name) (shown bytes.items)) new (Fetch ∷ []) (bodies s name ∙ here, refl) (kept new a.reads_only)
   body_walk name (Err refusal) new a honest =
-      nothing (ShowEvents s (body_path name) (refused (refusals.Source refusal))) new refl (kept new a.reads_only)
+      nothing (FetchEvents s (body_path name) (refused (refusals.Source refusal))) new refl (kept new a.reads_only)
 
   read_walk : (name : List ℕ) (answer : Answer (Stored D)) → ReadAnswers device old name answer → IsTrue (device answer.session.source.disk).honest
       → Walk (Ok (Body name)) answer
   unfolding Walk
   read_walk name answer r honest =
-      let P : LineOutcome → Type 0 = λ outcome. LeavesWalk device s (ShowEvents s (body_path name) outcome) answer.session.source in
+      let P : LineOutcome → Type 0 = λ outcome. LeavesWalk device s (FetchEvents s (body_path name) outcome) answer.session.source in
       subst P (sym r.outcome) (body_walk name r.result answer.session.source r.answers honest)
 
   -- nothing changed, and this is no event
@@ -173,7 +173,7 @@ module _ {D : Type 0} (device : D → DiskState) (sound : (disk : D) → IsMediu
   still request answer given e none held =
       subst (Walk request) (sym e) (nothing (StatementEvents s old.now request given.outcome) given.session.source none held)
 
-  request_walk : (request : Result Request Refusal) → HasPath request → (answer : Answer (Stored D)) → RequestGives device old request answer
+  request_walk : (request : Result Request Refusal) → HasPath request → (answer : Answer (Stored D)) → AskedGives device old request answer
       → IsTrue (device answer.session.source.disk).honest → Walk request answer
   unfolding Walk
   request_walk (Ok (At t)) has answer e honest = still (Ok (At t)) answer _ e refl holds
@@ -251,7 +251,7 @@ module _ {D : Type 0} (device : D → DiskState) (refusing : ClosedCommandsAreRe
       let outcome : answer.outcome ≡ refused (refusals.Source Closed) = r.outcome ∙ ap outcome_of_reply no.0 in
       let here : CommandEvents s command old.now (Err Closed) (Refused command ∷ []) =
       subst (λ (result : Result Reply stored.Refusal). CommandEvents s command old.now result (Refused command ∷ [])) no.0 no.2 in
-      let P : LineOutcome → Type 0 = λ o. RunEvents s command old.now o (Refused command ∷ []) in
+      let P : LineOutcome → Type 0 = λ o. RunStatementEvents s command old.now o (Refused command ∷ []) in
       record {
         events = Refused command ∷ [];
         are = subst P (sym outcome) here;
@@ -262,18 +262,18 @@ module _ {D : Type 0} (device : D → DiskState) (refusing : ClosedCommandsAreRe
 
   -- a closed source shows no body
   no_body : (name : List ℕ) (result : Result (Vec ℕ Global) stored.Refusal) (new : Stored D) → AnswersBody device old.source new name result
-      → ShowEvents s (body_path name) (shown_as result) []
+      → FetchEvents s (body_path name) (shown_as result) []
   no_body name (Ok bytes) new a = let never = a.closed.1 closed in absurd cc
   no_body name (Err refusal) new a = refl
 
   read_none : (name : List ℕ) (answer : Answer (Stored D)) → ReadAnswers device old name answer → ShutBy (Ok (Body name)) answer
   unfolding ShutBy
   read_none name answer r =
-      let P : LineOutcome → Type 0 = λ o. ShowEvents s (body_path name) o [] in
-      read_shut (ShowEvents s (body_path name) answer.outcome) answer.session.source r.answers.reads_only
+      let P : LineOutcome → Type 0 = λ o. FetchEvents s (body_path name) o [] in
+      read_shut (FetchEvents s (body_path name) answer.outcome) answer.session.source r.answers.reads_only
       (subst P (sym r.outcome) (no_body name r.result answer.session.source r.answers))
 
-  request_shut : (request : Result Request Refusal) (answer : Answer (Stored D)) → RequestGives device old request answer → ShutBy request answer
+  request_shut : (request : Result Request Refusal) (answer : Answer (Stored D)) → AskedGives device old request answer → ShutBy request answer
   unfolding ShutBy
   request_shut (Ok (At t)) answer e = unmoved (Ok (At t)) answer _ e refl [] refl refl
   request_shut (Ok (Run command)) answer r = run_shut command answer r

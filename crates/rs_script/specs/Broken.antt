@@ -7,7 +7,7 @@ use Rattle.rs_script.specs.Answers.{outcome_text, output_of}
 use Rattle.rs_script.specs.Session.{LineOutcome}
 
 -- A write failed within the last answer, and no flush failed. The writer took each answer before it whole.
-pub record BreaksWithin {W : Type 0} (contents : W → Option (List ℕ)) (old new : Watched W) (outcomes : List LineOutcome) : Type 0 where
+pub record BreaksLast {W : Type 0} (contents : W → Option (List ℕ)) (old new : Watched W) (outcomes : List LineOutcome) : Type 0 where
   pub whole : List LineOutcome
   pub last : LineOutcome
   pub outcomes_are : outcomes ≡ whole ++ last ∷ []
@@ -16,7 +16,7 @@ pub record BreaksWithin {W : Type 0} (contents : W → Option (List ℕ)) (old n
 -- A writer that had not failed before failed within the last answer.
 pub record BreaksAnswer {W : Type 0} (contents : W → Option (List ℕ)) (old new : Watched W) (outcomes : List LineOutcome) : Type 0 where
   pub sound : is_broken old ≡ false
-  pub within : BreaksWithin contents old new outcomes
+  pub within : BreaksLast contents old new outcomes
 
 -- A flush failed, and no other call. The writer took each answer whole.
 pub record BreaksAfter {W : Type 0} (contents : W → Option (List ℕ)) (old new : Watched W) (outcomes : List LineOutcome) : Type 0 where

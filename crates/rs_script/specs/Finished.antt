@@ -6,7 +6,7 @@ use Rattle.rs_io.specs.declared.watch.Watched.{Watched}
 use Rattle.rs_io.specs.Watch.{watched, calls, failures, is_flushed, End, Ends, Wrote}
 use Rattle.rs_store.specs.Source.{Stored}
 use Rattle.rs_script.specs.Answers.{output_of}
-use Rattle.rs_script.specs.Broken.{BreaksWithin, BreaksOff}
+use Rattle.rs_script.specs.Broken.{BreaksLast, BreaksOff}
 use Rattle.rs_script.specs.Progress.{Came, TookAll, GaveStatements, ReadsNoMore}
 use Rattle.rs_script.specs.Script.{Ran}
 use Rattle.rs_script.specs.Statements.{AreWholeStatements}
@@ -54,4 +54,4 @@ pub record StopsWithin {D W : Type 0} (device : D → DiskState) (contents : W �
   pub tail : List ℕ
   pub input_is : input ≡ ran.input ++ tail
   pub come : AreWholeStatements ran.input ⊎ (tail ≡ [])
-  pub breaks : BreaksWithin contents before after ran.outcomes
+  pub breaks : BreaksLast contents before after ran.outcomes

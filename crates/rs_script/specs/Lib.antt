@@ -14,3 +14,4 @@ pub mod Progress
 pub mod Finished
 pub mod Walked
 pub mod Told
+pub mod Stopped

@@ -69,20 +69,20 @@ abbrev pub if_open : {D : Type 0} → ScriptState (Stored D) → LineOutcome →
 if_open s outcome = if s.source.is_closed then refused (refusals.Source Closed) else outcome
 
 -- the possible outcomes of a request: documents and counts are those of the state of the source
-abbrev pub RequestGives : {D : Type 0} → (D → DiskState) → ScriptState (Stored D) → Result Request Refusal → Answer (Stored D) → Type 0
-RequestGives device old (Ok (At t)) answer =
+abbrev pub AskedGives : {D : Type 0} → (D → DiskState) → ScriptState (Stored D) → Result Request Refusal → Answer (Stored D) → Type 0
+AskedGives device old (Ok (At t)) answer =
     answer ≡ record { outcome = moment_set; commands = []; session = record { source = old.source; now = t } }
-RequestGives device old (Ok (Run command)) answer = RunAnswers device old command answer
-RequestGives device old (Ok (Document doc)) answer =
+AskedGives device old (Ok (Run command)) answer = RunAnswers device old command answer
+AskedGives device old (Ok (Document doc)) answer =
     answer ≡ unchanged old (if_open old (shown_or refusals.NoSuchDocument (document_text (shown_of (state_of device old.source)) doc)))
-RequestGives device old (Ok (Body name)) answer = ReadAnswers device old name answer
-RequestGives device old (Ok Status) answer = answer ≡ unchanged old (if_open old (counted (status_of (state_of device old.source))))
-RequestGives device old (Ok Verify) answer = VerifyAnswers device old answer
-RequestGives device old (Err refusal) answer = answer ≡ unchanged old (refused refusal)
+AskedGives device old (Ok (Body name)) answer = ReadAnswers device old name answer
+AskedGives device old (Ok Status) answer = answer ≡ unchanged old (if_open old (counted (status_of (state_of device old.source))))
+AskedGives device old (Ok Verify) answer = VerifyAnswers device old answer
+AskedGives device old (Err refusal) answer = answer ≡ unchanged old (refused refusal)
 
 -- the outcomes of a request; or the statement takes memory, which was refused, and nothing changed
 abbrev pub AnswerGives : {D : Type 0} → (D → DiskState) → ScriptState (Stored D) → Result Request Refusal → Type 0 → Answer (Stored D) → Type 0
-AnswerGives device old request Room answer = RequestGives device old request answer ⊎ (Room × (answer ≡ unchanged old (refused refusals.NoMemory)))
+AnswerGives device old request Room answer = AskedGives device old request answer ⊎ (Room × (answer ≡ unchanged old (refused refusals.NoMemory)))
 
 -- the possible outcomes of a line: one past the limit is refused, whatever it says
 abbrev pub LineGives : {D : Type 0} → (D → DiskState) → ScriptState (Stored D) → List ℕ → Answer (Stored D) → Type 0
@@ -98,4 +98,4 @@ GroupGives device old lines answer = AnswerGives device old (group_request (item
 abbrev pub StatementGives : {D : Type 0} → (D → DiskState) → ScriptState (Stored D) → Statement → Answer (Stored D) → Type 0
 StatementGives device old (single line) answer = LineGives device old line answer
 StatementGives device old (grouped first lines) answer = GroupGives device old lines answer
-StatementGives device old cut_off answer = RequestGives device old (request_by cut_off) answer
+StatementGives device old cut_off answer = AskedGives device old (request_by cut_off) answer

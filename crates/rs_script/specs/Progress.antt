@@ -4,7 +4,7 @@ use Rattle.std.specs.Io.KnownBytes.{Consumes, IsAtEnd}
 use Rattle.rs_disk.specs.Medium.{DiskState}
 use Rattle.rs_io.specs.declared.watch.Watched.{Watched}
 use Rattle.rs_io.specs.Watch.{watched, calls, is_flushed, EndFailed, Took, Wrote}
-use Rattle.rs_script.specs.Broken.{BreaksWithin}
+use Rattle.rs_script.specs.Broken.{BreaksLast}
 use Rattle.rs_model.specs.declared.command.Command.{Command}
 use Rattle.rs_store.specs.Source.{Stored}
 use Rattle.rs_script.specs.declared.group.Taking.{Taking}
@@ -19,7 +19,7 @@ use Rattle.rs_script.specs.Script.{Transcript, ScriptGives}
 use Rattle.rs_script.specs.Session.{ScriptState, script_state, Answer, LineOutcome}
 
 -- there was a possible answer, this is the session after it, and the text of the answer has this property
-pub record IsAnswered {S : Type 0} (Gives : Answer S → Type 0) (new : ScriptState S) (Written : List ℕ → Type 0) : Type 0 where
+pub record HasAnswer {S : Type 0} (Gives : Answer S → Type 0) (new : ScriptState S) (Written : List ℕ → Type 0) : Type 0 where
   pub answer : Answer S
   pub gives : Gives answer
   pub session_is : answer.session ≡ new
@@ -92,7 +92,7 @@ pub record Ended {D W : Type 0} (device : D → DiskState) (contents : W → Opt
 -- the statements of this input were answered, and a write failed within the last answer
 abbrev pub Answered : {D W : Type 0} → (D → DiskState) → (W → Option (List ℕ)) → Beginning D W → List ℕ → Stand D W → Type 0
 Answered device contents begin input here = (outcomes : List LineOutcome) × (commands : List (Command × ℕ))
-    × ScriptGives device begin.session input outcomes commands (session_at here) × BreaksWithin contents begin.writer here.writer outcomes
+    × ScriptGives device begin.session input outcomes commands (session_at here) × BreaksLast contents begin.writer here.writer outcomes
 
 -- from one stand a script got to the other by these bytes
 abbrev pub ComesTo : {D W : Type 0} → (D → DiskState) → (W → Option (List ℕ)) → Stand D W → Stand D W → List ℕ → Type 0

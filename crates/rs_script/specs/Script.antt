@@ -12,7 +12,7 @@ use Rattle.rs_script.specs.declared.refusal.Refusal.TheVariants as refusals
 use Rattle.rs_script.specs.Model.{answers_of}
 use Rattle.rs_script.specs.Outcomes.{StatementGives}
 use Rattle.rs_script.specs.Statements.{Statement, IsScript}
-use Rattle.rs_script.specs.Walked.{MakesWalk}
+use Rattle.rs_script.specs.Walked.{ScriptMakesWalk}
 use Rattle.rs_script.specs.Session.{ScriptState, script_state, LineOutcome, refused, Answer}
 
 -- the statements are answered one after another: the outcome of each, the commands that count, and the state after them
@@ -38,7 +38,7 @@ pub record Ran {D : Type 0} (device : D → DiskState) (old new : Stored D) : Ty
   pub last : ℕ
   pub gives : ScriptGives device (script_state old 0) input outcomes commands (script_state new last)
   pub recovers : Recovers device old commands new
-  pub walks : MakesWalk device old 0 input outcomes new
+  pub walks : ScriptMakesWalk device old 0 input outcomes new
 
 -- a script is a run of its commands that count
 abbrev pub ScriptsAreRuns : {D : Type 0} → (D → DiskState) → Type 0
@@ -53,7 +53,7 @@ ScriptsRecover {D} device = (old new : ScriptState (Stored D)) (input : List ℕ
 -- each script makes a walk
 abbrev pub ScriptsMakeWalks : {D : Type 0} → (D → DiskState) → Type 0
 ScriptsMakeWalks {D} device = (old new : ScriptState (Stored D)) (input : List ℕ) (outcomes : List LineOutcome) (commands : List (Command × ℕ))
-    → ScriptGives device old input outcomes commands new → MakesWalk device old.source old.now input outcomes new.source
+    → ScriptGives device old input outcomes commands new → ScriptMakesWalk device old.source old.now input outcomes new.source
 
 -- the refusals of a source that the model does not decide, other than for want of a generation
 abbrev pub IsOfMachine : stored.Refusal → Type 0
@@ -75,8 +75,8 @@ abbrev pub AreDecided : List LineOutcome → Type 0
 AreDecided outcomes = All (λ outcome. ¬ IsMachine outcome) outcomes
 
 -- the state of a script as the model sees it: that of its source, and its moment
-abbrev pub told : {D : Type 0} → (D → DiskState) → ScriptState (Stored D) → ScriptState Source
-told device s = script_state (state_of device s.source) s.now
+abbrev pub model_state : {D : Type 0} → (D → DiskState) → ScriptState (Stored D) → ScriptState Source
+model_state device s = script_state (state_of device s.source) s.now
 
 -- where no refusal is the machine's, generations are left and the device has followed the model, each statement of a
 -- script is answered as the model answers it
@@ -84,8 +84,8 @@ abbrev pub ScriptsFollowTheModel : {D : Type 0} → (D → DiskState) → Type 0
 ScriptsFollowTheModel {D} device = (old new : ScriptState (Stored D)) (input : List ℕ) (outcomes : List LineOutcome) (commands : List (Command × ℕ))
     (statements : List Statement) → ScriptGives device old input outcomes commands new → AreDecided outcomes → IsTrue (device new.source.disk).honest
     → new.source.slots.root.generation + 1 < 2 ^ 64 → IsScript input statements
-    → (outcomes ≡ map (λ a. a.outcome) (answers_of (told device old) statements))
-    × (commands ≡ flat_map (λ a. a.commands) (answers_of (told device old) statements))
+    → (outcomes ≡ map (λ a. a.outcome) (answers_of (model_state device old) statements))
+    × (commands ≡ flat_map (λ a. a.commands) (answers_of (model_state device old) statements))
 
 -- the commands that count in a script make the state of its source, unless the source is closed
 abbrev pub ScriptsTellTheFold : {D : Type 0} → (D → DiskState) → Type 0

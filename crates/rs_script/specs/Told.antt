@@ -11,16 +11,16 @@ use Rattle.rs_script.specs.Answers.{output_of}
 use Rattle.rs_script.specs.Script.{ScriptGives}
 use Rattle.rs_script.specs.Session.{ScriptState, LineOutcome, replied}
 
--- the reply that an outcome tells, where a command was accepted
-abbrev pub told_by : LineOutcome → List Reply
-told_by (replied reply) = reply ∷ []
-told_by outcome = []
+-- the reply that the outcome of a statement tells, where a command was accepted
+abbrev pub line_reply : LineOutcome → List Reply
+line_reply (replied reply) = reply ∷ []
+line_reply outcome = []
 
 -- Answers were written, the last of them perhaps in part. The replies among them are those to the commands that the source
 -- accepted, and where it held a state, its disk saw these commands answered from that state on.
 pub record TellsReplies {D : Type 0} (device : D → DiskState) (old new : Stored D) (before after : End) : Type 0 where
   pub outcomes : List LineOutcome
-  pub replied : HasReplied device old (flat_map told_by outcomes) new
+  pub replied : HasReplied device old (flat_map line_reply outcomes) new
   pub part : List ℕ
   pub left_out : List ℕ
   pub bytes_are : part ++ left_out ≡ output_of outcomes
@@ -29,4 +29,4 @@ pub record TellsReplies {D : Type 0} (device : D → DiskState) (old new : Store
 -- a script tells the replies to the commands that its source accepted
 abbrev pub ScriptsTellReplies : {D : Type 0} → (D → DiskState) → Type 0
 ScriptsTellReplies {D} device = (old new : ScriptState (Stored D)) (input : List ℕ) (outcomes : List LineOutcome) (commands : List (Command × ℕ))
-    → ScriptGives device old input outcomes commands new → HasReplied device old.source (flat_map told_by outcomes) new.source
+    → ScriptGives device old input outcomes commands new → HasReplied device old.source (flat_map line_reply outcomes) new.source

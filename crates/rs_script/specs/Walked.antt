@@ -20,22 +20,22 @@ use Rattle.rs_script.specs.Session.{LineOutcome, moment_set, replied, shown, ref
 
 -- The event of a statement that asks for a command, by its outcome. A refused statement gives the source no command,
 -- and has no event. Where there was no memory for it, its command is refused.
-abbrev pub RunEvents : Source → Command → ℕ → LineOutcome → List Event → Type 0
-RunEvents s command now (replied reply) events = CommandEvents s command now (Ok reply) events
-RunEvents s command now (refused (refusals.Source refusal)) events = CommandEvents s command now (Err refusal) events
-RunEvents s command now (refused refusals.NoMemory) events = events ≡ Refused command ∷ []
-RunEvents s command now outcome events = events ≡ []
+abbrev pub RunStatementEvents : Source → Command → ℕ → LineOutcome → List Event → Type 0
+RunStatementEvents s command now (replied reply) events = CommandEvents s command now (Ok reply) events
+RunStatementEvents s command now (refused (refusals.Source refusal)) events = CommandEvents s command now (Err refusal) events
+RunStatementEvents s command now (refused refusals.NoMemory) events = events ≡ Refused command ∷ []
+RunStatementEvents s command now outcome events = events ≡ []
 
 -- what is shown is fetched, the bytes that are answered at its path; otherwise there is no fetch
-abbrev pub ShowEvents : Source → List ℕ → LineOutcome → List Event → Type 0
-ShowEvents s path (shown bytes) events = (answer s path ≡ Some bytes) × (events ≡ Fetch ∷ [])
-ShowEvents s path outcome events = events ≡ []
+abbrev pub FetchEvents : Source → List ℕ → LineOutcome → List Event → Type 0
+FetchEvents s path (shown bytes) events = (answer s path ≡ Some bytes) × (events ≡ Fetch ∷ [])
+FetchEvents s path outcome events = events ≡ []
 
 -- the event of a statement that asks for this, in a state and at a moment, or none
 abbrev pub StatementEvents : Source → ℕ → Result Request Refusal → LineOutcome → List Event → Type 0
-StatementEvents s now (Ok (Run command)) outcome events = RunEvents s command now outcome events
-StatementEvents s now (Ok (Document doc)) outcome events = ShowEvents s (path_of doc) outcome events
-StatementEvents s now (Ok (Body name)) outcome events = ShowEvents s (body_path name) outcome events
+StatementEvents s now (Ok (Run command)) outcome events = RunStatementEvents s command now outcome events
+StatementEvents s now (Ok (Document doc)) outcome events = FetchEvents s (path_of doc) outcome events
+StatementEvents s now (Ok (Body name)) outcome events = FetchEvents s (body_path name) outcome events
 StatementEvents s now request outcome events = events ≡ []
 
 -- the moment after a statement that asks for this
@@ -60,6 +60,6 @@ IsScriptWalk s now input outcomes events =
 
 -- the source held a state, and its device has followed the model: then the script leaves a walk of the events of its
 -- statements
-abbrev pub MakesWalk : {D : Type 0} → (D → DiskState) → Stored D → ℕ → List ℕ → List LineOutcome → Stored D → Type 0
-MakesWalk device old now input outcomes new =
+abbrev pub ScriptMakesWalk : {D : Type 0} → (D → DiskState) → Stored D → ℕ → List ℕ → List LineOutcome → Stored D → Type 0
+ScriptMakesWalk device old now input outcomes new =
     (s : Source) → Holds device old s → IsTrue (device new.disk).honest → LeavesWalk device s (IsScriptWalk s now input outcomes) new

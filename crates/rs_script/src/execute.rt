@@ -2,8 +2,8 @@
 
 ghost use Rattle.std.specs.Prelude.{◌≡◌, ℕ, List, Ok, OnOk, OnErr};
 ghost use Rattle.rs_io.specs.Watch.{failures, EndFailed, WritesOut};
-ghost use Rattle.rs_script.specs.Progress.{IsAnswered};
-ghost use Rattle.rs_script.specs.Outcomes.{RequestGives, AnswerGives, GroupGives};
+ghost use Rattle.rs_script.specs.Progress.{HasAnswer};
+ghost use Rattle.rs_script.specs.Outcomes.{AskedGives, AnswerGives, GroupGives};
 ghost use Rattle.rs_script.specs.Requests.{request_of};
 ghost use Rattle.rs_script.specs.Room.{TakesRoom};
 ghost use Rattle.rs_script.specs.Session.{script_state};
@@ -33,8 +33,8 @@ fn run_command<D: Disk, W: Write>(
     now: Moment,
     writer: &mut Watched<W>,
 ) -> Result<(), WriteFault>
-    ensures answered { IsAnswered
-        (RequestGives D.state (script_state source.old now) (Ok (Run command.now)))
+    ensures answered { HasAnswer
+        (AskedGives D.state (script_state source.old now) (Ok (Run command.now)))
         (script_state source.new now) (WritesOut W.contents writer.old writer.new result) }
     ensures failed { OnErr result (EndFailed writer.old writer.new) }
 {
@@ -56,7 +56,7 @@ pub fn answer_group<D: Disk, W: Write>(
     writer: &mut Watched<W>,
 ) -> Result<(), WriteFault>
     ensures answered { (lines : List (List ℕ)) → KeepsItems items lines
-        → IsAnswered (GroupGives D.state (script_state source.old now) lines)
+        → HasAnswer (GroupGives D.state (script_state source.old now) lines)
         (script_state source.new now) (WritesOut W.contents writer.old writer.new result) }
     ensures sound { OnOk result (failures writer.new ≡ failures writer.old) }
     ensures failed { OnErr result (EndFailed writer.old writer.new) }
@@ -77,8 +77,8 @@ fn show_document<D: Disk, W: Write>(
     now: Moment,
     writer: &mut Watched<W>,
 ) -> Result<(), WriteFault>
-    ensures answered { IsAnswered
-        (RequestGives D.state (script_state source.now now) (Ok (Listed doc)))
+    ensures answered { HasAnswer
+        (AskedGives D.state (script_state source.now now) (Ok (Listed doc)))
         (script_state source.now now) (WritesOut W.contents writer.old writer.new result) }
     ensures failed { OnErr result (EndFailed writer.old writer.new) }
 {
@@ -100,8 +100,8 @@ fn show_body<D: Disk, W: Write>(
     now: Moment,
     writer: &mut Watched<W>,
 ) -> Result<(), WriteFault>
-    ensures answered { IsAnswered
-        (RequestGives D.state (script_state source.old now) (Ok (Shown name.now)))
+    ensures answered { HasAnswer
+        (AskedGives D.state (script_state source.old now) (Ok (Shown name.now)))
         (script_state source.new now) (WritesOut W.contents writer.old writer.new result) }
     ensures failed { OnErr result (EndFailed writer.old writer.new) }
 {
@@ -117,8 +117,8 @@ fn show_status<D: Disk, W: Write>(
     now: Moment,
     writer: &mut Watched<W>,
 ) -> Result<(), WriteFault>
-    ensures answered { IsAnswered
-        (RequestGives D.state (script_state source.now now) (Ok Counted))
+    ensures answered { HasAnswer
+        (AskedGives D.state (script_state source.now now) (Ok Counted))
         (script_state source.now now) (WritesOut W.contents writer.old writer.new result) }
     ensures failed { OnErr result (EndFailed writer.old writer.new) }
 {
@@ -134,8 +134,8 @@ fn show_verified<D: Disk, W: Write>(
     now: Moment,
     writer: &mut Watched<W>,
 ) -> Result<(), WriteFault>
-    ensures answered { IsAnswered
-        (RequestGives D.state (script_state source.old now) (Ok Verified))
+    ensures answered { HasAnswer
+        (AskedGives D.state (script_state source.old now) (Ok Verified))
         (script_state source.new now) (WritesOut W.contents writer.old writer.new result) }
     ensures failed { OnErr result (EndFailed writer.old writer.new) }
 {
@@ -156,8 +156,8 @@ fn answer_request<D: Disk, W: Write>(
     request: Request,
     writer: &mut Watched<W>,
 ) -> Result<(), WriteFault>
-    ensures answered { IsAnswered
-        (RequestGives D.state (script_state source.old now.old) (Ok request))
+    ensures answered { HasAnswer
+        (AskedGives D.state (script_state source.old now.old) (Ok request))
         (script_state source.new now.new) (WritesOut W.contents writer.old writer.new result) }
     ensures failed { OnErr result (EndFailed writer.old writer.new) }
 {
@@ -186,7 +186,7 @@ pub fn answer_line<D: Disk, W: Write>(
     line: &[u8],
     writer: &mut Watched<W>,
 ) -> Result<(), WriteFault>
-    ensures answered { IsAnswered (AnswerGives D.state
+    ensures answered { HasAnswer (AnswerGives D.state
         (script_state source.old now.old) (request_of line.now) (TakesRoom line.now))
         (script_state source.new now.new) (WritesOut W.contents writer.old writer.new result) }
     ensures failed { OnErr result (EndFailed writer.old writer.new) }

@@ -6,6 +6,7 @@ ghost use Rattle.rs_script.specs.Room.{TakesRoom};
 ghost use Rattle.rs_script.specs.Statements.{group_size as size_of, grouped_item};
 ghost use Rattle.rs_script.specs.Taken.{KeepsItems};
 
+use crate::bytes::after;
 use crate::line::Content;
 use crate::refusal::Refusal;
 use crate::request::item_in_line;
@@ -27,10 +28,8 @@ fn group_size(line: &[u8]) -> Option<usize>
     ensures value { result ≡ size_of line.now }
     ensures some { IfSome result (λ size. 1 ≤ size) }
 {
-    if !line.starts_with(b"group ") {
-        return None;
-    }
-    let size = number(&line[6..], 2)? as usize;
+    let digits = after(b"group ", line)?;
+    let size = number(digits, 2)? as usize;
     if size == 0 || size > MOST_GROUPED {
         return None;
     }

@@ -5,13 +5,14 @@ ghost use Rattle.std.specs.Prelude.{◌≡◌, ℕ, List};
 ghost use Rattle.rs_script.specs.Lines.{Splits};
 ghost use Rattle.rs_script.specs.Script.{ScriptsAreRuns, ScriptsRecover, ScriptsMakeWalks, ScriptsFollowTheModel, ScriptsTellTheFold, ScriptsHoldTheFold};
 ghost use Rattle.rs_script.specs.Statements.{Statement, IsScript};
+ghost use Rattle.rs_script.specs.Stopped.{ScriptsPart};
 ghost use Rattle.rs_script.specs.Told.{ScriptsTellReplies};
 
 use rs_caps::laws::answered::paths_are_answered;
 use rs_disk::Disk;
 use rs_recovery::laws::{replies_are_seen, runs_go_on, runs_recover};
 use rs_recovery::walking::commands_make_walks;
-use rs_store::laws::held_sources_rest;
+use rs_store::laws::{answers_leave_prefixes, held_sources_rest};
 
 /// An input is cut into lines in one way.
 pub fn one_cut()
@@ -65,6 +66,14 @@ pub fn scripts_tell_replies<D: Disk>()
     held_sources_rest::<D>();
     runs_go_on::<D>();
     replies_are_seen::<D>();
+}
+
+/// A stop parts the answers of a script. Those that may have been written by then have exactly the replies to the commands
+/// acknowledged by then, and the disk holds each of these commands.
+pub fn scripts_part<D: Disk>()
+    ensures { ScriptsPart D.state }
+{
+    answers_leave_prefixes();
 }
 
 /// A script makes a walk. A command is tried where the model decides the answer, refused where the machine does, and

@@ -6,6 +6,7 @@ ghost use Rattle.rs_script.specs.Requests.{request_of, request_alone as alone, r
 ghost use Rattle.rs_script.specs.Room.{TakesRoom};
 ghost use Rattle.rs_script.specs.Statements.{or_refused};
 
+use crate::bytes::after;
 use crate::refusal::Refusal;
 use rs_caps::doc_of;
 use rs_items::{item_of, split_field};
@@ -153,13 +154,13 @@ fn show_request(alloc: Global, path: &[u8]) -> Result<Request, Refusal>
     ensures { (result ≡ show path.now)
         ⊎ ((result ≡ Err Refusal.NoMemory) × (9 ≤ length path.now)) }
 {
-    if !path.starts_with(b"/resource/") {
+    let Some(name) = after(b"/resource/", path) else {
         return match doc_of(path) {
             Some(doc) => Ok(Request::Document(doc)),
             None => Err(Refusal::NoSuchDocument),
         };
-    }
-    match Name::new(alloc, &path[10..]) {
+    };
+    match Name::new(alloc, name) {
         Ok(name) => Ok(Request::Body(name)),
         Err(NameError::BadName) => Err(Refusal::BadName),
         Err(NameError::NoMemory) => Err(Refusal::NoMemory),

@@ -4,7 +4,7 @@ ghost use Rattle.std.specs.Prelude.{◌≡◌, ◌≤◌, ◌∷◌, [], ℕ, Li
 ghost use Rattle.rs_io.specs.Watch.{failures, EndFailed, WritesOut};
 ghost use Rattle.rs_script.specs.Outcomes.{LineGives};
 ghost use Rattle.rs_script.specs.PartialLine.{IsContent};
-ghost use Rattle.rs_script.specs.Progress.{IsAnswered, between, TakesLine};
+ghost use Rattle.rs_script.specs.Progress.{HasAnswer, between, TakesLine};
 ghost use Rattle.rs_script.specs.Session.{script_state};
 ghost use Rattle.rs_script.specs.Statements.{group_size as size_of};
 ghost use Rattle.rs_script.specs.Taken.{KeepsGroup};
@@ -29,7 +29,7 @@ fn answer_content<D: Disk, W: Write>(
     content: Content<'_>,
     writer: &mut Watched<W>,
 ) -> Result<(), WriteFault>
-    ensures answered { (line : List ℕ) → IsContent content.entry line → IsAnswered
+    ensures answered { (line : List ℕ) → IsContent content.entry line → HasAnswer
         (LineGives D.state (script_state source.old now.old) line)
         (script_state source.new now.new) (WritesOut W.contents writer.old writer.new result) }
     ensures sound { OnOk result (failures writer.new ≡ failures writer.old) }

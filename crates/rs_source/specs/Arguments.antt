@@ -29,7 +29,7 @@ pub record Made : Type 0 where
   pub limit : ℕ
 
 -- which connections to serve: the port, and how many
-pub record Served : Type 0 where
+pub record Serving : Type 0 where
   pub port : ℕ
   pub count : ℕ
 
@@ -42,7 +42,7 @@ pub data Task : Type 0 where
   -- run a script on the source on the file of this name
   run : List ℕ → Task
   -- serve connections to the source on the file of this name
-  serve : List ℕ → Served → Task
+  serve : List ℕ → Serving → Task
   -- copy the source on the file of the first name to a new file of the second name, of this many bytes
   copy : List ℕ → List ℕ → ℕ → Task
 
@@ -74,13 +74,13 @@ run_of (program ∷ command ∷ file ∷ []) = if bytes_eq command (codes "run")
 run_of _ = None
 
 -- where both numbers are valid and in range
-abbrev pub served_if : Option ℕ → Option ℕ → Option Served
+abbrev pub served_if : Option ℕ → Option ℕ → Option Serving
 served_if (Some port) (Some count) =
     if nat_le port 65535 && nat_le 1 count && nat_le count 1000000000 then Some (record { port = port; count = count }) else None
 served_if port count = None
 
 -- PORT and COUNT, numbers of 1 to 18 digits: PORT up to 65,535, COUNT from 1 to 1,000,000,000
-abbrev pub served_of : List ℕ → List ℕ → Option Served
+abbrev pub served_of : List ℕ → List ℕ → Option Serving
 served_of port count = served_if (number_in 18 port) (number_in 18 count)
 
 -- `serve FILE PORT COUNT`
@@ -102,7 +102,7 @@ asked_of words = option_or (option_or (option_or (option_or (mem_of words) (form
 abbrev pub made_by : SourceArguments → Made
 made_by made = record { size = made.size; base = made.base.now; limit = made.limit }
 
-abbrev pub served_by : ServingArguments → Served
+abbrev pub served_by : ServingArguments → Serving
 served_by serving = record { port = serving.port; count = serving.count }
 
 abbrev pub asked_by : Invocation → Task

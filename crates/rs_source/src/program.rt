@@ -14,7 +14,7 @@ use rs_file::FileFault;
 use rs_script::ScriptFault;
 use rs_store::{CopyFault, CopyRefusal, FormatFault, OpenFault, Source};
 use rs_time::Moment;
-use std::alloc::Global;
+use std::alloc::{AllocError, Global};
 use std::io::ErrorKind;
 use thiserror::Error;
 
@@ -78,6 +78,16 @@ impl ProgramError {
             | ProgramError::Read
             | ProgramError::Write => 1,
         }
+    }
+}
+
+impl From<AllocError> for ProgramError {
+    ghost use Rattle.rs_source.specs.declared.program.ProgramError.TheVariants.{NoMemory};
+
+    ghost from_gives = { λ _ error. error ≡ NoMemory };
+
+    fn from(_: AllocError) -> ProgramError {
+        ProgramError::NoMemory
     }
 }
 
@@ -182,9 +192,7 @@ pub fn start(
     ensures in_range { OnOk result (MayBegin base.now limit size) }
     ensures err { IfErr result IsOfStart }
 {
-    let Ok(disk) = MemoryDisk::new(alloc, size) else {
-        return Err(ProgramError::NoMemory);
-    };
+    let disk = MemoryDisk::new(alloc, size)?;
     match Source::format(alloc, disk, base, limit, Moment::first()) {
         Ok(source) => Ok(source),
         Err((_, fault)) => Err(fault.into()),

@@ -3,10 +3,11 @@
 ghost use Rattle.std.specs.Prelude.{◌≡◌, ◌≤◌, ◌/◌, ℕ, List, IfOk, OnErr, length, min};
 ghost use Rattle.std.specs.Duration.{as_nanos};
 ghost use Rattle.rs_model.specs.declared.command.Command.{Command};
-ghost use Rattle.rs_io.specs.Watch.{ends_of};
+ghost use Rattle.rs_io.specs.Watch.{ends_of, seen_by};
 ghost use Rattle.rs_store.specs.Advancing.{GoesOnBy, GoesOnOnce};
 ghost use Rattle.rs_recovery.specs.Prefixes.{HasAnswered};
 ghost use Rattle.rs_http.specs.Counted.{RunsAtMost};
+ghost use Rattle.rs_http.specs.Told.{TellsReply};
 ghost use Rattle.rs_http.specs.Turn.{turn};
 ghost use Rattle.rs_source.specs.Serving.{Requests, MayConnect, Connections};
 
@@ -68,6 +69,10 @@ fn serve_request<D: Disk, R: Read, W: Write>(
     // What these two ends gave and took is one request, whatever the result.
     ensures request { Requests (turn D.state source.old now source.new)
         (ends_of R.remaining reader.old reader.new W.contents writer.old writer.new) }
+
+    // The reply that the writer took is that to the command which the source accepted.
+    ensures answered { TellsReply D.state source.old source.new
+        (seen_by W.contents writer.old) (seen_by W.contents writer.new) }
 
     ensures once { GoesOnOnce D.state source.old now source.new }
     ensures run { RunsAtMost D.state source.old 1 source.new }
@@ -161,7 +166,7 @@ fn accept_one<D: Disk, C: Clock>(
 /// holds then, unless the device failed in a command and closed the source.
 ///
 /// Whether a connection is accepted, and what its client sends and gets, no clause says, since sockets have no contract:
-/// that is tested. The clauses say what the source did meanwhile.
+/// that is tested. The clauses say what the source did meanwhile, and with which response (`Connects`).
 pub fn serve_connections<D: Disk, C: Clock>(
     alloc: Global,
     source: &mut Source<D>,

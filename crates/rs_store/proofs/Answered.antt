@@ -1,5 +1,5 @@
 -- What a source answers, by how far it got with a command.
-use Rattle.std.proofs.Common.{◌≡◌, ◌⊎◌, inl, inr, ℕ, Bool, true, false, List, length, refl, sym, ◌∙◌, ap, ap₂, subst, Option, Some, None, Result, Ok, Err, if◌then◌else◌}
+use Rattle.std.proofs.Common.{◌≡◌, ◌⊎◌, inl, inr, ℕ, Bool, true, false, List, length, refl, sym, ◌∙◌, ap, ap₂, subst, Option, Some, None, Result, Ok, Err, if◌then◌else◌, IsTrue}
 use Rattle.rs_disk.specs.Medium.{Medium, DiskState, IsImage, IsMedium, resting}
 use Rattle.rs_disk.specs.Leaves.{Leaves}
 use Rattle.rs_disk.specs.Runs.{Advances, HasFailed, RunsWriting}
@@ -109,6 +109,10 @@ module _ {D : Type 0} (device : D → DiskState) (medium : (disk : D) → IsMedi
   early_cause new NoMemory is given = absurd is
   early_cause new refusal is given = given
 
+  -- a closed source decides by that alone
+  decided_closed : IsTrue old.is_closed → decided old (state_of device old) command now ≡ Some Closed
+  decided_closed shut = ap (λ (b : Bool). if b then Some Closed else or_spent (refusal_of (state_of device old) command now) (is_spent old)) shut
+
   kept_leads : (new : Stored D) (s : Source) (r : Refusal) → (r ≡ Device → ⊥) → Holds device new s → Leaves (device old.disk) (device new.disk) (λ _ image. StandsFor image s)
       → Leads device old new s (step s command now) (Err r)
   kept_leads new s Device other holds leaves = absurd (other refl)
@@ -116,7 +120,7 @@ module _ {D : Type 0} (device : D → DiskState) (medium : (disk : D) → IsMedi
 
   -- the state that is held is the one that the lists tell
   tells_state : (s : Source) → Holds device old s → state_of device old ≡ s
-  tells_state s holds = (holds.told (device old.disk).now.seen (medium old.disk).image).state
+  tells_state s holds = (holds.tells (device old.disk).now.seen (medium old.disk).image).state
 
   -- a refusal that leaves the memory as it was
   kept_answers : (new : Stored D) (r : Refusal) → IsCause device old new command now r → (r ≡ Device → ⊥) → (r ≡ Full → new ≡ old)
@@ -136,6 +140,7 @@ module _ {D : Type 0} (device : D → DiskState) (medium : (disk : D) → IsMedi
         version = tt;
         leads = λ s holds. kept_leads new s r other (leads s holds).0 (leads s holds).1;
         runs = writing_as (device old.disk) (device new.disk) (λ none. absurd none) (λ is. let here : r ≡ Device = cc in absurd (other here)) runs;
+        closed = λ shut. let found = given Closed (decided_closed shut) in (ap refusing found.0, found.1);
         closes = λ is. let here : r ≡ Device = cc in absurd (other here);
         stays_open = λ _. closed;
         unchanged = λ q is not_it. same;
@@ -149,7 +154,7 @@ module _ {D : Type 0} (device : D → DiskState) (medium : (disk : D) → IsMedi
 
   at_rest : (s : Source) → Holds device old s → Holds device old s × Leaves (device old.disk) (device old.disk) (λ _ image. StandsFor image s)
   at_rest s holds =
-      (holds, started (device old.disk) (λ _ image. StandsFor image s) (stands_now old.slots old.contents s (device old.disk) (medium old.disk) holds.ready holds.told))
+      (holds, started (device old.disk) (λ _ image. StandsFor image s) (stands_now old.slots old.contents s (device old.disk) (medium old.disk) holds.ready holds.tells))
 
   -- refused at once
   pub at_once : (r : Refusal) → Err r ≡ moment_unless (decided old (state_of device old) command now) (moment_at (state_of device old) now) → Answers device old old command now (Err r)
@@ -206,9 +211,9 @@ module _ {D : Type 0} (device : D → DiskState) (medium : (disk : D) → IsMedi
           record {
             is_open = holds.is_open;
             ready = ready_after old.slots old.contents (device old.disk) (device mid) holds.ready run;
-            told = told_after old.slots old.contents s (device old.disk) (medium old.disk) holds.ready holds.told (device mid) run;
+            tells = told_after old.slots old.contents s (device old.disk) (medium old.disk) holds.ready holds.tells (device mid) run;
           },
-          stands_meanwhile old.slots old.contents s (device old.disk) (medium old.disk) holds.ready holds.told (device mid) run,
+          stands_meanwhile old.slots old.contents s (device old.disk) (medium old.disk) holds.ready holds.tells (device mid) run,
         ))
         runs
 
@@ -242,6 +247,7 @@ module _ {D : Type 0} (device : D → DiskState) (medium : (disk : D) → IsMedi
           leads = λ s holds. subst (λ (t : Source). Leaves (device old.disk) (device new.disk) (λ _ image. StandsFor image s ⊎ StandsFor image t))
               (sym (after_step s holds)) (leaves s holds);
           runs = writing_as (device old.disk) (device new.disk) (λ _. refl) (λ _. failed) goes;
+          closed = λ shut. absurd (none_some (decided old (state_of device old) command now) Closed free (decided_closed shut));
           closes = λ _. closed;
           stays_open = λ is. absurd (is refl);
           unchanged = λ q is other. let here : q ≡ Device = cc in absurd (other here);
@@ -250,7 +256,7 @@ module _ {D : Type 0} (device : D → DiskState) (medium : (disk : D) → IsMedi
     early_leaves : (t : Source → Source) (s : Source) → Holds device old s → Leaves (device old.disk) (device mid) (λ _ image. StandsFor image s ⊎ StandsFor image (t s))
     early_leaves t s holds =
         weaker (device old.disk) (device mid) (λ _ image. StandsFor image s) (λ _ image. StandsFor image s ⊎ StandsFor image (t s)) (λ m image stands. inl stands)
-        (stands_meanwhile old.slots old.contents s (device old.disk) (medium old.disk) holds.ready holds.told (device mid) run)
+        (stands_meanwhile old.slots old.contents s (device old.disk) (medium old.disk) holds.ready holds.tells (device mid) run)
 
     pub broken_off : (new : Stored D) → new.disk ≡ mid → new.is_closed ≡ true → HasFailed (device old.disk) (device new.disk)
         → Advances (device old.disk) (device new.disk) → Answers device old new command now (Err Device)
@@ -269,7 +275,7 @@ module _ {D : Type 0} (device : D → DiskState) (medium : (disk : D) → IsMedi
       tells_new : (s : Source) → Holds device old s → Tells root (once_stored p.contents) (device mid).now.seen (next s)
       unfolding next
       tells_new s holds =
-          let told = told_after old.slots old.contents s (device old.disk) (medium old.disk) holds.ready holds.told (device mid) run
+          let told = told_after old.slots old.contents s (device old.disk) (medium old.disk) holds.ready holds.tells (device mid) run
           (device mid).now.seen (medium mid).image in
           let there_next = tells_next (device old.disk).size old.slots.root old.contents command (moment_at (state_of device old) now) p bodies (device mid).now.seen s
           planned bodies_are there lists long told in
@@ -290,7 +296,7 @@ module _ {D : Type 0} (device : D → DiskState) (medium : (disk : D) → IsMedi
             (
               old.contents,
               tells_behind old.slots.root old.contents e image s (flipped image e same)
-                  (told_after old.slots old.contents s (device old.disk) (medium old.disk) holds.ready holds.told (device mid) run e left),
+                  (told_after old.slots old.contents s (device old.disk) (medium old.disk) holds.ready holds.tells (device mid) run e left),
             ),
           )
       outcome s holds image (inr (opens, same)) =
@@ -362,11 +368,12 @@ module _ {D : Type 0} (device : D → DiskState) (medium : (disk : D) → IsMedi
                   record {
                     is_open = closed ∙ holds.is_open;
                     ready = ready (ready_after old.slots old.contents (device old.disk) (device mid) holds.ready run);
-                    told = λ image left. subst (λ (l : List ℕ). Tells new.slots.root new.contents l (state_of device new)) (sym (image_is image left)) told;
+                    tells = λ image left. subst (λ (l : List ℕ). Tells new.slots.root new.contents l (state_of device new)) (sym (image_is image left)) told;
                   },
                   subst (λ (x : Source). Leaves (device old.disk) (device new.disk) (λ _ image. StandsFor image s ⊎ StandsFor image x)) t (meanwhile new.disk any s holds),
                 );
             runs = writing_as (device old.disk) (device new.disk) (λ none. absurd none) (λ is. absurd cc) runs;
+            closed = λ shut. absurd (none_some (decided old (state_of device old) command now) Closed free (decided_closed shut));
             closes = λ other. absurd cc;
             stays_open = λ _. closed;
             unchanged = λ q other. absurd cc;

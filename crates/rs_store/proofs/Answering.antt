@@ -45,7 +45,7 @@ held_is s t is = cc
 module _ {D : Type 0} (device : D → DiskState) (sound : (disk : D) → IsMedium (device disk).size (device disk).now) where
   -- what its lists tell is the state that it holds
   told_state : (source : Stored D) (s : Source) → Holds device source s → state_of device source ≡ s
-  told_state source s holds = (holds.told (device source.disk).now.seen (sound source.disk).image).state
+  told_state source s holds = (holds.tells (device source.disk).now.seen (sound source.disk).image).state
 
   module _ (old new : Stored D) (s : Source) (holds : Holds device old s) (command : Command) (now : ℕ) where
     decides : (x : Option model.Refusal) → refusal_of s command now ≡ x → decided old (state_of device old) command now ≡ or_spent x (is_spent old)
@@ -100,7 +100,7 @@ module _ {D : Type 0} (device : D → DiskState) (sound : (disk : D) → IsMediu
           idle = rests_in (device old.disk) (device ready.disk) P idle all;
           within = weaker (device ready.disk) (device mid.disk) (λ _. P) (λ _ image. P image ⊎ P image) (λ m image stands. inl stands) none;
           reply = turn.3.decides Closed is;
-          counted = turn.4;
+          at_call = turn.4;
         },
         closed_answered s t mid cs acks new (ap (λ (x : Stored D). x.is_closed) same ∙ still) then turn.5,
       )
@@ -161,7 +161,7 @@ module _ {D : Type 0} (device : D → DiskState) (sound : (disk : D) → IsMediu
           idle = (turn.1.holds s holds).1;
           within = next.0;
           reply = may_answer turn.0 turn.2 s (turn.1.holds s holds).0 c.0 c.1 a.reply turn.3;
-          counted = turn.4;
+          at_call = turn.4;
         },
         next.1,
       )

@@ -17,7 +17,7 @@ use Rattle.rs_store.specs.declared.copying.CopyRefusal.TheVariants.{Closed, Faul
 use Rattle.rs_store.specs.OnlyReads.{OnlyReads}
 use Rattle.rs_store.specs.Shows.{HasItsDigest}
 use Rattle.rs_store.specs.Source.{Stored, Holds, rooted_in}
-use Rattle.rs_store.specs.Copied.{AnswersCopy}
+use Rattle.rs_store.specs.Copied.{AnswersCopy, IsCopying}
 
 -- the fault of a copy is not Closed, and is refused as itself
 never_closed : (fault : CopyFault) → Fault fault ≡ Closed → ⊥
@@ -48,53 +48,66 @@ module _ {D E : Type 0} (device : D → DiskState) (other : E → DiskState) (ol
   -- a closed source is not copied
   pub closed_uncopied : old.is_closed ≡ true → AnswersCopy device other old old to (Err (to, Closed))
   closed_uncopied shut = record {
-    reads_only = record { slots = refl; contents = refl; is_closed = refl; rests = rests (device old.disk) (device old.disk) (reading_none {A = ⊥} (device old.disk) (λ none. none)) };
-    advances = advances (other to) (other to) (writing_none {A = ⊥} (other to) (λ none. none));
-    closed = (λ _. shut, λ _. refl);
-    too_small = (λ is. absurd cc, λ is. absurd (true≢false (sym shut ∙ is.0)));
-    full = λ is. absurd cc;
-    untouched = λ _. refl;
-    unread = λ _. refl;
-    room = λ met. ⊎_elim (λ is. absurd cc) (λ is. absurd cc) met;
-    failed = λ is. absurd cc;
-    sound = λ _. (refl, refl);
-    damaged = λ is. absurd cc;
-    first = tt;
-    slots = tt;
-    intact = tt;
-    lies = tt;
+    refuses = record {
+      closed = (λ _. shut, λ _. refl);
+      too_small = (λ is. absurd cc, λ is. absurd (true≢false (sym shut ∙ is.0)));
+      full = λ is. absurd cc;
+      untouched = λ _. refl;
+      unread = λ _. refl;
+      room = λ met. ⊎_elim (λ is. absurd cc) (λ is. absurd cc) met;
+      failed = λ is. absurd cc;
+      sound = λ _. (refl, refl);
+      damaged = λ is. absurd cc;
+    };
+    made = tt;
     holds = λ s holds honest. tt;
-    any_moment = λ s holds honest cut. absurd (true≢false (sym shut ∙ holds.is_open));
+    meanwhile = record {
+      reads_only = record { slots = refl; contents = refl; is_closed = refl; rests = rests (device old.disk) (device old.disk) (reading_none {A = ⊥} (device old.disk) (λ none. none)) };
+      advances = advances (other to) (other to) (writing_none {A = ⊥} (other to) (λ none. none));
+      any_moment = λ s holds honest cut. absurd (true≢false (sym shut ∙ holds.is_open));
+    };
   }
 
   module _ (medium : (disk : D) → IsMedium (device disk).size (device disk).now) (open_still : old.is_closed ≡ false) (new : Stored D) (only : OnlyReads device old new) (disk : E) where
     tells : (s : Source) → Holds device old s → Tells old.slots.root old.contents (device old.disk).now.seen s
-    tells s holds = holds.told (device old.disk).now.seen (medium old.disk).image
+    tells s holds = holds.tells (device old.disk).now.seen (medium old.disk).image
 
     abbrev Copied_so : Result Copied CopyFault → Type 0
     Copied_so result = Copies (rooted_in device old) (record { from = device old.disk; to = other to }) (record { from = device new.disk; to = other disk }) result
+
+    -- what both disks are meanwhile
+    copying : (result : Result Copied CopyFault) → Copied_so result → IsCopying device other old new to disk
+    copying result made = record {
+      reads_only = only;
+      advances = made.advances;
+      any_moment = λ s holds honest cut. made.any_moment s honest (tells s holds) cut;
+    }
 
     -- the copy stands
     pub copied_so : (copied : Copied) → Copied_so (Ok copied)
         → AnswersCopy device other old new to (Ok (record { disk = disk; slots = copied.slots; contents = copied.contents; is_closed = false }))
     copied_so copied made = record {
-      reads_only = only;
-      advances = made.advances;
-      closed = (λ none. absurd none, λ shut. absurd (true≢false (sym shut ∙ open_still)));
-      too_small = (λ none. absurd none, λ is. absurd (no_fault copied TooSmall (made.too_small.1 is.1)));
-      full = λ none. absurd none;
-      untouched = λ none. ⊎_elim (λ one. ⊎_elim (λ a. absurd a) (λ b. absurd b) one) (λ b. absurd b) none;
-      unread = λ none. ⊎_elim (λ one. ⊎_elim (λ a. absurd a) (λ b. absurd b) one) (λ b. absurd b) none;
-      room = λ none. ⊎_elim (λ a. absurd a) (λ b. absurd b) none;
-      failed = λ none. absurd none;
-      sound = λ _. made.sound (no_fault copied Device);
-      damaged = λ none. absurd none;
-      first = (made.copied.generation, made.copied.version);
-      slots = (made.copied.slots, made.copied.ready);
-      intact = made.copied.intact;
-      lies = record { used = copied.used; lies = made.lies };
-      holds = λ s holds honest. record { is_open = refl; ready = made.copied.ready; told = made.holds s honest (tells s holds) };
-      any_moment = λ s holds honest cut. made.any_moment s honest (tells s holds) cut;
+      refuses = record {
+        closed = (λ none. absurd none, λ shut. absurd (true≢false (sym shut ∙ open_still)));
+        too_small = (λ none. absurd none, λ is. absurd (no_fault copied TooSmall (made.too_small.1 is.1)));
+        full = λ none. absurd none;
+        untouched = λ none. ⊎_elim (λ one. ⊎_elim (λ a. absurd a) (λ b. absurd b) one) (λ b. absurd b) none;
+        unread = λ none. ⊎_elim (λ one. ⊎_elim (λ a. absurd a) (λ b. absurd b) one) (λ b. absurd b) none;
+        room = λ none. ⊎_elim (λ a. absurd a) (λ b. absurd b) none;
+        failed = λ none. absurd none;
+        sound = λ _. made.sound (no_fault copied Device);
+        damaged = λ none. absurd none;
+      };
+      made = record {
+        generation = made.copied.generation;
+        version = made.copied.version;
+        slots = made.copied.slots;
+        ready = made.copied.ready;
+        intact = made.copied.intact;
+        lies = record { used = copied.used; lies = made.lies };
+      };
+      holds = λ s holds honest. record { is_open = refl; ready = made.copied.ready; tells = made.holds s honest (tells s holds) };
+      meanwhile = copying (Ok copied) made;
     }
 
     -- it was refused
@@ -102,28 +115,25 @@ module _ {D E : Type 0} (device : D → DiskState) (other : E → DiskState) (ol
         → (refusing fault ≡ refusing TooSmall ⊎ refusing fault ≡ refusing Full → new ≡ old)
         → AnswersCopy device other old new to (Err (disk, Fault fault))
     refused_so fault made untouched unread = record {
-      reads_only = only;
-      advances = made.advances;
-      closed = (λ is. absurd (never_closed fault is), λ shut. absurd (true≢false (sym shut ∙ open_still)));
-      too_small = (
-        λ is. (open_still, made.too_small.0 (refused fault TooSmall is)),
-        λ is. faulted fault TooSmall (made.too_small.1 is.1),
-      );
-      full = λ is. made.full (refused fault Full is);
-      untouched = λ early. ⊎_elim
-          (λ one. ⊎_elim (λ is. absurd (never_closed fault is)) (λ is. untouched (inl (refused fault TooSmall is))) one)
-          (λ is. untouched (inr (refused fault Full is))) early;
-      unread = λ early. ⊎_elim
-          (λ one. ⊎_elim (λ is. absurd (never_closed fault is)) (λ is. unread (inl (refused fault TooSmall is))) one)
-          (λ is. unread (inr (refused fault Full is))) early;
-      room = λ met. made.room (⊎_elim (λ is. inl (refused fault Device is)) (λ is. inr (refused fault Damaged is)) met);
-      failed = λ is. made.failed (refused fault Device is);
-      sound = λ not_device. made.sound (λ is. not_device (faulted fault Device is));
-      damaged = λ is honest all. made.damaged (refused fault Damaged is) honest (bodies_intact (device old.disk).now.seen (records_of old.contents.catalogue) all);
-      first = tt;
-      slots = tt;
-      intact = tt;
-      lies = tt;
+      refuses = record {
+        closed = (λ is. absurd (never_closed fault is), λ shut. absurd (true≢false (sym shut ∙ open_still)));
+        too_small = (
+          λ is. (open_still, made.too_small.0 (refused fault TooSmall is)),
+          λ is. faulted fault TooSmall (made.too_small.1 is.1),
+        );
+        full = λ is. made.full (refused fault Full is);
+        untouched = λ early. ⊎_elim
+            (λ one. ⊎_elim (λ is. absurd (never_closed fault is)) (λ is. untouched (inl (refused fault TooSmall is))) one)
+            (λ is. untouched (inr (refused fault Full is))) early;
+        unread = λ early. ⊎_elim
+            (λ one. ⊎_elim (λ is. absurd (never_closed fault is)) (λ is. unread (inl (refused fault TooSmall is))) one)
+            (λ is. unread (inr (refused fault Full is))) early;
+        room = λ met. made.room (⊎_elim (λ is. inl (refused fault Device is)) (λ is. inr (refused fault Damaged is)) met);
+        failed = λ is. made.failed (refused fault Device is);
+        sound = λ not_device. made.sound (λ is. not_device (faulted fault Device is));
+        damaged = λ is honest all. made.damaged (refused fault Damaged is) honest (bodies_intact (device old.disk).now.seen (records_of old.contents.catalogue) all);
+      };
+      made = tt;
       holds = λ s holds honest. tt;
-      any_moment = λ s holds honest cut. made.any_moment s honest (tells s holds) cut;
+      meanwhile = copying (Err fault) made;
     }

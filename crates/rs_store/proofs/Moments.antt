@@ -48,7 +48,7 @@ none_before m old is [] [] new all lt = refl
 none_before m old is (c ∷ cs) (a ∷ acks) new all lt =
     let mid : DiskState = all.0 in
     let early : m < mid.calls = omega (arith, lt, all.1.idle.later, all.1.within.later) in
-    let at : a.at_call ≡ mid.calls = all.1.counted in
+    let at : a.at_call ≡ mid.calls = all.1.at_call in
     let here : one (is_accepted a && nat_le a.at_call m) ≡ 0 = ap (λ (b : Bool). one (is_accepted a && b)) (not_yet m a.at_call (omega (arith, early, at))) ∙ and_false (is_accepted a) in
     omega (arith, here, none_before m mid (condition_after is c a.reply) cs acks new all.2 early, acknowledged_cons m a acks)
 none_before m old is cs acks new all lt = absurd all
@@ -170,9 +170,9 @@ answered_leave_prefixes s old (c ∷ cs) (a ∷ acks) new all =
         → ((t : Source) → AreAnswered mid (Holding t) cs acks new → Leaves mid new (StandsForPrefix t cs acks))
         → ((m : ℕ) → m < mid.calls → acknowledged m acks ≡ 0)
         → Leaves old new (StandsForPrefix s (c ∷ cs) (ack reply a.at_call ∷ acks))
-    by (Ok reply) meanwhile rest on none = accepted s old mid new c cs acks a.at_call all.1.counted none reply (within (condition_after (Holding s) c (Ok reply)) meanwhile) (on (state_after s (step s c.0 c.1)) rest)
-    by (Err Device) meanwhile rest on none = failed s old mid new c cs acks a.at_call all.1.counted none (within (condition_after (Holding s) c (Err Device)) meanwhile) rest
-    by (Err refusal) meanwhile rest on none = refused s old mid new c cs acks a.at_call all.1.counted none refusal refl (within (Holding s) meanwhile) (on s rest)
+    by (Ok reply) meanwhile rest on none = accepted s old mid new c cs acks a.at_call all.1.at_call none reply (within (condition_after (Holding s) c (Ok reply)) meanwhile) (on (state_after s (step s c.0 c.1)) rest)
+    by (Err Device) meanwhile rest on none = failed s old mid new c cs acks a.at_call all.1.at_call none (within (condition_after (Holding s) c (Err Device)) meanwhile) rest
+    by (Err refusal) meanwhile rest on none = refused s old mid new c cs acks a.at_call all.1.at_call none refusal refl (within (Holding s) meanwhile) (on s rest)
 answered_leave_prefixes s old cs acks new all = absurd all
 
 module _ {D : Type 0} (device : D → DiskState) where

@@ -74,7 +74,7 @@ holds_told device disk slots c seen ready rests told =
     record {
       is_open = refl;
       ready = ready;
-      told = λ image is.
+      tells = λ image is.
           let there : image ≡ seen = resting_image seen image (subst (λ (m : Medium). IsImage m image) rests is) in
           subst (λ (l : List ℕ). Tells slots.root c l (state_in (device disk).now.seen c)) (sym there)
           (subst (λ (s : Source). Tells slots.root c seen s) state told);

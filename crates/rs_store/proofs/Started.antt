@@ -167,7 +167,7 @@ first_holds device disk slots base limit moment b is made ready rests reads room
     record {
       is_open = refl;
       ready = subst (λ (s : Standing). IsReady s (device disk).now) (sym made) ready;
-      told = λ image at.
+      tells = λ image at.
           let there : image ≡ seen = resting_image seen image (subst (λ (m : Medium). IsImage m image) rests at) in
           subst (λ (s : Standing). Tells s.root b.contents image (start_of base limit moment)) (sym made)
           (subst (λ (l : List ℕ). Tells b.root b.contents l (start_of base limit moment)) (sym there) told);

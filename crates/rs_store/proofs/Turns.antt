@@ -1,7 +1,8 @@
 -- Commands that a source answers in their order.
-use Rattle.std.proofs.Common.{◌≡◌, ℕ, ◌+◌, ◌<◌, ◌≤◌, Bool, true, false, ◌&&◌, List, [], ◌∷◌, ◌++◌, refl, ◌∙◌, ap, subst, arith, cond, Result, Err}
-use Rattle.std.specs.Prelude.{nat_le, is_ok, Some}
-use Rattle.std.specs.List.{AllByRecursion}
+use Rattle.std.proofs.Common.{◌≡◌, ℕ, ◌+◌, ◌<◌, ◌≤◌, Bool, true, false, ◌&&◌, List, [], ◌∷◌, ◌++◌, refl, sym, ◌∙◌, ap, subst, arith, cond, Result, Err, true≢false}
+use Rattle.std.specs.Prelude.{nat_le, is_ok, IsErrOf, Some}
+use Rattle.std.specs.List.{AllByRecursion, AllZip}
+use Rattle.std.proofs.lemmas.List.Elements.{All-nil, All-cons}
 use Rattle.std.proofs.lemmas.Bool.Decides.{nat_tests}
 use Rattle.rs_disk.specs.Medium.{DiskState, IsImage, IsMedium}
 use Rattle.rs_disk.specs.Runs.{Rests}
@@ -12,13 +13,14 @@ use Rattle.rs_model.specs.declared.command.Command.{Command}
 use Rattle.rs_model.specs.declared.command.Reply.{Reply}
 use Rattle.rs_image.specs.StateOfImage.{StandsFor}
 use Rattle.rs_store.specs.declared.refusal.Refusal.{Refusal}
-use Rattle.rs_store.specs.declared.refusal.Refusal.TheVariants.{Closed}
+use Rattle.rs_store.specs.declared.refusal.Refusal.TheVariants.{Closed, Device}
 use Rattle.rs_store.specs.Source.{Stored, Holds, state_of}
 use Rattle.rs_store.specs.Refusals.{decided, or_spent, is_spent}
 use Rattle.rs_store.specs.Answered.{Answers}
 use Rattle.rs_store.specs.declared.running.Ack.{Ack}
 use Rattle.rs_store.specs.Counted.{is_accepted, is_device, is_in_doubt, answered, acknowledged}
 use Rattle.rs_store.specs.Runs.{IsIdle, InTurn}
+use Rattle.rs_store.specs.Laws.{AreNotDevice}
 
 abbrev pub Commands : Type 0
 Commands = List (Command × ℕ)
@@ -30,7 +32,7 @@ module _ {D : Type 0} (device : D → DiskState) (sound : (disk : D) → IsMediu
   -- each image of the disk of a source that holds a state represents it
   pub images_stand : (source : Stored D) (s : Source) → Holds device source s → (image : List ℕ) → IsImage (device source.disk).now image → StandsFor image s
   images_stand source s holds image left =
-      (source.slots.root, ready_opens source.slots (device source.disk).now (device source.disk).size (sound source.disk) holds.ready image left, (source.contents, holds.told image left))
+      (source.slots.root, ready_opens source.slots (device source.disk).now (device source.disk).size (sound source.disk) holds.ready image left, (source.contents, holds.tells image left))
 
   -- a source that does nothing
   pub idle_at : (source : Stored D) → IsIdle device source source
@@ -118,6 +120,26 @@ closed_run {D} device old (c ∷ cs) (a ∷ acks) new shut turn =
     (rest.0, rests_on (device old.disk) (device ready.disk) (device new.disk) (turn.1.rests shut) behind, (turn.3.decides Closed refused, rest.2))
 closed_run {D} device old [] (a ∷ acks) new shut turn = absurd turn
 closed_run {D} device old (c ∷ cs) [] new shut turn = absurd turn
+
+-- one pair more
+pub zip_push : {A B : Type 0} (R : A → B → Type 0) (xs : List A) (ys : List B) (x : A) (y : B) → AllZip R xs ys → R x y → AllZip R (xs ++ x ∷ []) (ys ++ y ∷ [])
+zip_push R [] [] x y all more = (more, tt)
+zip_push R (a ∷ xs) (b ∷ ys) x y all more = (all.0, zip_push R xs ys x y all.1 more)
+zip_push R [] (b ∷ ys) x y all more = absurd all
+zip_push R (a ∷ xs) [] x y all more = absurd all
+
+abbrev IsNoDevice : Ack → Type 0
+IsNoDevice a = ¬ IsErrOf a.reply Device
+
+-- A source that is open at the end of a run answered no command Device.
+pub none_device : {D : Type 0} (device : D → DiskState) (old : Stored D) (cs : Commands) (acks : Acks) (new : Stored D)
+    → InTurn device old cs acks new → new.is_closed ≡ false → AreNotDevice acks
+none_device {D} device old [] [] new turn is_open = All-nil IsNoDevice
+none_device {D} device old (c ∷ cs) (a ∷ acks) new turn is_open = All-cons IsNoDevice a acks
+    (λ failed. absurd (true≢false (sym (closed_run device turn.2 cs acks new (turn.3.closes failed) turn.5).0 ∙ is_open)))
+    (none_device device turn.2 cs acks new turn.5 is_open)
+none_device {D} device old [] (a ∷ acks) new turn is_open = absurd turn
+none_device {D} device old (c ∷ cs) [] new turn is_open = absurd turn
 
 -- No command counts among those that were all answered Closed.
 pub none_counts : (test : Ack → Bool) → ((a : Ack) → IsClosed a → test a ≡ false) → (cs : Commands) (acks : Acks) → AllByRecursion IsClosed acks → answered test cs acks ≡ []

@@ -1,5 +1,5 @@
 -- What a source answers to a command.
-use Rattle.std.specs.Prelude.{◌≡◌, ◌+◌, ℕ, true, Option, Some, None, Result, Ok, Err, IfOk, IsErrOf}
+use Rattle.std.specs.Prelude.{◌≡◌, ◌+◌, ℕ, true, Option, Some, None, Result, Ok, Err, IfOk, IsErrOf, IsTrue}
 use Rattle.rs_disk.specs.Runs.{RunsWriting}
 use Rattle.rs_disk.specs.Medium.{DiskState}
 use Rattle.rs_commit.specs.Slots.{written_version}
@@ -10,7 +10,7 @@ use Rattle.rs_model.specs.declared.command.Reply.{Reply}
 use Rattle.rs_store.specs.declared.refusal.Refusal.{Refusal}
 use Rattle.rs_plan.specs.declared.plan.Plan.{Plan}
 use Rattle.rs_plan.specs.Plans.{once_stored, planned_root, IsPlanned}
-use Rattle.rs_store.specs.declared.refusal.Refusal.TheVariants.{Full, Device}
+use Rattle.rs_store.specs.declared.refusal.Refusal.TheVariants.{Closed, Full, Device}
 use Rattle.rs_store.specs.Source.{Stored, Holds, rooted_in, state_of}
 use Rattle.rs_store.specs.Refusals.{decided}
 use Rattle.rs_store.specs.Commands.{IsCause, Leads}
@@ -43,6 +43,7 @@ pub record IsCarriedOut {D : Type 0} (device : D → DiskState) (old new : Store
 -- `generation`, `version`: each accepted command takes one generation of the root, and gives the root the version that is written.
 -- `leads`: if the source holds a state, what it holds then, and what each image of a crash meanwhile represents.
 -- `runs`: it answers Device exactly where a device call failed; the disk keeps its size, and its counts do not fall.
+-- `closed`: a closed source answers Closed, and nothing changes.
 -- `closes`, `stays_open`: Device closes it, and nothing else does.
 -- `unchanged`: any other refusal leaves the memory as it was.
 pub record Answers {D : Type 0} (device : D → DiskState) (old new : Stored D) (command : Command) (now : ℕ) (result : Result Reply Refusal) : Type 0 where
@@ -56,6 +57,7 @@ pub record Answers {D : Type 0} (device : D → DiskState) (old new : Stored D) 
   pub version : IfOk result (λ _. new.slots.root.version ≡ written_version)
   pub leads : (s : Source) → Holds device old s → Leads device old new s (step s command now) result
   pub runs : RunsWriting (IsErrOf result Device) (device old.disk) (device new.disk)
+  pub closed : IsTrue old.is_closed → (result ≡ Err Closed) × (new ≡ old)
   pub closes : IsErrOf result Device → new.is_closed ≡ true
   pub stays_open : (IsErrOf result Device → ⊥) → new.is_closed ≡ old.is_closed
   pub unchanged : (r : Refusal) → IsErrOf result r → (r ≡ Device → ⊥) → IsUnchanged device old new

@@ -39,23 +39,26 @@ pub record LiesAsLaidOut {E : Type 0} (size : ℕ) (c : Contents) (copy : Stored
   pub used : List Bool
   pub lies : LiesCopied size c (record { slots = copy.slots; contents = copy.contents; used = used })
 
--- What a source answers when it is copied to the disk `to`, and what both disks are then.
--- `reads_only`: the source stays open, and only the counts of its disk change; `advances`: the new disk keeps its size.
+-- A copy of these lists was made on a disk of this many bytes.
+-- `generation`, `version`: its root has generation 1 and the version that is written.
+-- `slots`, `ready`: the root is in the first slot, the second one is closed, and they can be changed.
+-- `intact`: each body on the new disk has its recorded SHA-256, whatever the old disk gave.
+-- `lies`: bodies, pages and the directory each took the lowest run of their size in turn; each list has its own pages of 64 items.
+pub record IsCopied {E : Type 0} (other : E → DiskState) (size : ℕ) (c : Contents) (copy : Stored E) : Type 0 where
+  pub generation : copy.slots.root.generation ≡ 1
+  pub version : copy.slots.root.version ≡ written_version
+  pub slots : copy.slots ≡ fresh copy.slots.root
+  pub ready : IsReady copy.slots (other copy.disk).now
+  pub intact : All (HasItsBody (other copy.disk).now.seen) (records_of copy.contents.catalogue)
+  pub lies : LiesAsLaidOut size c copy
+
+-- Why a source is not copied to the disk `to`, and what a refusal leaves.
 -- `closed`, `too_small`, `full`: the causes of these; `untouched`, `unread`: they leave the new disk, and the source with its own
 -- disk, as they were.
 -- `room`: Device and Damaged come only where the new disk has room for the whole copy.
 -- `failed`, `sound`: Device comes only where a call of one of the disks failed, and any other answer only where none did.
 -- `damaged`: a body lacks its recorded SHA-256, if the old disk has followed the model.
--- `first`: the new root has generation 1 and the version that is written; `slots`: it is in the first slot, the second one is
--- closed, and they can be changed.
--- `intact`: each body on the new disk has its recorded SHA-256, whatever the old disk gave.
--- `lies`: bodies, pages and the directory each took the lowest run of their size in turn; each list has its own pages of 64 items.
--- `holds`: the new source holds the state that this one held.
--- `any_moment`: once a first sync of the new disk has succeeded, which is its third call, each of its images tells no root, or
--- represents that state.
-pub record AnswersCopy {D E : Type 0} (device : D → DiskState) (other : E → DiskState) (old new : Stored D) (to : E) (result : Result (Stored E) (E × CopyRefusal)) : Type 0 where
-  pub reads_only : OnlyReads device old new
-  pub advances : Advances (other to) (other (disk_of result))
+pub record RefusesCopy {D E : Type 0} (device : D → DiskState) (other : E → DiskState) (old new : Stored D) (to : E) (result : Result (Stored E) (E × CopyRefusal)) : Type 0 where
   pub closed : IsRefusal result Closed ↔ IsTrue old.is_closed
   pub too_small : IsFault result TooSmall ↔ ((old.is_closed ≡ false) × (blocks_of_disk (other to).size < 16))
   pub full : IsFault result Full → LacksCopyRoom (other to).size old.contents
@@ -66,11 +69,25 @@ pub record AnswersCopy {D E : Type 0} (device : D → DiskState) (other : E → 
   pub sound : ¬ IsFault result Device
       → ((device new.disk).faults ≡ (device old.disk).faults) × ((other (disk_of result)).faults ≡ (other to).faults)
   pub damaged : IsFault result Damaged → IsTrue (device new.disk).honest → ¬ All (λ held. HasItsDigest held.1) (state_of device old).held
-  pub first : IfOk result (λ copy. (copy.slots.root.generation ≡ 1) × (copy.slots.root.version ≡ written_version))
-  pub slots : IfOk result (λ copy. (copy.slots ≡ fresh copy.slots.root) × IsReady copy.slots (other copy.disk).now)
-  pub intact : IfOk result (λ copy. All (HasItsBody (other copy.disk).now.seen) (records_of copy.contents.catalogue))
-  pub lies : IfOk result (LiesAsLaidOut (other to).size old.contents)
-  pub holds : (s : Source) → Holds device old s → IsTrue (device new.disk).honest → IfOk result (λ copy. Holds other copy s)
+
+-- Both disks while a source is copied, whatever the answer is.
+-- `reads_only`: the source stays open, and only the counts of its disk change. So a stop leaves of it what one before would have left.
+-- `advances`: the new disk keeps its size, and its counts do not fall.
+-- `any_moment`: once a first sync of the new disk has succeeded, which is its third call, each of its images tells no root, or
+-- represents the state that the source holds.
+pub record IsCopying {D E : Type 0} (device : D → DiskState) (other : E → DiskState) (old new : Stored D) (to disk : E) : Type 0 where
+  pub reads_only : OnlyReads device old new
+  pub advances : Advances (other to) (other disk)
   pub any_moment : (s : Source) → Holds device old s → IsTrue (device new.disk).honest
-      → ((other to).calls + 3 < (other (disk_of result)).calls) ⊎ ((other (disk_of result)).faults ≡ (other to).faults)
-      → Leaves (other to) (other (disk_of result)) (λ m image. (other to).calls + 3 ≤ m → (current image ≡ None) ⊎ StandsFor image s)
+      → ((other to).calls + 3 < (other disk).calls) ⊎ ((other disk).faults ≡ (other to).faults)
+      → Leaves (other to) (other disk) (λ m image. (other to).calls + 3 ≤ m → (current image ≡ None) ⊎ StandsFor image s)
+
+-- What a source answers when it is copied to the disk `to`, and what both disks are then.
+-- `refuses`: the causes of each refusal, and what it leaves.
+-- `made`: after Ok, how the copy lies on the new disk; `holds`: the copy holds the state that this source held.
+-- `meanwhile`: what a stop leaves of both disks.
+pub record AnswersCopy {D E : Type 0} (device : D → DiskState) (other : E → DiskState) (old new : Stored D) (to : E) (result : Result (Stored E) (E × CopyRefusal)) : Type 0 where
+  pub refuses : RefusesCopy device other old new to result
+  pub made : IfOk result (IsCopied other (other to).size old.contents)
+  pub holds : (s : Source) → Holds device old s → IsTrue (device new.disk).honest → IfOk result (λ copy. Holds other copy s)
+  pub meanwhile : IsCopying device other old new to (disk_of result)

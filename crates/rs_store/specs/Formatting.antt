@@ -27,10 +27,10 @@ pub record MayMake (size : ℕ) (base : List ℕ) (limit : ℕ) : Type 0 where
   pub base_is : IsTrue (is_base base)
 
 -- The causes of these faults: each comes exactly where its cause is there, and none of a fault before it.
-pub record HasCauses (size : ℕ) (base : List ℕ) (limit : ℕ) (told : FormatFault → Type 0) : Type 0 where
-  pub bad_base : told BadBase ↔ (is_base base ≡ false)
-  pub bad_limit : told BadLimit ↔ (IsTrue (is_base base) × (¬ IsLimit limit))
-  pub too_small : told TooSmall ↔ (IsTrue (is_base base) × IsLimit limit × (blocks_of_disk size < 16))
+pub record HasCauses (size : ℕ) (base : List ℕ) (limit : ℕ) (Refuses : FormatFault → Type 0) : Type 0 where
+  pub bad_base : Refuses BadBase ↔ (is_base base ≡ false)
+  pub bad_limit : Refuses BadLimit ↔ (IsTrue (is_base base) × (¬ IsLimit limit))
+  pub too_small : Refuses TooSmall ↔ (IsTrue (is_base base) × IsLimit limit × (blocks_of_disk size < 16))
 
 -- the header of a source that was formatted at this moment
 abbrev pub first_header : List ℕ → ℕ → ℕ → Header

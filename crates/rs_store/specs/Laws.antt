@@ -1,5 +1,5 @@
 -- Laws of a source's answers.
-use Rattle.std.specs.Prelude.{◌≡◌, ◌⊎◌, ℕ, ◌<◌, ◌≤◌, true, false, List, [], ◌++◌, length, Err}
+use Rattle.std.specs.Prelude.{◌≡◌, ◌⊎◌, ℕ, ◌<◌, ◌≤◌, true, false, List, [], ◌++◌, length, All, Err, IsErrOf}
 use Rattle.std.specs.List.{AllByRecursion}
 use Rattle.rs_disk.specs.Medium.{DiskState, IsImage}
 use Rattle.rs_disk.specs.Leaves.{Leaves}
@@ -50,6 +50,15 @@ AreClosed acks = AllByRecursion (λ a. a.reply ≡ Err Closed) acks
 abbrev pub ClosedStays : {D : Type 0} → (D → DiskState) → Type 0
 ClosedStays {D} device = (old : Stored D) (commands : List (Command × ℕ)) (acks : List Ack) (new : Stored D)
     → old.is_closed ≡ true → InTurn device old commands acks new → (new.is_closed ≡ true) × Rests (device old.disk) (device new.disk) × AreClosed acks
+
+-- no answer is Device
+abbrev pub AreNotDevice : List Ack → Type 0
+AreNotDevice acks = All (λ a. ¬ IsErrOf a.reply Device) acks
+
+-- Device closes the source: one that is open at the end of a run answered it to no command.
+abbrev pub DeviceCloses : {D : Type 0} → (D → DiskState) → Type 0
+DeviceCloses {D} device = (old : Stored D) (commands : List (Command × ℕ)) (acks : List Ack) (new : Stored D)
+    → InTurn device old commands acks new → new.is_closed ≡ false → AreNotDevice acks
 
 -- No command counts that a closed source answered.
 abbrev pub ClosedCountNone : Type 0

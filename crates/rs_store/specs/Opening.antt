@@ -33,10 +33,10 @@ of_lists lists.Device = Device
 of_lists lists.NoMemory = NoMemory
 
 -- The bytes of a disk tell these slots and lists: the slots are those of the bytes, and can be changed; the root tells the lists.
-pub record IsFound (seen : List ℕ) (now : Medium) (standing : Standing) (c : Contents) : Type 0 where
+pub record IsFound (seen : List ℕ) (settled : Medium) (standing : Standing) (c : Contents) : Type 0 where
   pub slots : current seen ≡ Some standing
-  pub ready : IsReady standing now
-  pub told : Tells standing.root c seen (state_in seen c)
+  pub ready : IsReady standing settled
+  pub tells : Tells standing.root c seen (state_in seen c)
 
 -- An opened source. If the device has followed the model, its slots are those that the disk told, and it holds the state that the
 -- disk represented.

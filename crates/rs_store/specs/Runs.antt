@@ -86,19 +86,21 @@ abbrev pub condition_behind : Condition → List (Command × ℕ) → List Ack �
 condition_behind is (c ∷ commands) (a ∷ acks) = condition_behind (condition_after is c a.reply) commands acks
 condition_behind is commands acks = is
 
--- One command is answered, as the disk sees it.
--- `idle`: until it comes, the source may be read, and each image of a crash is of the source as it is.
+-- One command is answered, as the disk sees it: `old` is the disk after the answer before, and `new` that after this one.
+-- `ready`: the disk when the command comes.
+-- `idle`: until then the source may be read, and each image of a crash is of the source as it is.
 -- `within`: within the command, each image is of the source before the command or after it.
 -- `reply`: the source may answer so.
--- `counted`: `at_call` is the disk's count of calls at the answer.
+-- `at_call`: the answer has the disk's count of calls.
 pub record AnswersOne (old : DiskState) (is : Condition) (c : Command × ℕ) (a : Ack) (new : DiskState) : Type 0 where
   pub ready : DiskState
   pub idle : Leaves old ready (λ _. StandsIn is)
   pub within : Leaves ready new (λ _ image. StandsIn is image ⊎ StandsIn (condition_after is c a.reply) image)
   pub reply : MayReply is c a.reply
-  pub counted : a.at_call ≡ new.calls
+  pub at_call : a.at_call ≡ new.calls
 
--- Commands are answered in their order, as the disk sees it. After the last one, too, the source may be read.
+-- Commands are answered in their order, as the disk sees it. `mid` is the disk after the first answer. After the last one, too, the
+-- source may be read.
 abbrev pub AreAnswered : DiskState → Condition → List (Command × ℕ) → List Ack → DiskState → Type 0
 AreAnswered old is [] [] new = Leaves old new (λ _. StandsIn is)
 AreAnswered old is (c ∷ commands) (a ∷ acks) new =

@@ -28,4 +28,4 @@ state_of device source = state_in (device source.disk).now.seen source.contents
 pub record Holds {D : Type 0} (device : D → DiskState) (source : Stored D) (s : Source) : Type 0 where
   pub is_open : source.is_closed ≡ false
   pub ready : IsReady source.slots (device source.disk).now
-  pub told : (image : List ℕ) → IsImage (device source.disk).now image → Tells source.slots.root source.contents image s
+  pub tells : (image : List ℕ) → IsImage (device source.disk).now image → Tells source.slots.root source.contents image s

@@ -2,7 +2,7 @@
 //!
 //! Each function here does nothing. Its contract is a law that the check proves.
 
-ghost use Rattle.rs_store.specs.Laws.{EarlyFaultsLeave, HeldStands, RestIsIdle, TurnsGoOn, CallsRise, ClosedStays, ClosedCountNone, DeviceOrNoDoubt, RefusedIsNotDone, RunsAreAnswered, OpenHoldsAnswered, AnswersLeavePrefixes, RunsLeavePrefixes, OpenHoldsAll};
+ghost use Rattle.rs_store.specs.Laws.{EarlyFaultsLeave, HeldStands, RestIsIdle, TurnsGoOn, CallsRise, ClosedStays, DeviceCloses, ClosedCountNone, DeviceOrNoDoubt, RefusedIsNotDone, RunsAreAnswered, OpenHoldsAnswered, AnswersLeavePrefixes, RunsLeavePrefixes, OpenHoldsAll};
 
 use rs_disk::Disk;
 
@@ -29,9 +29,10 @@ pub fn turns_go_on<D: Disk>()
     ensures calls { CallsRise D.state }
 {}
 
-/// A closed source answers [`Closed`](crate::Refusal::Closed) to each command and stays closed. None of
-/// these commands counts.
+/// [`Device`](crate::Refusal::Device) closes a source. A closed source answers
+/// [`Closed`](crate::Refusal::Closed) to each command and stays closed. None of these commands counts.
 pub fn closed_sources_stay<D: Disk>()
+    ensures closes { DeviceCloses D.state }
     ensures stays { ClosedStays D.state }
     ensures counts { ClosedCountNone }
 {}

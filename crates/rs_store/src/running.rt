@@ -1,11 +1,13 @@
 //! Runs of commands.
 
-ghost use Rattle.std.specs.Prelude.{◌≡◌, false, OnErr, IfErr, IfOk};
+ghost use Rattle.std.specs.Prelude.{◌≡◌, false, OnErr, IfErr, IfOk, IsErrOf, IsTrue};
+ghost use Rattle.std.specs.List.{AllZip};
 ghost use Rattle.rs_disk.specs.Leaves.{Leaves};
 ghost use Rattle.rs_model.specs.State.{Source as State};
 ghost use Rattle.rs_model.specs.Step.{fold_of};
 ghost use Rattle.rs_store.specs.Source.{Holds};
 ghost use Rattle.rs_store.specs.Counted.{counted_commands};
+ghost use Rattle.rs_store.specs.Laws.{AreNotDevice};
 ghost use Rattle.rs_store.specs.Runs.{InTurn, StandsForPrefix, Holding, AreAnswered};
 
 use crate::{Refusal, Source};
@@ -54,6 +56,13 @@ impl<D: Disk> Source<D> {
         ensures at_exit { IfOk result (λ acks. (s : State) → Holds D.state self.old s
             → self.new.is_closed ≡ false
             → Holds D.state self.new (fold_of s (counted_commands commands.now acks.items))) }
+
+        // A closed source answers Closed to each command, and nothing changes. One that answered Device
+        // is closed, so each further call comes to a closed source.
+        ensures closed { IfOk result (λ acks. IsTrue self.old.is_closed → (self.new ≡ self.old)
+            × AllZip (λ command a. IsErrOf a.reply Refusal.Closed) commands.now acks.items) }
+        ensures closes { IfOk result (λ acks. self.new.is_closed ≡ false
+            → AreNotDevice acks.items) }
 
         ensures only { IfErr result (λ refusal. refusal ≡ Refusal.NoMemory) }
         ensures untouched { OnErr result (self.new ≡ self.old) }

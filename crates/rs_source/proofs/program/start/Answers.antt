@@ -17,4 +17,4 @@ returns-clause-device c = λ is.
     may_begin base limit c.args.size
     (λ bad. only.0 (c.in-Err.ensures.bad_base.1 bad))
     (λ bad. only.1 (c.in-Err.ensures.bad_limit.1 bad))
-    (λ bad. only.2 (c.in-Err.ensures.too_small.1 (subst (λ (n : ℕ). IsTrue (is_base base) × IsLimit limit × (blocks_of_disk n < 16)) (sym c.in-Ok.ensures.size) bad)))
+    (λ bad. only.2 (c.in-Err.ensures.too_small.1 (subst (λ (n : ℕ). IsTrue (is_base base) × IsLimit limit × (blocks_of_disk n < 16)) (sym c.in_ok-disk.ensures.size) bad)))

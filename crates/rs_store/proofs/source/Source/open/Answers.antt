@@ -14,7 +14,7 @@ returns-in-Ok-clause-opened g c =
       is_open = refl;
       slots = λ honest. (is.found honest).slots;
       holds = λ honest. (
-        holds_told device disk slots lists seen (is.found honest).ready is.resting (is.found honest).told,
-        stands_told device disk slots lists seen is.resting (is.found honest).slots (is.found honest).told,
+        holds_told device disk slots lists seen (is.found honest).ready is.resting (is.found honest).tells,
+        stands_told device disk slots lists seen is.resting (is.found honest).slots (is.found honest).tells,
       );
     }

@@ -1,14 +1,20 @@
-use Rattle.std.proofs.Common.{◌≡◌, ◌<◌, ◌+◌, [], ◌∷◌, ◌++◌, List, ℕ, take, length, Bool, true, cond, vec_len, sym, ◌∙◌, ap, subst, arith}
+use Rattle.std.proofs.Common.{◌≡◌, ◌<◌, ◌+◌, [], ◌∷◌, ◌++◌, List, ℕ, take, length, Bool, true, cond, vec_len, refl, sym, ◌∙◌, ap, subst, arith, IsTrue, IsErrOf}
 use Rattle.std.specs.Prelude.{is_ok}
+use Rattle.std.specs.List.{AllZip}
 use Rattle.std.specs.Vec.{vec_capacity}
 use Rattle.std.proofs.lemmas.List.{take_more, take_all}
 use Rattle.rs_model.specs.declared.command.Command.{Command}
 use Rattle.rs_store.specs.declared.running.Ack.{Ack}
+use Rattle.rs_store.specs.Source.{Stored}
+use Rattle.rs_store.specs.declared.refusal.Refusal.TheVariants.{Closed}
 use Rattle.rs_store.specs.Runs.{InTurn}
-use Rattle.rs_store.proofs.Turns.{idle_at, in_turn_push}
+use Rattle.rs_store.proofs.Turns.{idle_at, in_turn_push, none_device, zip_push}
 use Rattle.rs_store.proofs.Moments.{holds_all}
 use Rattle.rs_store.proofs.Answering.{are_answered, each_moment}
 use Rattle.rs_store.proofs.source.Source.run.Goals as goal
+
+abbrev IsClosedTo : Command × ℕ → Ack → Type 0
+IsClosedTo command a = IsErrOf a.reply Closed
 
 pub loop-command-preserved : goal.loop-command-preserved
 loop-command-preserved g c =
@@ -29,6 +35,15 @@ loop-command-preserved g c =
     record {
       turn = subst (λ (answers : List Ack). InTurn g.D.Disk.state c.args.self.now (take (i + 1) commands) answers new) (sym items)
           (subst (λ (cs : List (Command × ℕ)). InTurn g.D.Disk.state c.args.self.now cs (acks ++ ack ∷ []) new) these more);
+      closed = λ shut.
+          let before = c.loop-command.invariant.closed shut in
+          let still : IsTrue c.loop-command.self.is_closed = ap (λ (x : Stored g.row.D.Denot). x.is_closed) before.0 ∙ shut in
+          let met = c.command-reply.ensures.closed still in
+          let answers = zip_push IsClosedTo (take i commands) acks item ack before.1 met.0 in (
+            met.1 ∙ before.0,
+            subst (λ (l : List Ack). AllZip IsClosedTo (take (i + 1) commands) l) (sym items)
+                (subst (λ (cs : List (Command × ℕ)). AllZip IsClosedTo cs (acks ++ ack ∷ [])) these answers),
+          );
       room = omega (arith, c.loop-command.invariant.room, c.push.ensures.capacity);
       many = omega (arith, many, c.loop-command.invariant.many);
     }
@@ -37,6 +52,18 @@ pub returns-clause-in_turn : goal.returns-clause-in_turn
 returns-clause-in_turn g c =
     subst (λ (cs : List (Command × ℕ)). InTurn g.D.Disk.state c.args.self.now cs c.loop-command.acks.items c.loop-command.self)
     (take_all c.loop-command.command-index c.args.commands.now c.loop-command-test.false) c.loop-command.invariant.turn
+
+pub returns-clause-closed : goal.returns-clause-closed
+returns-clause-closed g c = λ shut.
+    let at_end = c.loop-command.invariant.closed shut in (
+      at_end.0,
+      subst (λ (cs : List (Command × ℕ)). AllZip IsClosedTo cs c.loop-command.acks.items)
+          (take_all c.loop-command.command-index c.args.commands.now c.loop-command-test.false) at_end.1,
+    )
+
+pub returns-clause-closes : goal.returns-clause-closes
+returns-clause-closes g c = λ is_open.
+    none_device g.D.Disk.state c.args.self.now c.args.commands.now c.loop-command.acks.items c.loop-command.self (returns-clause-in_turn g c) is_open
 
 pub returns-clause-any_moment : goal.returns-clause-any_moment
 returns-clause-any_moment g c = λ s holds.
@@ -54,6 +81,7 @@ pub loop-command-init : goal.loop-command-init
 loop-command-init g c = record {
   turn = subst (λ (answers : List Ack). InTurn g.D.Disk.state c.args.self.now [] answers c.args.self.now) (sym c.in_ok-acks.ensures.items)
       (idle_at g.D.Disk.state g.met.D.Disk.holds c.args.self.now);
+  closed = λ shut. (refl, subst (λ (answers : List Ack). AllZip IsClosedTo [] answers) (sym c.in_ok-acks.ensures.items) tt);
   room = omega (arith, c.in_ok-acks.ensures.capacity);
   many = c.in_ok-acks.ensures.len;
 }

@@ -1,0 +1,56 @@
+-- What a script has answered when the disk stops within it.
+use Rattle.std.specs.Prelude.{◌≡◌, ◌≤◌, ℕ, nat_le, if◌then◌else◌, List, [], ◌∷◌, ◌++◌, length, flat_map}
+use Rattle.rs_disk.specs.Medium.{DiskState}
+use Rattle.rs_disk.specs.Leaves.{Leaves}
+use Rattle.rs_model.specs.State.{Source}
+use Rattle.rs_model.specs.declared.command.Command.{Command}
+use Rattle.rs_model.specs.declared.command.Reply.{Reply}
+use Rattle.rs_store.specs.declared.running.Ack.{Ack}
+use Rattle.rs_store.specs.Source.{Stored, Holds}
+use Rattle.rs_store.specs.Runs.{Holding, AreAnswered, StandsForPrefix}
+use Rattle.rs_recovery.specs.Replies.{reply_in, replies_in, HasReplied}
+use Rattle.rs_script.specs.Session.{LineOutcome, replied}
+use Rattle.rs_script.specs.Told.{line_reply}
+
+-- the replies to the commands that were accepted and acknowledged at a count of m calls, in their order
+abbrev pub replies_by : ℕ → List Ack → List Reply
+replies_by m [] = []
+replies_by m (a ∷ acks) = (if nat_le a.at_call m then reply_in a.reply else []) ++ replies_by m acks
+
+-- the first of these outcomes is a reply, or there is no outcome
+abbrev pub BeginsWithReply : List LineOutcome → Type 0
+BeginsWithReply [] = Unit {0}
+BeginsWithReply (outcome ∷ outcomes) = (reply : Reply) × (outcome ≡ replied reply)
+
+-- The disk of a script stopped after m calls and left this image. Its commands were answered so, and its statements have these
+-- outcomes.
+-- `first`, `later`, `next`: the outcomes before the first reply that was not acknowledged then, and all from that one on. The answers
+-- to the first ones are all that may have been written by then. (That a script writes an answer behind the calls of its statement is
+-- tested: no clause orders the calls of two ends.)
+-- `by_then`: the replies in these answers are exactly those that were acknowledged then.
+-- `kept`, `each_kept`: the image represents what the first commands that count make, and each command with a reply in these answers
+-- is one of them.
+pub record IsParted (s : Source) (commands : List (Command × ℕ)) (acks : List Ack) (outcomes : List LineOutcome) (m : ℕ) (image : List ℕ) : Type 0 where
+  pub first : List LineOutcome
+  pub later : List LineOutcome
+  pub outcomes_are : outcomes ≡ first ++ later
+  pub next : BeginsWithReply later
+  pub by_then : flat_map line_reply first ≡ replies_by m acks
+  pub kept : StandsForPrefix s commands acks m image
+  pub each_kept : length (flat_map line_reply first) ≤ kept.j
+
+-- A script whose source held a state had these outcomes.
+-- `answered`, `replies`: its disk saw commands answered from that state on, and the replies in the outcomes are those to the accepted
+-- ones.
+-- `stops`: each stop meanwhile parts the outcomes.
+pub record LeavesParts {D : Type 0} (device : D → DiskState) (old : Stored D) (s : Source) (outcomes : List LineOutcome) (new : Stored D) : Type 0 where
+  pub commands : List (Command × ℕ)
+  pub acks : List Ack
+  pub answered : AreAnswered (device old.disk) (Holding s) commands acks (device new.disk)
+  pub replies : replies_in acks ≡ flat_map line_reply outcomes
+  pub stops : Leaves (device old.disk) (device new.disk) (IsParted s commands acks outcomes)
+
+-- A stop parts the outcomes of each script that tells replies.
+abbrev pub ScriptsPart : {D : Type 0} → (D → DiskState) → Type 0
+ScriptsPart {D} device = (old new : Stored D) (outcomes : List LineOutcome) (s : Source)
+    → HasReplied device old (flat_map line_reply outcomes) new → Holds device old s → LeavesParts device old s outcomes new
