@@ -1,11 +1,13 @@
 """Reads a file of specs (*.antt): what it brings in, and its definitions with the comments above them.
 
 It knows how the files are laid out, and no more of the language: a definition begins at the left edge (or a step in for
-each `module _` around it), and goes on with its indented lines and with its equations, which begin with its name or with a pattern.
+each `module _` around it), and goes on with its indented lines and with its equations, which begin with its name or
+with a pattern.
 """
 
 import re
 from dataclasses import dataclass, field
+from typing import NamedTuple
 
 USE = re.compile(r"(?:unfoldable )?(pub )?use ([\w.]+?)(?:\.\{(.*)\}| as (\w+))?$")
 HEAD = re.compile(r"(?:(?:abbrev|unfoldable|opaque|pub|record|data) )+(\S+)")
@@ -17,8 +19,7 @@ CONSTRUCTOR = re.compile(r"  (\w+) :")
 LAYOUT = ("mod ", "pub mod ")
 
 
-@dataclass(frozen=True)
-class Name:
+class Name(NamedTuple):
     """A name that a file brings in: the module that has it, and its name there."""
 
     module: str
@@ -51,9 +52,14 @@ class Definition:
         return f"{self.crate}.{self.module.split('.', 3)[3]}.{self.name}"
 
     @property
+    def title(self) -> str:
+        """Its name, and which field of it stands here alone."""
+        return self.name + (f", its field {self.part} alone" if self.part else "")
+
+    @property
     def code(self) -> list[str]:
         """Its lines without comments."""
-        return [it for it in self.lines if not it.lstrip().startswith("--")]
+        return [line for line in self.lines if not line.lstrip().startswith("--")]
 
 
 @dataclass
@@ -84,8 +90,9 @@ def brought_by(line: str) -> tuple[dict[str, Name], dict[str, str], bool]:
 
 
 def kind_of(words: list[str]) -> str:
-    """What a definition is by the words before its name. One that is public and no more is a statement with its proof."""
-    return next((word for word in ("record", "data") if word in words), "proof" if words in (["pub"], []) else "function")
+    """What a definition is by the words before its name. One that is public only is a statement with its proof."""
+    otherwise = "proof" if words in (["pub"], []) else "function"
+    return next((word for word in ("record", "data") if word in words), otherwise)
 
 
 class Reading:
@@ -134,7 +141,8 @@ class Reading:
         head = HEAD.match(line) or STATEMENT.match(line)
         if head:
             kind = kind_of(line[: head.start(1)].split())
-            self.current = Definition(self.specs.module, head[1], kind, self.path, number, self.comment, [line], " ".join(self.sections))
+            self.current = Definition(self.specs.module, head[1], kind, self.path, number, self.comment, [line],
+                                      " ".join(self.sections))
             self.specs.definitions[head[1]] = self.current
         else:
             self.go_on([*self.comment, line])

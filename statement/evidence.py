@@ -1,26 +1,36 @@
 """What each definition was held against: the table evidence.txt, and whether what it points at is there.
 
-A line has the definitions of one file of specs, a kind, and where it is: `rs_model.Step: fold_of step | python | tests/reading/x.py: f`.
+A line has the definitions of one file of specs, a kind, and where it is, as in
+`rs_model.Step: fold_of step | python | tests/reading/x.py: f`.
 """
 
 import ast
 import re
+from collections.abc import Iterable
 from dataclasses import dataclass
+from pathlib import Path
+from typing import TYPE_CHECKING
 
 import tables
+from antt import Definition
 from reach import closure
-from world import Unknown
+from world import Item, Unknown, World
+
+if TYPE_CHECKING:
+    from promises import Promise
 
 # The kinds, and where each may point.
 KINDS = {
     "example": ("computed from the definition alone, and proved", r"crates/\w+/(proofs|specs|src/laws).*\.(antt|rt)$"),
-    "law": ("a proved law: the definition in other words, what it is for, or that it leaves no other value", r"crates/\w+/src/.*\.rt$"),
+    "law": ("a proved law: the definition in other words, what it is for, or that it leaves no other value",
+            r"crates/\w+/src/.*\.rt$"),
     "python": (
         "the same, said apart in Python, and compared with what the proved program answers or writes",
         r"(tests|operations|bench)/(\w+/)*\w+\.py$",
     ),
     "row": ("a worked row, which the proved program answers byte for byte", r"tests/rows/\w+$"),
-    "test": ("values from outside, in a test of the code that is proved equal to the definition", r"crates/\w+_tests/src/\w+\.rt$"),
+    "test": ("values from outside, in a test of the code that is proved equal to the definition",
+             r"crates/\w+_tests/src/\w+\.rt$"),
 }
 
 
@@ -33,27 +43,24 @@ class Evidence:
     name: str
 
     @property
-    def label(self):
+    def label(self) -> str:
+        """Its kind, its file and its name."""
         return f"{self.kind}: {self.path}" + (f", {self.name}" if self.name else "")
 
 
-class Wrong(Exception):
-    """A line of the table that is none."""
-
-
-def parsed(line):
+def parsed(line: str) -> tuple[list[str], Evidence]:
     """The definitions of a line, by their labels, and the evidence of each."""
-    parts = [it.strip() for it in line.split(" | ")]
+    parts = [part.strip() for part in line.split(" | ")]
     if len(parts) != 3 or parts[1] not in KINDS:
-        raise Wrong(f"statement/evidence.txt: not a line of the table: {line}")
+        raise tables.Wrong(f"statement/evidence.txt: not a line of the table: {line}")
     specs, _, names = parts[0].partition(": ")
     path, _, name = parts[2].partition(": ")
-    return [f"{specs}.{it}" for it in names.split()], Evidence(parts[1], path, name)
+    return [f"{specs}.{name}" for name in names.split()], Evidence(parts[1], path, name)
 
 
-def evidence(text=None):
+def evidence(text: str | None = None) -> dict[str, list[Evidence]]:
     """The evidence of each definition, by its label."""
-    found = {}
+    found: dict[str, list[Evidence]] = {}
     for line in tables.rows("evidence.txt", text):
         labels, piece = parsed(line)
         for label in labels:
@@ -61,20 +68,20 @@ def evidence(text=None):
     return found
 
 
-def names_in_python(text):
-    """The functions and the classes of a file of Python, its methods by `Class.method`, and what it assigns at its left edge."""
-    found = set()
+def names_in_python(text: str) -> set[str]:
+    """The functions and classes of a file of Python, its methods by `Class.method`, and what its left edge assigns."""
+    found = set[str]()
     for node in ast.parse(text).body:
         if isinstance(node, (ast.FunctionDef, ast.ClassDef)):
             found.add(node.name)
         if isinstance(node, ast.ClassDef):
-            found |= {f"{node.name}.{it.name}" for it in node.body if isinstance(it, ast.FunctionDef)}
+            found |= {f"{node.name}.{part.name}" for part in node.body if isinstance(part, ast.FunctionDef)}
         if isinstance(node, ast.Assign):
-            found |= {it.id for target in node.targets for it in ast.walk(target) if isinstance(it, ast.Name)}
+            found |= {part.id for target in node.targets for part in ast.walk(target) if isinstance(part, ast.Name)}
     return found
 
 
-def names_in(path, text):
+def names_in(path: str, text: str) -> set[str]:
     """The names that a file defines."""
     if path.endswith(".py"):
         return names_in_python(text)
@@ -83,7 +90,7 @@ def names_in(path, text):
     return set(re.findall(r"^[ ]*(?:(?:abbrev|unfoldable|pub|record|data) )*([^\s({:]+)[^=\n]* :", text, re.M))
 
 
-def fault_of(root, piece):
+def fault_of(root: Path, piece: Evidence) -> str:
     """What is wrong with a pointer, or nothing."""
     if not re.match(KINDS[piece.kind][1], piece.path):
         return f"{piece.path} is no place for the kind '{piece.kind}'"
@@ -95,41 +102,43 @@ def fault_of(root, piece):
     return "" if piece.name in names_in(piece.path, path.read_text()) else f"{piece.path} has no {piece.name}"
 
 
-def bare(definitions, found):
+def bare(definitions: Iterable[Definition], found: dict[str, list[Evidence]]) -> list[Definition]:
     """The definitions without evidence. A statement that stands there with its proof needs none."""
-    return [it for it in definitions if it.label not in found and it.kind != "proof"]
+    return [definition for definition in definitions if definition.label not in found and definition.kind != "proof"]
 
 
-def said_by(world, piece):
+def labels_of(world: World, piece: Evidence) -> set[str]:
     """The labels of all that a law or an example speaks of."""
     if piece.path.endswith(".rt"):
-        laws = [it for it in world.code[piece.path].functions if it.name == piece.name]
-        first = [used for it in laws for clause in it.clauses for used in world.uses_of_clause(it, clause)]
+        laws = [function for function in world.code[piece.path].functions if function.name == piece.name]
+        pairs = [(law, clause) for law in laws for clause in law.clauses]
+        first: list[Item] = [used for pair in pairs for used in world.uses_of_clause(*pair)]
     else:
         module = "Rattle." + piece.path.removeprefix("crates/").removesuffix(".antt").replace("/", ".")
         first = [world.target(module, piece.name)]
-    return {it.label for it in closure(world, first)}
+    return {item.label for item in closure(world, first)}
 
 
-def silent(world, found, pieces):
+def silent(world: World, found: dict[str, list[Evidence]], pieces: list[Evidence]) -> list[str]:
     """The laws and the examples that do not speak of a definition, though evidence.txt holds it against them."""
-    wrong = []
+    wrong = list[str]()
     for piece in pieces:
         if piece.kind in ("law", "example"):
-            said = said_by(world, piece)
-            wrong += [f"{piece.label} does not speak of {it}" for it, each in found.items() if piece in each and it not in said]
+            labels = labels_of(world, piece)
+            wrong += [f"{piece.label} does not speak of {label}" for label, each in found.items()
+                      if piece in each and label not in labels]
     return wrong
 
 
-def faults(world, promises, found):
-    """The pointers that lead nowhere, or to what says nothing of the definition, and the definitions that no promise reaches."""
-    known = {it.label for promise in promises for it in promise.reach.definitions}
+def faults(world: World, promises: Iterable["Promise"], found: dict[str, list[Evidence]]) -> list[str]:
+    """The pointers that lead nowhere or to what says nothing of a definition; definitions that no promise reaches."""
+    known = {definition.label for promise in promises for definition in promise.reach.definitions}
     pieces = list(dict.fromkeys(piece for each in found.values() for piece in each))
     wrong = list(filter(None, (fault_of(world.root, piece) for piece in pieces)))
-    wrong += [f"no promise reaches {it}" for it in sorted(found) if it not in known]
+    wrong += [f"no promise reaches {label}" for label in sorted(found) if label not in known]
     if not wrong:
         try:
             wrong = silent(world, found, pieces)
         except Unknown as fault:
             wrong = [str(fault)]
-    return [f"statement/evidence.txt: {it}" for it in wrong]
+    return [f"statement/evidence.txt: {fault}" for fault in wrong]

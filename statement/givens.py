@@ -1,19 +1,27 @@
 """The lines of promises.txt that say what gives a premise.
 
-A line is `premise: NAME from: CLAUSE, ..`, `premise: NAME trust: sentence` or `premise: NAME case: sentence`. NAME is a
-relation, a field of one (`AnswersCopy.holds`), or a condition as it is written, with `*` for any text; several stand with
-`;` between them. Who trusts a record names its fields, `IsStop {from to left}`, so that one more is noticed. A case is no
-assumption: the arguments and the answer tell whether it is there, and the clause speaks of it alone.
+A line is `premise: NAME from: CLAUSE, ..`, `premise: NAME law: CLAUSE, ..`, `premise: NAME trust: sentence` or
+`premise: NAME case: sentence`. NAME is a relation, a field of one (`AnswersCopy.holds`), or a condition as it is
+written, with `*` for any text; several stand with `;` between them. Who trusts a record names its fields,
+`IsStop {from to left}`, so that one more is noticed. A case is no assumption: the arguments and the answer tell whether
+it is there, and the clause speaks of it alone.
+
+A law concludes a relation from what that is made of. So its parts need what gives them too, and one part more is
+noticed twice: here, and by the proof of the law.
 """
 
 import re
+from collections.abc import Iterable
 from dataclasses import dataclass
 
 from antt import Definition
 from relations import Node
+from tables import Wrong
 from terms import Relation
 
-LINE = re.compile(r"(.+?) (from|trust|case): (.+)$")
+LINE = re.compile(r"(.+?) (from|law|trust|case): (.+)$")
+# The kinds by which clauses conclude a premise.
+CONCLUDED = ("from", "law")
 FIELDS = re.compile(r"(.+?) \{(.*)\}$")
 
 
@@ -23,31 +31,28 @@ class Line:
 
     names: dict[str, list[str] | None]
     kind: str
-    said: str
+    text: str
 
     @property
     def clauses(self) -> list[str]:
         """The clauses that conclude them."""
-        return [it.strip() for it in self.said.split(",")] if self.kind == "from" else []
+        return [clause.strip() for clause in self.text.split(",")] if self.kind in CONCLUDED else []
 
-    def named(self, node: Node, definition: Definition | None) -> str:
+    def name_for(self, node: Node, definition: Definition | None) -> str:
         """The name by which the line speaks of a premise, or ''."""
         for name in (node.name, definition.name if definition else ""):
             if name and name in self.names:
                 return name
         text = node.term.text if isinstance(node.term, Relation) and not definition else ""
-        return next((it for it in self.names if text and re.fullmatch(re.escape(it).replace(r"\*", ".*"), text)), "")
+        patterns = {name: re.escape(name).replace(r"\*", ".*") for name in self.names if text}
+        return next((name for name, pattern in patterns.items() if re.fullmatch(pattern, text)), "")
 
 
-class BadLine(ValueError):
-    """A line that is none."""
-
-
-def parsed(said: str) -> Line:
+def parsed(text: str) -> Line:
     """A line, behind `premise: `."""
-    found = LINE.match(said)
+    found = LINE.match(text)
     if not found:
-        raise BadLine(f"statement/promises.txt: not a premise with from, trust or case: {said}")
+        raise Wrong(f"statement/promises.txt: not a premise with from, law, trust or case: {text}")
     names: dict[str, list[str] | None] = {}
     for name in found[1].split(";"):
         fields = FIELDS.match(name.strip())
@@ -56,15 +61,15 @@ def parsed(said: str) -> Line:
 
 
 # How each kind gives a premise, in words.
-WORDS = {"from": "concluded by", "trust": "trusted:", "case": "a case:"}
+WORDS = {"from": "concluded by", "law": "concluded by the law", "trust": "trusted:", "case": "a case:"}
 
 
-def in_order(spoken: dict[Line, dict[str, Node]]) -> list[tuple[Line, list[str]]]:
-    """The lines that speak of premises, with their names: what a clause concludes, then what is trusted, then cases."""
-    return [(line, list(names)) for kind in WORDS for line, names in spoken.items() if line.kind == kind]
+def sentences(spoken: dict[Line, dict[str, Node]]) -> list[str]:
+    """What gives the premises that lines speak of: what a clause concludes, then what is trusted, then cases."""
+    return [sentence(line, names) for kind in WORDS for line, names in spoken.items() if line.kind == kind]
 
 
-def told(line: Line, names: list[str]) -> str:
+def sentence(line: Line, names: Iterable[str]) -> str:
     """What gives these premises of a line."""
-    named = [f"{it} {{{' '.join(line.names[it] or [])}}}" if line.names[it] else it for it in names]
-    return f"{'; '.join(named)}: {WORDS[line.kind]} {line.said}"
+    fields = {name: f" {{{' '.join(listed)}}}" for name, listed in line.names.items() if listed}
+    return f"{'; '.join(name + fields.get(name, '') for name in names)}: {WORDS[line.kind]} {line.text}"

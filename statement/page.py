@@ -1,20 +1,20 @@
 """The statement as one page of HTML, self-contained, in which each word leads to what it means.
 
-A promise has its sentence, its clauses and the names of all that it reaches, in the order of reach.py; each definition stands once,
-in the chapter of its crate, behind the promises.
+A promise has its sentence, its clauses and the names of all that it reaches, in the order of reach.py; each definition
+stands once, in the chapter of its crate, behind the promises.
 """
 
 import html
 import re
+from collections.abc import Iterable, Mapping
 
-import givens
 import tables
 from antt import Definition
-from evidence import KINDS
+from evidence import KINDS, Evidence
 from promises import Promise
-from shown import counted, declared, meaning, told
+from shown import counted, declared, meaning, summary
 from source import Type
-from world import unique
+from world import Item, Links, World, unique
 
 STYLE = """
 body { margin: 0 auto; max-width: 64rem; padding: 1rem; font: 1rem/1.5 serif; color: #222; background: #fff; }
@@ -29,42 +29,45 @@ h2 { margin-top: 3rem; border-bottom: 1px solid #ccc; } h4 { margin: 1.4rem 0 .2
 PIECE = re.compile(r"[^\s(){}\[\];,]+|\[\]")
 
 
-def anchor(item):
+def anchor(item: Item | Promise) -> str:
     """The name of the place where an item stands."""
     if isinstance(item, Promise):
         return "promise-" + re.sub(r"\W+", "-", item.title)
     front = "" if isinstance(item, (Definition, Type)) else "kit-"
     part = f".{item.part}" if isinstance(item, Definition) and item.part else ""
-    return front + "".join(it if it.isalnum() or it in "._:" else f"-{ord(it):x}" for it in item.label) + part
+    letters = [each if each.isalnum() or each in "._:" else f"-{ord(each):x}" for each in item.label]
+    return front + "".join(letters) + part
 
 
-def linked(word, item):
+def linked(word: str, item: Item | Promise) -> str:
+    """A word that leads to what it means."""
     return f'<a href="#{anchor(item)}">{html.escape(word)}</a>'
 
 
-def operators(links):
+def operators(links: Links) -> Links:
     """The links by the parts of operators too."""
-    parts = {part: it for it in links.values() for part in it.name.split("◌") if "◌" in it.name and part}
+    parts = {part: item for item in links.values() for part in item.name.split("◌") if "◌" in item.name and part}
     return {**parts, **links}
 
 
-def line_of(line, links):
+def line_of(line: str, links: Links) -> str:
     """A line in which each word leads to what it means; a field that is given its value does not."""
     if line.lstrip().startswith(("--", "//")):
         return f'<span class="c">{html.escape(line)}</span>'
-    found, at = [], 0
-    for it in PIECE.finditer(line):
-        found.append(html.escape(line[at : it.start()]))
-        found.append(piece_of(line, it, links))
-        at = it.end()
+    found, at = list[str](), 0
+    for piece in PIECE.finditer(line):
+        found.append(html.escape(line[at : piece.start()]))
+        found.append(piece_of(line, piece, links))
+        at = piece.end()
     return "".join([*found, html.escape(line[at:])])
 
 
-def piece_of(line, it, links):
-    word, steps = it[0], it[0].split(".")
-    before = line[: it.start()].rstrip()
+def piece_of(line: str, piece: re.Match[str], links: Links) -> str:
+    """A piece of a line, which leads to what it means."""
+    word, steps = piece[0], piece[0].split(".")
+    before = line[: piece.start()].rstrip()
     # At the left edge an equation of the definition itself begins.
-    if it.start() and line[it.end() :].startswith(" = ") and before[-1:] in ("", "{", ";"):
+    if piece.start() and line[piece.end() :].startswith(" = ") and before[-1:] in ("", "{", ";"):
         return html.escape(word)
     for head in (".".join(steps[:2]), steps[0], steps[0].rstrip(":")):
         if head and head in links:
@@ -75,85 +78,103 @@ def piece_of(line, it, links):
 class Page:
     """The page, as pieces of HTML."""
 
-    def __init__(self, world, evidence, meanings):
-        self.world, self.evidence, self.meanings, self.pieces = world, evidence, meanings, []
+    def __init__(self, world: World, evidence: dict[str, list[Evidence]], meanings: Mapping[str, str]) -> None:
+        self.world, self.evidence, self.meanings, self.pieces = world, evidence, meanings, list[str]()
 
-    def say(self, *pieces):
+    def say(self, *pieces: str) -> None:
+        """Adds pieces of HTML."""
         self.pieces += pieces
 
-    def code(self, lines, links):
+    def code(self, lines: Iterable[str], links: Links) -> None:
+        """Lines of a definition, or of code."""
         known = operators(links)
-        self.say("<pre>" + "\n".join(line_of(it, known) for it in lines) + "</pre>")
+        self.say("<pre>" + "\n".join(line_of(line, known) for line in lines) + "</pre>")
 
-    def head(self, promises):
-        self.say("<h1>What has to be believed</h1><p>Of each promise: its sentence, the clauses that carry it, and all that these reach, in a")
-        self.say("reader's order: the highest crate first, and in a crate each definition behind the first one that uses it. Each word")
-        self.say("leads to what it means.</p><ul>", *(f"<li>{linked(it.title, it)}: {told(it.reach.counts)}</li>" for it in promises))
+    def head(self, promises: list[Promise]) -> None:
+        """What the page is, and how to read it."""
+        self.say("<h1>What has to be believed</h1><p>Of each promise: its sentence, the clauses that carry it, and all"
+                 " that these reach, in a")
+        self.say("reader's order: the highest crate first, and in a crate each definition behind the first one that"
+                 " uses it. Each word")
+        self.say("leads to what it means.</p><ul>")
+        self.say(*(f"<li>{linked(each.title, each)}: {summary(each.reach.counts)}</li>" for each in promises))
         self.say("</ul><p>What a definition was held against stands below it:</p><ul>")
-        self.say(*(f"<li>{kind}: {said}</li>" for kind, (said, _) in KINDS.items()), "</ul>")
+        self.say(*(f"<li>{kind}: {meaning}</li>" for kind, (meaning, _) in KINDS.items()), "</ul>")
 
-    def promise(self, it):
-        self.say(f'<h2 id="{anchor(it)}">{html.escape(it.title)}</h2><blockquote>{html.escape(it.sentence)}</blockquote>')
-        self.say(f'<p class="at">{it.fields["in"]}; in the table of README.md: {it.fields["row"]}</p>')
-        for each in it.carriers:
-            place = f"{each.function.path}:{each.function.line}"
-            self.say(f'<p>Carried by <code>{html.escape(each.function.label)}</code> <span class="at">{place}</span></p>')
-            for clause in each.clauses:
+    def promise(self, promise: Promise) -> None:
+        """A promise, and the names of all that it reaches."""
+        quoted = f"<blockquote>{html.escape(promise.sentence)}</blockquote>"
+        self.say(f'<h2 id="{anchor(promise)}">{html.escape(promise.title)}</h2>{quoted}')
+        self.say(f'<p class="at">{promise.fields["in"]}; in the table of docs/PROMISES.md: {promise.fields["row"]}</p>')
+        for each in promise.carriers:
+            place = f'<span class="at">{each.function.path}:{each.function.line}</span>'
+            self.say(f"<p>Carried by <code>{html.escape(each.function.label)}</code> {place}</p>")
+            for clause in {tuple(clause.lines): clause for clause in each.clauses}.values():
                 self.code(clause.lines, self.world.links_of_clause(each.function, clause))
-        self.premises(it)
-        for chapter in it.reach.chapters:
-            names = ", ".join(linked(each.name, each) for each in [*chapter.definitions, *chapter.types])
+        self.premises(promise)
+        for chapter in promise.reach.chapters:
+            items: list[Definition | Type] = [*chapter.definitions, *chapter.types]
+            names = ", ".join(linked(each.name, each) for each in items)
             self.say(f"<p><b>{chapter.crate}</b> ({counted(len(chapter.definitions), 'definition')}): {names}</p>")
-        self.say(f"<p><b>the kit</b>: {', '.join(linked(each.name, each) for each in it.reach.kit)}</p>")
+        self.say(f"<p><b>the kit</b>: {', '.join(linked(each.name, each) for each in promise.reach.kit)}</p>")
 
-    def premises(self, it):
+    def premises(self, promise: Promise) -> None:
         """The premises of a promise, with what gives each."""
-        spoken = givens.in_order(it.chain.spoken) if it.chain else []
-        self.say("<p>Its premises, and what gives each:</p><ul>" if spoken else "<p>It has no premise.</p><ul>")
-        self.say(*(f"<li>{html.escape(givens.told(line, names))}</li>" for line, names in spoken), "</ul>")
+        grounds = promise.grounds
+        self.say("<p>Its premises, and what gives each:</p><ul>" if grounds else "<p>It has no premise.</p><ul>")
+        self.say(*(f"<li>{html.escape(sentence)}</li>" for sentence in grounds), "</ul>")
 
-    def definition(self, it):
-        part = f", its field {it.part} alone" if it.part else ""
-        self.say(f'<h4 id="{anchor(it)}">{html.escape(it.name + part)} <span class="at">{it.path}:{it.line}</span></h4>')
-        self.code([*it.comment, *it.lines], self.world.links(it))
-        pieces = [html.escape(each.label) for each in self.evidence.get(it.label, [])]
-        self.say(f'<div class="evidence">{"<br>".join(pieces) or "<span class=bare>no evidence of its own</span>"}</div>')
+    def title(self, item: Item, title: str, place: str) -> None:
+        """The title of a definition or a type, and where that stands."""
+        self.say(f'<h4 id="{anchor(item)}">{html.escape(title)} <span class="at">{place}</span></h4>')
 
-    def type(self, it):
-        place = f"{it.kind} of the code, {it.path}:{it.line}"
-        self.say(f'<h4 id="{anchor(it)}">{html.escape(it.name)} <span class="at">{place}</span></h4>')
-        self.say(f"<p>{html.escape(meaning(it))}</p>")
-        self.code(declared(it), self.world.links(it))
+    def definition(self, definition: Definition) -> None:
+        """A definition, and what it was held against."""
+        self.title(definition, definition.title, f"{definition.path}:{definition.line}")
+        self.code([*definition.comment, *definition.lines], self.world.links(definition))
+        pieces = [html.escape(each.label) for each in self.evidence.get(definition.label, [])]
+        shown = "<br>".join(pieces) or "<span class=bare>no evidence of its own</span>"
+        self.say(f'<div class="evidence">{shown}</div>')
 
-    def crates(self, promises):
+    def type(self, kind: Type) -> None:
+        """A type of the code."""
+        self.title(kind, kind.name, f"{kind.kind} of the code, {kind.path}:{kind.line}")
+        self.say(f"<p>{html.escape(meaning(kind))}</p>")
+        self.code(declared(kind), self.world.links(kind))
+
+    def crates(self, promises: list[Promise]) -> None:
         """Each definition and each type that a promise reaches, once, in the order of the first promise that has it."""
         chapters = [chapter for promise in promises for chapter in promise.reach.chapters]
         for crate in reversed(self.world.crates):
-            mine = [it for it in chapters if it.crate == crate]
+            mine = [chapter for chapter in chapters if chapter.crate == crate]
             if mine:
                 self.say(f'<h2 id="{crate}">{crate}</h2>')
-            for it in unique(each for chapter in mine for each in chapter.definitions):
-                self.definition(it)
-            for it in unique(each for chapter in mine for each in chapter.types):
-                self.type(it)
+            for definition in unique(each for chapter in mine for each in chapter.definitions):
+                self.definition(definition)
+            for kind in unique(each for chapter in mine for each in chapter.types):
+                self.type(kind)
 
-    def words(self, promises):
+    def words(self, promises: list[Promise]) -> None:
+        """The words of the kit and of the language."""
         self.say("<h2>The kit</h2><ul>")
-        for it in unique(each for promise in promises for each in promise.reach.kit):
-            self.say(f'<li id="{anchor(it)}"><b>{html.escape(it.name)}</b> ({it.crate}): {html.escape(self.meanings[it.label])}</li>')
+        for kit_word in unique(each for promise in promises for each in promise.reach.kit):
+            meaning = html.escape(self.meanings[kit_word.label])
+            name = html.escape(kit_word.name)
+            self.say(f'<li id="{anchor(kit_word)}"><b>{name}</b> ({kit_word.crate}): {meaning}</li>')
         self.say("</ul><h2>The language</h2><ul>")
-        for word, said in self.meanings.items():
+        for word, meaning in self.meanings.items():
             if word.startswith(tables.LANGUAGE):
-                self.say(f"<li><b>{word.removeprefix(tables.LANGUAGE)}</b>: {html.escape(said)}</li>")
+                self.say(f"<li><b>{word.removeprefix(tables.LANGUAGE)}</b>: {html.escape(meaning)}</li>")
         self.say("</ul>")
 
 
-def page(world, promises, evidence, meanings):
+def page(world: World, promises: list[Promise], evidence: dict[str, list[Evidence]],
+         meanings: Mapping[str, str]) -> str:
     """The page of all promises."""
     made = Page(world, evidence, meanings)
     made.head(promises)
-    for it in promises:
-        made.promise(it)
+    for promise in promises:
+        made.promise(promise)
     made.crates(promises)
     made.words(promises)
     body = "\n".join(made.pieces)

@@ -1,4 +1,4 @@
-"""What a promise takes for granted, and what gives it: a clause of the promise concludes each premise, or it is trusted.
+"""What a promise takes for granted, and what gives it: a clause of the promise concludes a premise, or it is trusted.
 
 A premise stands left of an arrow in a clause of the promise, or in what it ends in (`Reader.left_of`). It is taken
 apart until a line of promises.txt speaks of it: a relation into the relations of its cases, a record into its fields.
@@ -12,7 +12,7 @@ from dataclasses import dataclass
 
 from antt import Definition
 from evidence import Evidence
-from givens import Line
+from givens import CONCLUDED, Line
 from promises import Promise
 from relations import Node, Reader, cases, is_of_values, is_type
 from source import Clause, Function
@@ -21,7 +21,7 @@ from world import World
 
 
 @dataclass
-class Said:
+class Printed:
     """A printed clause: its name, `rs_store Source::run answered`, its types, and what they end in."""
 
     name: str
@@ -40,23 +40,23 @@ def name_of(function: Function, clause: Clause) -> str:
     return f"{function.crate} {owner}{function.name} {part}".rstrip()
 
 
-def clauses_of(reader: Reader, promise: Promise) -> list[Said]:
+def clauses_of(reader: Reader, promise: Promise) -> list[Printed]:
     """The printed clauses of a promise that say what a function ensures."""
     pairs = [(carrier.function, clause) for carrier in promise.carriers for clause in carrier.clauses]
-    said = [(name_of(*it), reader.clause(*it)) for it in pairs if it[1].kind == "ensures"]
-    return [Said(name, nodes, reader.ends(nodes)) for name, nodes in said]
+    types = [(name_of(*pair), reader.clause(*pair)) for pair in pairs if pair[1].kind == "ensures"]
+    return [Printed(name, nodes, reader.ends(nodes)) for name, nodes in types]
 
 
 class Chain:
     """The premises of a promise, with what gives each."""
 
-    def __init__(self, reader: Reader, title: str, clauses: list[Said], lines: list[Line]) -> None:
+    def __init__(self, reader: Reader, title: str, clauses: list[Printed], lines: list[Line]) -> None:
         self.reader, self.title, self.clauses, self.lines = reader, title, clauses, lines
         self.faults: list[str] = []
         # The premises that each line speaks of, by their names, in their order.
         self.spoken: dict[Line, dict[str, Node]] = {}
         # The relations that stand left of an arrow, and that no clause is said to conclude there.
-        self.left: dict[Definition, None] = {}
+        self.assumed: dict[Definition, None] = {}
         # The lines that the premises of each clause have, and the relations of it that were taken apart.
         self.needed: dict[str, dict[Line, None]] = {}
         self.opened: set[Definition] = set()
@@ -74,72 +74,77 @@ class Chain:
 
     def ungrounded(self) -> list[str]:
         """The clauses whose premises are given by one another alone, and by none that takes nothing from them."""
-        grounded: list[Said] = []
-        left = self.clauses
-        while left:
-            more = [it for it in left if all(self.is_given(line, grounded) for line in self.needed[it.name])]
+        grounded: list[Printed] = []
+        waiting = self.clauses
+        while waiting:
+            more = [clause for clause in waiting
+                    if all(self.is_given(line, grounded) for line in self.needed[clause.name])]
             if not more:
                 break
             grounded += more
-            left = [it for it in left if it not in more]
-        return [it.name for it in left]
+            waiting = [clause for clause in waiting if clause not in more]
+        return [clause.name for clause in waiting]
 
-    def is_given(self, line: Line, grounded: list[Said]) -> bool:
+    def is_given(self, line: Line, grounded: list[Printed]) -> bool:
         """Whether one of these clauses gives what a line speaks of, or it is trusted."""
-        return line.kind != "from" or any(it.is_called(name) for it in grounded for name in line.clauses)
+        return line.kind not in CONCLUDED or any(clause.is_called(name) for clause in grounded for name in line.clauses)
 
     def give(self, node: Node, needed: dict[Line, None]) -> None:
         """Finds what gives a premise, or what its parts are given by."""
         definition = self.reader.definition(node)
-        line = next((it for it in self.lines if it.named(node, definition)), None)
+        line = next((line for line in self.lines if line.name_for(node, definition)), None)
         if line:
             needed[line] = None
             self.speak(line, node, definition)
-        elif definition and definition not in self.opened:
+        if line and line.kind != "law":
+            return
+        if definition and definition not in self.opened:
             self.opened.add(definition)
             self.stand(definition)
             for each in [*self.reader.opened(definition), *self.reader.within(node)]:
                 self.give(each, needed)
-        elif self.reader.is_condition(node):
+        elif not line and self.reader.is_condition(node):
             self.fault(f"nothing gives the premise '{text_of(node)}' of {node.place}")
         else:
             for each in self.reader.parts(node):
                 self.give(each, needed)
 
     def stand(self, definition: Definition) -> None:
+        """Notes a relation that stands only left of an arrow."""
         if not is_of_values(definition):
-            self.left[definition] = None
+            self.assumed[definition] = None
 
-    def fault(self, said: str) -> None:
-        self.faults.append(f"{self.title}: {said}")
+    def fault(self, reason: str) -> None:
+        """Notes what is wrong with the premises of this promise."""
+        self.faults.append(f"{self.title}: {reason}")
 
     def speak(self, line: Line, node: Node, definition: Definition | None) -> None:
         """A line speaks of a premise: looks whether it may."""
-        name = line.named(node, definition)
+        name = line.name_for(node, definition)
         self.spoken.setdefault(line, {}).setdefault(name, node)
-        if line.kind == "from":
+        if line.kind in CONCLUDED:
             for clause in line.clauses:
                 self.conclude(name, clause, node)
             return
         beneath = self.reader.beneath([node])
-        for it in beneath:
-            if is_type(it):
-                self.stand(it)
+        for word in beneath:
+            if is_type(word):
+                self.stand(word)
         if definition and definition.kind == "record":
-            fields = [it for it, _ in cases(definition)]
+            fields = [field for field, _ in cases(definition)]
             if line.names[name] != fields:
                 self.fault(f"{name} is trusted by other fields than it has: {name} {{{' '.join(fields)}}}")
-        elif records := [it.name for it in beneath if it.kind == "record" and not is_of_values(it)]:
+        elif records := [word.name for word in beneath if word.kind == "record" and not is_of_values(word)]:
             self.fault(f"{name} is trusted without the fields of what it is made of: {' '.join(records)}")
 
     def conclude(self, name: str, clause: str, node: Node) -> None:
         """Looks whether a clause is printed, and has a premise on its right side."""
-        ends = {found for it in self.clauses if it.is_called(clause) for found in it.ends}
-        if not any(it.is_called(clause) for it in self.clauses):
+        ends = {found for printed in self.clauses if printed.is_called(clause) for found in printed.ends}
+        if not any(printed.is_called(clause) for printed in self.clauses):
             self.fault(f"{name} is said to come from {clause}, which the promise does not print")
             return
-        words = [it for each in self.reader.last(node) for it in self.reader.words_of(each)]
-        missing = [it.name for it in words if it not in ends]
+        words = [word for each in self.reader.last(node) for word in self.reader.words_of(each)]
+        missing = [word.name for word in words if word not in ends]
         if missing or not words:
             end = " and ".join(missing) or text_of(node)
             self.fault(f"{name} is said to come from {clause}, which does not end in {end}")
@@ -166,41 +171,38 @@ def unspoken(found: list[Chain]) -> list[str]:
         for line in chain.lines:
             spoken.setdefault(line, set()).update(chain.spoken.get(line, {}))
             titles.setdefault(line, set()).add(chain.title)
-    return [
-        f"{min(titles[line]) if len(titles[line]) == 1 else 'every promise'}: no premise is {name}"
-        for line, names in spoken.items()
-        for name in line.names
-        if name not in names
-    ]
+    places = {line: min(each) if len(each) == 1 else "every promise" for line, each in titles.items()}
+    return [f"{places[line]}: no premise is {name}" for line, names in spoken.items()
+            for name in line.names if name not in names]
 
 
 def shown_by(reader: Reader, pieces: dict[str, list[Evidence]]) -> set[Definition]:
     """The relations that a computed example has: it ends in them, and takes none of them."""
-    named: dict[Evidence, set[str]] = {}
+    labels_by_piece: dict[Evidence, set[str]] = {}
     for known, each in pieces.items():
         for piece in each:
             if piece.kind == "example":
-                named.setdefault(piece, set()).add(known)
+                labels_by_piece.setdefault(piece, set()).add(known)
     found: set[Definition] = set()
-    for piece, labels in named.items():
-        nodes = reader.said(piece.path, piece.name)
-        taken = {reader.definition(it) for node in nodes for it in reader.left_of(node)}
-        found |= {it for it in reader.shown(nodes) if it.label in labels and it not in taken}
+    for piece, labels in labels_by_piece.items():
+        nodes = reader.statement(piece.path, piece.name)
+        taken = {reader.definition(premise) for node in nodes for premise in reader.left_of(node)}
+        found |= {each for each in reader.shown(nodes) if each.label in labels and each not in taken}
     return found
 
 
 def uninhabited(reader: Reader, found: list[Chain], shown: set[Definition]) -> list[str]:
     """The relations that stand left of an arrow alone, and that no example has."""
-    known = shown | {it for chain in found for clause in chain.clauses for it in clause.ends}
-    left = {it: None for chain in found for it in chain.left}
-    return [it.label for it in left if it not in known and not any(each in known for each in reader.same_as(it))]
+    known = shown | {definition for chain in found for clause in chain.clauses for definition in clause.ends}
+    assumed = {definition: None for chain in found for definition in chain.assumed}
+    return [definition.label for definition in assumed if not known & {definition, *reader.same_as(definition)}]
 
 
 def faults(world: World, promises: list[Promise], pieces: dict[str, list[Evidence]]) -> list[str]:
-    """The premises that nothing gives, the lines that speak of none, and the relations that nothing is known to have."""
-    reader, found = Reader(world), [it.chain for it in promises]
-    wrong = [f"statement/promises.txt: {it}" for chain in found for it in chain.faults]
-    wrong += [f"statement/promises.txt: {it}" for it in unspoken(found)]
+    """The premises that nothing gives, the lines that speak of none, and the relations that no example has."""
+    reader, found = Reader(world), [promise.chain for promise in promises if promise.chain]
+    wrong = [f"statement/promises.txt: {fault}" for chain in found for fault in chain.faults]
+    wrong += [f"statement/promises.txt: {fault}" for fault in unspoken(found)]
     empty = uninhabited(reader, found, shown_by(reader, pieces))
-    wrong += [f"statement/evidence.txt: {it} stands only left of an arrow, and no example has it" for it in empty]
+    wrong += [f"statement/evidence.txt: {label} stands only left of an arrow, and no example has it" for label in empty]
     return list(dict.fromkeys(wrong))

@@ -6,13 +6,17 @@ from pathlib import Path
 from typing import TYPE_CHECKING
 
 import givens
-from reach import reach
-from world import unique
+from reach import Reach, reach
+from source import Clause, Function
+from tables import Wrong
+from world import Item, World, unique
 
 if TYPE_CHECKING:
     from premises import Chain
 
 HERE = Path(__file__).resolve().parent
+# The page with a row for each promise.
+TABLE = "docs/PROMISES.md"
 HEAD = "== "
 # What may stand before the text of a line: of a quotation, of a comment.
 MARKS = re.compile(r"^\s*(?:>|///|//!|//)?\s*", re.M)
@@ -22,98 +26,98 @@ MARKS = re.compile(r"^\s*(?:>|///|//!|//)?\s*", re.M)
 class Carrier:
     """A function with the clauses that carry a promise; what it requires belongs to them."""
 
-    function: object
-    clauses: list
+    function: Function
+    clauses: list[Clause]
 
 
 @dataclass
 class Promise:
-    """A promise: its title, its row in README.md, its sentence and where that stands, and what carries it."""
+    """A promise: its title, its row in docs/PROMISES.md, its sentence and where that stands, and what carries it."""
 
     title: str
-    fields: dict = field(default_factory=dict)
-    carriers: list = field(default_factory=list)
+    fields: dict[str, str] = field(default_factory=dict)
+    carriers: list[Carrier] = field(default_factory=list)
     # What gives its premises: its own lines, and those that stand before all promises.
-    premises: list = field(default_factory=list)
+    premises: list[givens.Line] = field(default_factory=list)
     # Its premises, each with the line that gives it, once they are followed.
-    chain: "Chain" = None
-    reach: object = None
+    chain: "Chain | None" = None
+    reach: Reach = field(default_factory=lambda: Reach([], []))
 
     @property
-    def sentence(self):
+    def sentence(self) -> str:
+        """What it says."""
         return self.fields["says"]
 
+    @property
+    def grounds(self) -> list[str]:
+        """What gives its premises, a sentence for each line that speaks of them."""
+        return givens.sentences(self.chain.spoken) if self.chain else []
 
-class Wrong(Exception):
-    """A line of a table that does not agree with the repository."""
 
-
-def sections(text):
-    """The sections of the table: the title of each, and its pairs of a word and what follows it. The first has no title."""
-    found = [("", [])]
+def sections(text: str) -> list[tuple[str, list[tuple[str, str]]]]:
+    """The sections of the table: the title of each ('' of the first), and its pairs of a word and what follows it."""
+    found: list[tuple[str, list[tuple[str, str]]]] = [("", [])]
     for line in text.splitlines():
         if line.startswith(HEAD):
             found.append((line.removeprefix(HEAD), []))
         elif line.startswith("  "):
-            word, said = found[-1][1][-1]
-            found[-1][1][-1] = (word, f"{said} {line.strip()}")
+            word, value = found[-1][1][-1]
+            found[-1][1][-1] = (word, f"{value} {line.strip()}")
         elif line.strip() and not line.startswith("#"):
-            word, _, said = line.partition(": ")
-            found[-1][1].append((word, said))
+            word, _, value = line.partition(": ")
+            found[-1][1].append((word, value))
     return found
 
 
-def plain(text):
+def plain(text: str) -> str:
     """A text on one line, without the marks of quotations and comments."""
     return " ".join(MARKS.sub("", text).split())
 
 
-def carrier(world, said):
+def carrier(world: World, text: str) -> Carrier:
     """What a line `by: CRATE FUNCTION CLAUSE ..` names."""
-    crate, label, *names = said.split()
+    crate, label, *names = text.split()
     function = world.function(crate, label)
-    required = [it for it in function.clauses if it.kind == "requires"]
+    required = [clause for clause in function.clauses if clause.kind == "requires"]
     if not names:
         return Carrier(function, function.clauses)
-    return Carrier(function, required + [clause_named(world, function, it) for it in names])
+    return Carrier(function, required + [clause_named(world, function, name) for name in names])
 
 
-def clause_named(world, function, name):
+def clause_named(world: World, function: Function, name: str) -> Clause:
     """The clause of this name, or the one that says a record, with the field of it that is named."""
-    ensured = [it for it in function.clauses if it.kind == "ensures"]
-    parts = (world.part_of(function, it, name) for it in ensured if "." in name)
-    found = next((it for it in [*(it for it in ensured if it.name == name), *parts] if it), None)
-    if found is None:
+    ensured = [clause for clause in function.clauses if clause.kind == "ensures"]
+    parts = [world.part_of(function, clause, name) for clause in ensured if "." in name]
+    found = [clause for clause in ensured if clause.name == name] + [part for part in parts if part]
+    if not found:
         raise Wrong(f"{function.label} has no clause {name}")
-    return found
+    return found[0]
 
 
-def lines_of(pairs):
+def lines_of(pairs: list[tuple[str, str]]) -> list[givens.Line]:
     """The lines of a section that speak of premises."""
-    try:
-        return [givens.parsed(said) for word, said in pairs if word == "premise"]
-    except ValueError as fault:
-        raise Wrong(str(fault)) from None
+    return [givens.parsed(text) for word, text in pairs if word == "premise"]
 
 
-def first_of(world, carriers):
+def first_of(world: World, carriers: list[Carrier]) -> list[Item]:
     """What the clauses of a promise reach at once."""
-    return unique(used for it in carriers for clause in it.clauses for used in world.uses_of_clause(it.function, clause))
+    pairs = [(each.function, clause) for each in carriers for clause in each.clauses]
+    return unique(used for pair in pairs for used in world.uses_of_clause(*pair))
 
 
-def promises(world, table=None):
+def promises(world: World, table: str | None = None) -> list[Promise]:
     """The promises in their order, each with what it reaches."""
     found = []
     (_, shared), *each = sections(table or (HERE / "promises.txt").read_text())
     every = lines_of(shared)
     for title, pairs in each:
-        promise = Promise(title, {word: said for word, said in pairs if word not in ("by", "premise")})
+        promise = Promise(title, {word: text for word, text in pairs if word not in ("by", "premise")})
         promise.premises = [*lines_of(pairs), *every]
-        promise.carriers = [carrier(world, said) for word, said in pairs if word == "by"]
+        promise.carriers = [carrier(world, text) for word, text in pairs if word == "by"]
         promise.reach = reach(world, first_of(world, promise.carriers))
         if plain(promise.sentence) not in plain((world.root / promise.fields["in"]).read_text()):
             raise Wrong(f"the sentence of '{title}' does not stand in {promise.fields['in']}")
-        if f"| {promise.fields['row']} |" not in (world.root / "README.md").read_text():
-            raise Wrong(f"README.md has no row '{promise.fields['row']}'")
+        if f"| {promise.fields['row']} |" not in (world.root / TABLE).read_text():
+            raise Wrong(f"{TABLE} has no row '{promise.fields['row']}'")
         found.append(promise)
     return found

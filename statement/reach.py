@@ -1,17 +1,19 @@
 """What a promise reaches, in the order in which it reads best.
 
-The order is that of a book: a chapter a crate, the highest crate first, and within a chapter each definition behind the first one
-that uses it, with what it uses itself right behind it (depth first, in the order of the text). So a sentence is read with the
-words of its own layer, as *session*, *stopped*, *recovered*; what a lower layer means by *holds* or *image* is not opened in the
-midst of it, but in that layer's chapter, where all who use the word were read already. Depth first over all crates would lead from
-the first line of the headline to the bytes of a page before its second line is read; breadth first would mix the crates.
+The order is that of a book: a chapter a crate, the highest crate first, and within a chapter each definition behind the
+first one that uses it, with what it uses itself right behind it (depth first, in the order of the text). So a sentence
+is read with the words of its own layer, as *session*, *stopped*, *recovered*; what a lower layer means by *holds* or
+*image* is not opened in the midst of it, but in that layer's chapter, where all who use the word were read already.
+Depth first over all crates would lead from the first line of the headline to the bytes of a page before its second line
+is read; breadth first would mix the crates.
 """
 
+from collections.abc import Iterable
 from dataclasses import dataclass
 
 from antt import Definition
 from source import Type
-from world import KitWord, unique
+from world import Item, KitWord, World, unique
 
 
 @dataclass
@@ -19,71 +21,70 @@ class Chapter:
     """A crate: its definitions and its types, in their order."""
 
     crate: str
-    definitions: list
-    types: list
+    definitions: list[Definition]
+    types: list[Type]
 
 
 @dataclass
 class Reach:
     """What a promise reaches."""
 
-    chapters: list
-    kit: list
+    chapters: list[Chapter]
+    kit: list[KitWord]
 
     @property
-    def definitions(self):
-        return [it for each in self.chapters for it in each.definitions]
+    def definitions(self) -> list[Definition]:
+        """All definitions."""
+        return [definition for each in self.chapters for definition in each.definitions]
 
     @property
-    def types(self):
-        return [it for each in self.chapters for it in each.types]
+    def types(self) -> list[Type]:
+        """All types of the code."""
+        return [kind for each in self.chapters for kind in each.types]
 
     @property
-    def lines(self):
-        return sum(len(it.code) for it in self.definitions)
-
-    @property
-    def counts(self):
+    def counts(self) -> tuple[int, int, int, int]:
         """How many definitions, lines of them, types of the code and words of the kit there are."""
-        return len(self.definitions), self.lines, len(self.types), len(self.kit)
+        lines = sum(len(definition.code) for definition in self.definitions)
+        return len(self.definitions), lines, len(self.types), len(self.kit)
 
 
 class Order:
     """The reading of a crate's chapter: what stands in it already."""
 
-    def __init__(self, world, crate, seen):
-        self.world, self.crate, self.seen, self.found = world, crate, seen, []
+    def __init__(self, world: World, crate: str, placed: set[Item]) -> None:
+        self.world, self.crate, self.placed, self.found = world, crate, placed, list[Item]()
 
-    def take(self, item):
+    def take(self, item: Item) -> None:
         """Takes an item of this crate, and right behind it what it uses of the crate."""
-        if item.crate == self.crate and item not in self.seen and not isinstance(item, KitWord):
-            self.seen.add(item)
+        if item.crate == self.crate and item not in self.placed and not isinstance(item, KitWord):
+            self.placed.add(item)
             self.found.append(item)
             for each in self.world.uses(item):
                 self.take(each)
 
 
-def closure(world, first):
+def closure(world: World, first: Iterable[Item]) -> set[Item]:
     """All items that are reached from these, in no order."""
-    seen, left = set(), list(first)
-    while left:
-        item = left.pop()
-        if item not in seen:
-            seen.add(item)
-            left += world.uses(item)
-    return seen
+    found, due = set[Item](), list(first)
+    while due:
+        item = due.pop()
+        if item not in found:
+            found.add(item)
+            due += world.uses(item)
+    return found
 
 
-def reach(world, first):
+def reach(world: World, first: list[Item]) -> Reach:
     """What is reached from these items."""
-    order, seen, chapters = [], set(), []
+    order, placed, chapters = list[Item](), set[Item](), list[Chapter]()
     for crate in reversed(world.crates):
-        reading = Order(world, crate, seen)
-        for item in unique([*first, *(used for it in order for used in world.uses(it))]):
+        reading = Order(world, crate, placed)
+        for item in unique([*first, *(used for item in order for used in world.uses(item))]):
             reading.take(item)
         order += reading.found
         if reading.found:
-            definitions = [it for it in reading.found if isinstance(it, Definition)]
-            chapters.append(Chapter(crate, definitions, [it for it in reading.found if isinstance(it, Type)]))
-    every = [*first, *(used for it in order for used in world.uses(it))]
-    return Reach(chapters, sorted({it for it in every if isinstance(it, KitWord)}, key=lambda it: it.label))
+            definitions = [item for item in reading.found if isinstance(item, Definition)]
+            chapters.append(Chapter(crate, definitions, [item for item in reading.found if isinstance(item, Type)]))
+    every = [*first, *(used for item in order for used in world.uses(item))]
+    return Reach(chapters, sorted({item for item in every if isinstance(item, KitWord)}, key=lambda item: item.label))

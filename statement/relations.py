@@ -5,10 +5,10 @@ from dataclasses import dataclass, field
 
 import terms
 import words
-from antt import Definition
+from antt import Definition, Name
 from source import Clause, Function
 from terms import Arrow, Joined, Relation, Term
-from world import KitWord, Unknown, World
+from world import Item, KitWord, Unknown, World
 
 # What a word means where it stands: something of the repository or of the kit, or nothing that is known by name.
 Scope = Callable[[str], object]
@@ -24,9 +24,8 @@ NAMELESS = (*terms.BETWEEN, "¬", "⊥")
 
 @dataclass(frozen=True)
 class Node:
-    """A type where it stands: its tree, what words mean there, the place in words, and the field that it is the type of.
-
-    The field is '' where there is none."""
+    """A type where it stands: its tree, what words mean there, the place in words, and the field that it is the type of
+    ('' for none)."""
 
     term: Term
     scope: Scope = field(compare=False, repr=False)
@@ -39,16 +38,16 @@ class Node:
 
 
 def cases(definition: Definition) -> list[tuple[str, Term]]:
-    """The types of a definition: those of a record with the names of its fields, of a `data` with those of its cases."""
+    """The types of a definition: a record's with the names of its fields, a `data`'s with those of its cases."""
     head, *equations = words.pieces(definition.code)
     if definition.kind == "proof":
         tokens = words.tokens_of(head)
         pairs = [("", tokens[tokens.index(":") + 1 :])]
     elif definition.kind == "function":
-        pairs = [("", words.equation(words.tokens_of(it))[1]) for it in equations]
+        pairs = [("", words.equation(words.tokens_of(lines))[1]) for lines in equations]
     else:
-        each = [words.tokens_of(it) for it in words.fields(head)]
-        pairs = [(it[it.index(":") - 1], it[it.index(":") + 1 :]) for it in each]
+        each = [words.tokens_of(lines) for lines in words.fields(head)]
+        pairs = [(tokens[tokens.index(":") - 1], tokens[tokens.index(":") + 1 :]) for tokens in each]
     return [(name, made) for name, tokens in pairs if (made := terms.term(tokens))]
 
 
@@ -74,27 +73,27 @@ class Reader:
 
     def __init__(self, world: World) -> None:
         self.world = world
-        self.kept: dict[Definition, list[Node]] = {}
+        self.known: dict[Definition, list[Node]] = {}
 
     def scope_of(self, definition: Definition) -> Scope:
         """What words mean in a definition."""
         specs = self.world.specs[definition.module]
         own = {**specs.constructors, **specs.definitions}
-        return lambda word: self.meant(specs.brought, specs.aliases, own, word)
+        return lambda word: self.item_of(specs.brought, specs.aliases, own, word)
 
     def scope_in(self, function: Function) -> Scope:
         """What words mean in the clauses of a function."""
         code = self.world.code[function.path]
-        return lambda word: self.meant({**code.brought, **function.brought}, code.aliases, {}, word)
+        return lambda word: self.item_of({**code.brought, **function.brought}, code.aliases, {}, word)
 
-    def meant(self, brought: dict, aliases: dict, own: dict, word: str) -> object:  # type: ignore[type-arg]
+    def item_of(self, brought: dict[str, Name], aliases: dict[str, str], own: dict[str, Definition],
+              word: str) -> Item | None:
         """What a word means where these names are brought in."""
         head, *path = word.split(".")
         try:
-            found: object = self.world.meant(brought, aliases, own, head, path)
+            return self.world.item_of(brought, aliases, own, head, path)
         except Unknown:
             return None
-        return found
 
     def clause(self, function: Function, clause: Clause) -> list[Node]:
         """What a clause says: its type, or that of the field which a promise names."""
@@ -104,23 +103,24 @@ class Reader:
         place = f"{function.owner}::{function.name}" if function.owner else function.name
         return [Node(term, self.scope_in(function), f"{place} {clause.name}".rstrip())] if term else []
 
-    def said(self, path: str, name: str) -> list[Node]:
+    def statement(self, path: str, name: str) -> list[Node]:
         """What a law or a statement with its proof says, by its file and its name."""
         if path.endswith(".rt"):
-            laws = [it for it in self.world.code[path].functions if it.name == name]
-            return [node for it in laws for clause in it.clauses for node in self.clause(it, clause)]
+            laws = [function for function in self.world.code[path].functions if function.name == name]
+            return [node for law in laws for clause in law.clauses for node in self.clause(law, clause)]
         module = path.removeprefix("crates/").removesuffix(".antt").replace("/", ".")
-        return self.opened(self.world.target(f"Rattle.{module}", name))
+        target = self.world.target(f"Rattle.{module}", name)
+        return self.opened(target) if isinstance(target, Definition) else []
 
     def same_as(self, definition: Definition) -> list[Definition]:
         """The relations of which each is enough for this one: the one that it is another name of, or those of a sum."""
         nodes = self.opened(definition) if definition.kind == "function" and len(cases(definition)) == 1 else []
-        return [found for node in nodes for it in self.either(node) if (found := self.definition(it))]
+        return [found for node in nodes for part in self.either(node) if (found := self.definition(part))]
 
     def either(self, node: Node) -> list[Node]:
         """The types of a sum, or the type alone."""
         if isinstance(node.term, Joined) and node.term.sign == "⊎":
-            return [it for each in self.parts(node) for it in self.either(each)]
+            return [part for each in self.parts(node) for part in self.either(each)]
         return [node]
 
     def definition(self, node: Node) -> Definition | None:
@@ -132,20 +132,21 @@ class Reader:
 
     def opened(self, definition: Definition) -> list[Node]:
         """The types that a definition is made of."""
-        if definition not in self.kept:
-            self.kept[definition] = self.parted(definition)
-        return self.kept[definition]
+        if definition not in self.known:
+            self.known[definition] = self.parted(definition)
+        return self.known[definition]
 
     def parted(self, definition: Definition) -> list[Node]:
+        """The parts of a definition: its cases, or the fields of a record."""
         scope = self.scope_of(definition)
-        named = [(f"{definition.name}.{name}" if name else "", it) for name, it in cases(definition)]
+        by_name = [(f"{definition.name}.{name}" if name else "", term) for name, term in cases(definition)]
         # A case of several that is there never, as lists of two lengths are paired, says nothing.
-        said = [(name, it) for name, it in named if name or len(named) == 1 or it != terms.NEVER]
-        return [Node(it, scope, name or definition.name, name) for name, it in said]
+        stated = [(name, term) for name, term in by_name if name or len(by_name) == 1 or term != terms.NEVER]
+        return [Node(term, scope, name or definition.name, name) for name, term in stated]
 
     def within(self, node: Node) -> list[Node]:
         """The arguments of a relation that may be relations."""
-        return [node.at(it) for it in node.term.inner] if isinstance(node.term, Relation) else []
+        return [node.at(term) for term in node.term.inner] if isinstance(node.term, Relation) else []
 
     def is_condition(self, node: Node) -> bool:
         """Whether a type is a relation of the kit or of the language: an equation, a comparison, that there is none."""
@@ -158,8 +159,8 @@ class Reader:
     def values_in(self, node: Node) -> list[Definition]:
         """The definitions of ours that a condition names, as `is_name` in `IsTrue (is_name text)`."""
         tokens = words.tokens_of([node.term.text]) if isinstance(node.term, Relation) else []
-        found = [node.scope(it) for it in tokens if words.is_name(it) and it not in NAMELESS]
-        return [it for it in found if isinstance(it, Definition) and not is_type(it)]
+        found = [node.scope(token) for token in tokens if words.is_name(token) and token not in NAMELESS]
+        return [item for item in found if isinstance(item, Definition) and not is_type(item)]
 
     def is_passing(self, node: Node) -> bool:
         """Whether a type says no more than its arguments do."""
@@ -171,44 +172,46 @@ class Reader:
     def parts(self, node: Node) -> list[Node]:
         """What stands in a type that is no relation of ours: its parts, what it ends in, what it passes on."""
         if isinstance(node.term, Joined):
-            return [node.at(it) for it in node.term.parts]
+            return [node.at(term) for term in node.term.parts]
         if isinstance(node.term, Arrow):
-            return [node.at(node.term.right)]
+            return [node.at(node.term.end)]
         return self.within(node) if self.is_passing(node) else []
 
     def last(self, node: Node) -> list[Node]:
         """The relations that a type ends in, none of them opened."""
         parts = self.parts(node)
-        return [it for each in parts for it in self.last(each)] if parts else [node]
+        return [part for each in parts for part in self.last(each)] if parts else [node]
 
     def words_of(self, node: Node) -> list[Definition]:
         """The relation that a type is, or the words of ours that a condition names."""
         definition = self.definition(node)
         return [definition] if definition else self.values_in(node) if self.is_condition(node) else []
 
-    def left_of(self, node: Node, records: int = 1, seen: frozenset[Definition] = frozenset()) -> Iterator[Node]:
-        """What stands left of arrows in a type, in definitions that it ends in, and in the fields of records that it ends in.
+    def left_of(self, node: Node, records: int = 1, opened: frozenset[Definition] = frozenset()) -> Iterator[Node]:
+        """What stands left of arrows in a type, in definitions that it ends in, and in the fields of records there.
 
-        In records within records only relations of ours count: a condition there is a bound, as of a place in a list."""
+        In records within records only relations of ours count: a condition there is a bound, as of a place in a list.
+        """
         term, definition = node.term, self.definition(node)
         if isinstance(term, Arrow):
-            left = [node.at(it) for it in term.left]
-            yield from (it for it in left if records >= 0 or self.definition(it) or it.term == terms.NEVER)
-            yield from self.left_of(node.at(term.right), records, seen)
+            for premise in map(node.at, term.premises):
+                if records >= 0 or self.definition(premise) or premise.term == terms.NEVER:
+                    yield premise
+            yield from self.left_of(node.at(term.end), records, opened)
         elif isinstance(term, Joined):
             if term.sign == "↔":
-                yield from (node.at(it) for it in term.parts)
-            for it in term.parts:
-                yield from self.left_of(node.at(it), records, seen)
-        elif definition and definition not in seen:
+                yield from (node.at(part) for part in term.parts)
+            for part in term.parts:
+                yield from self.left_of(node.at(part), records, opened)
+        elif definition and definition not in opened:
             fewer = records - (definition.kind in ("record", "data"))
             for each in self.opened(definition):
-                yield from self.left_of(each, fewer, seen | {definition})
+                yield from self.left_of(each, fewer, opened | {definition})
             for each in self.within(node):
-                yield from self.left_of(each, min(records, 0), seen)
+                yield from self.left_of(each, min(records, 0), opened)
         elif self.is_passing(node):
             for each in self.within(node):
-                yield from self.left_of(each, records, seen)
+                yield from self.left_of(each, records, opened)
 
     def ends(self, nodes: list[Node]) -> dict[Definition, None]:
         """The relations that types end in, and those that these are made of at their own ends."""
@@ -217,12 +220,12 @@ class Reader:
         return found
 
     def shown(self, nodes: list[Node]) -> dict[Definition, None]:
-        """The relations that are there where types are: none that stands in one part of a sum, or in one case of several."""
+        """The relations that are there where types are: none of one part of a sum, or of one case of several."""
         found: dict[Definition, None] = {}
 
         def certain(node: Node) -> list[Node]:
             # A sum of one type and of the relation itself comes to that type in the end.
-            either = [it for it in self.either(node) if self.definition(it) not in found]
+            either = [part for part in self.either(node) if self.definition(part) not in found]
             return self.parts(node) if len(self.either(node)) == 1 else either * (len(either) == 1)
 
         self.collect(nodes, found, certain, self.whole)
@@ -233,14 +236,14 @@ class Reader:
         found: dict[Definition, None] = {}
 
         def opened(definition: Definition) -> list[Node]:
-            return [each for it in self.opened(definition) for each in (it, *self.arguments(it))]
+            return [each for part in self.opened(definition) for each in (part, *self.arguments(part))]
 
-        self.collect([each for it in nodes for each in (it, *self.arguments(it))], found, self.parts, opened)
+        self.collect([each for node in nodes for each in (node, *self.arguments(node))], found, self.parts, opened)
         return found
 
     def arguments(self, node: Node) -> list[Node]:
         """The arguments of the relations that a type ends in."""
-        return [each for it in self.last(node) if not self.is_condition(it) for each in self.within(it)]
+        return [each for part in self.last(node) if not self.is_condition(part) for each in self.within(part)]
 
     def whole(self, definition: Definition) -> list[Node]:
         """The types that a definition is always made of."""

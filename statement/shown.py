@@ -1,15 +1,24 @@
 """The statement as text."""
 
 import re
+from collections.abc import Iterable, Mapping
 
 import evidence
-import givens
 import tables
+from antt import Definition
+from promises import Promise
+from reach import Chapter
+from source import Type
+from world import unique
 
 WIDTH = 110
+HEAD = """Of each: its sentence; the clauses that carry it; its premises, which stand left of an arrow there, and which
+clause concludes each, or that it is trusted; each definition that the clauses reach, and no other, the highest crate
+first, and in a crate each behind the first one that uses it; the types of the code; the words of the kit. Under a
+definition stands what it was held against:"""
 
 
-def folded(text, width=WIDTH):
+def folded(text: str, width: int = WIDTH) -> list[str]:
     """A text in lines of at most this many letters."""
     lines = [""]
     for word in text.split():
@@ -19,110 +28,116 @@ def folded(text, width=WIDTH):
     return lines
 
 
-def counted(number, word):
+def counted(number: int, word: str) -> str:
+    """A number of things."""
     return f"{number} {word}" if number == 1 else f"{number} {word}s"
 
 
-def told(counts):
+def summary(counts: tuple[int, int, int, int]) -> str:
     """The counts of a promise in words."""
     definitions, lines, types, words = counts
     of_ours = f"{counted(definitions, 'definition')} in {counted(lines, 'line')}"
     return f"{of_ours}, {counted(types, 'type')} of the code and {counted(words, 'word')} of the kit"
 
 
-def meaning(kind):
+def meaning(kind: Type) -> str:
     """The first sentence of the comment above a type."""
     text = " ".join(" ".join(kind.comment).split(" # ")[0].split())
     first = re.match(r"(.*?[.;])(?: |$)", text)
     return first[1] if first else text
 
 
-def declared(kind):
+def declared(kind: Type) -> list[str]:
     """The text of a type without its comments; or the value by which contracts speak of it."""
     if kind.value:
         return [f"in contracts it is: {' '.join(kind.value.split())}"]
-    return [it for it in kind.text.splitlines() if it.strip() and not it.lstrip().startswith(("///", "//"))]
+    return [line for line in kind.text.splitlines() if line.strip() and not line.lstrip().startswith(("///", "//"))]
 
 
-def indented(lines, step="    "):
-    return [f"{step}{it}".rstrip() for it in lines]
+def indented(lines: Iterable[str], step: str = "    ") -> list[str]:
+    """Lines behind a step."""
+    return [f"{step}{line}".rstrip() for line in lines]
 
 
 class Text:
     """The statement as lines of text. `pieces` has what each definition was held against, by its label."""
 
-    def __init__(self, pieces, meanings):
-        self.evidence, self.meanings, self.lines = pieces, meanings, []
+    def __init__(self, pieces: dict[str, list[evidence.Evidence]], meanings: Mapping[str, str]) -> None:
+        self.evidence, self.meanings, self.lines = pieces, meanings, list[str]()
 
-    def say(self, *lines):
+    def say(self, *lines: str) -> None:
+        """Adds lines."""
         self.lines += lines
 
-    def head(self, promises):
+    def head(self, promises: list[Promise]) -> None:
         """What the statement is, and how to read it."""
         self.say("# What has to be believed", "")
-        self.say(*folded(f"{counted(len(promises), 'promise')}. Of each: its sentence; the clauses that carry it; its premises, which"
-                         " stand left of an arrow there, and which clause concludes each, or that it is trusted; each definition that"
-                         " the clauses reach, and no other, the highest crate first, and in a crate each behind the first one that"
-                         " uses it; the types of the code; the words of the kit. Under a definition stands what it was held"
-                         " against:"))  # fmt: skip
-        self.say(*(f"  {kind}: {said}" for kind, (said, _) in evidence.KINDS.items()), "", "How much there is to read:")
-        self.say(*(f"  {it.title}: {told(it.reach.counts)}" for it in promises), "", "The language:")
-        words = {it: said for it, said in self.meanings.items() if it.startswith(tables.LANGUAGE)}
-        self.say(*(f"  {it.removeprefix(tables.LANGUAGE)}  {said}" for it, said in words.items()), "")
+        self.say(*folded(f"{counted(len(promises), 'promise')}. {HEAD}"))
+        self.say(*(f"  {kind}: {meaning}" for kind, (meaning, _) in evidence.KINDS.items()), "")
+        self.say("How much there is to read:")
+        self.say(*(f"  {promise.title}: {summary(promise.reach.counts)}" for promise in promises), "", "The language:")
+        words = {word: meaning for word, meaning in self.meanings.items() if word.startswith(tables.LANGUAGE)}
+        self.say(*(f"  {word.removeprefix(tables.LANGUAGE)}  {meaning}" for word, meaning in words.items()), "")
 
-    def promise(self, promise):
+    def promise(self, promise: Promise) -> None:
         """A promise and all that it reaches."""
         self.say(f"## {promise.title}", "", *indented(folded(promise.sentence), "> "), "")
-        self.say(f"({promise.fields['in']}; in the table of README.md: {promise.fields['row']})", "")
-        for it in promise.carriers:
-            self.say(f"Carried by {it.function.label}, {it.function.path}:{it.function.line}")
-            for clause in it.clauses:
-                self.say(*indented(clause.lines))
+        self.say(f"({promise.fields['in']}; in the table of docs/PROMISES.md: {promise.fields['row']})", "")
+        for carrier in promise.carriers:
+            self.say(f"Carried by {carrier.function.label}, {carrier.function.path}:{carrier.function.line}")
+            for lines in unique(tuple(clause.lines) for clause in carrier.clauses):
+                self.say(*indented(lines))
             self.say("")
         self.premises(promise)
-        self.say(f"It reaches {told(promise.reach.counts)}.", "")
+        self.say(f"It reaches {summary(promise.reach.counts)}.", "")
         for chapter in promise.reach.chapters:
             self.chapter(chapter)
         self.kit(promise)
         self.without(promise)
 
-    def premises(self, promise):
+    def premises(self, promise: Promise) -> None:
         """The premises of a promise, with what gives each."""
-        spoken = givens.in_order(promise.chain.spoken) if promise.chain else []
-        self.say("Its premises, and what gives each:" if spoken else "It has no premise.", "")
-        for line, names in spoken:
-            first, *more = folded(givens.told(line, names))
+        self.say("Its premises, and what gives each:" if promise.grounds else "It has no premise.", "")
+        for sentence in promise.grounds:
+            first, *more = folded(sentence)
             self.say(f"    {first}", *indented(more, " " * 8))
         self.say("")
 
-    def chapter(self, chapter):
-        lines = sum(len(it.code) for it in chapter.definitions)
-        self.say(f"### {chapter.crate}: {counted(len(chapter.definitions), 'definition')} in {counted(lines, 'line')}", "")
-        for it in chapter.definitions:
-            self.definition(it)
-        for it in chapter.types:
-            self.type(it)
+    def chapter(self, chapter: Chapter) -> None:
+        """What a crate has of the statement."""
+        lines = sum(len(definition.code) for definition in chapter.definitions)
+        count = f"{counted(len(chapter.definitions), 'definition')} in {counted(lines, 'line')}"
+        self.say(f"### {chapter.crate}: {count}", "")
+        for definition in chapter.definitions:
+            self.definition(definition)
+        for kind in chapter.types:
+            self.type(kind)
 
-    def definition(self, it):
-        part = f", its field {it.part} alone" if it.part else ""
-        self.say(f"[{it.name}{part}] {it.path}:{it.line}", *indented([*it.comment, *it.lines]))
-        self.say(*(f"    = {piece.label}" for piece in self.evidence.get(it.label, [])), "")
+    def definition(self, definition: Definition) -> None:
+        """A definition, and what it was held against."""
+        self.say(f"[{definition.title}] {definition.path}:{definition.line}")
+        self.say(*indented([*definition.comment, *definition.lines]))
+        self.say(*(f"    = {piece.label}" for piece in self.evidence.get(definition.label, [])), "")
 
-    def type(self, it):
-        self.say(f"[{it.name}, {it.kind} of the code] {it.path}:{it.line}", *indented(folded(meaning(it))), *indented(declared(it)), "")
+    def type(self, kind: Type) -> None:
+        """A type of the code."""
+        self.say(f"[{kind.name}, {kind.kind} of the code] {kind.path}:{kind.line}")
+        self.say(*indented(folded(meaning(kind))), *indented(declared(kind)), "")
 
-    def kit(self, promise):
+    def kit(self, promise: Promise) -> None:
+        """The words of the kit."""
         self.say("### Words of the kit", "")
-        self.say(*(f"{it.name} ({it.crate}): {self.meanings[it.label]}" for it in promise.reach.kit), "")
+        self.say(*(f"{word.name} ({word.crate}): {self.meanings[word.label]}" for word in promise.reach.kit), "")
 
-    def without(self, promise):
+    def without(self, promise: Promise) -> None:
         """The definitions that nothing in the table was held against."""
         bare = evidence.bare(promise.reach.definitions, self.evidence)
         self.say(f"### Without evidence of their own: {len(bare)} of {len(promise.reach.definitions)}", "")
-        self.say(*folded(", ".join(it.label for it in bare) or "none"), "")
+        self.say(*folded(", ".join(definition.label for definition in bare) or "none"), "")
 
 
-def text(promises, chosen, pieces, meanings):
+def text(promises: list[Promise], chosen: list[Promise], pieces: dict[str, list[evidence.Evidence]],
+         meanings: Mapping[str, str]) -> str:
     """The statement of the chosen promises."""
     shown = Text(pieces, meanings)
     shown.head(promises)

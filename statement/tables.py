@@ -8,6 +8,10 @@ HERE = Path(__file__).resolve().parent
 LANGUAGE = "language."
 
 
+class Wrong(Exception):
+    """A line of a table that is none, or that does not agree with the repository."""
+
+
 def rows(name: str, text: str | None = None) -> list[str]:
     """The lines of a table that are no comments."""
     lines = (text if text is not None else (HERE / name).read_text()).splitlines()
@@ -22,7 +26,8 @@ def kit_words(text: str | None = None) -> dict[str, str]:
 
 def faults_of_kit(promises: Iterable[Any], meanings: Mapping[str, str]) -> list[str]:
     """The words that have no line, and the lines that have no word."""
-    reached = {it.label for promise in promises for it in promise.reach.kit}
-    known = {it for it in meanings if not it.startswith(LANGUAGE)}
-    without = [f"statement/kit_words.txt has no line for {it}" for it in sorted(reached - known)]
-    return without + [f"statement/kit_words.txt has a line for {it}, which no promise reaches" for it in sorted(known - reached)]
+    reached = {word.label for promise in promises for word in promise.reach.kit}
+    known = {word for word in meanings if not word.startswith(LANGUAGE)}
+    without = [f"statement/kit_words.txt has no line for {word}" for word in sorted(reached - known)]
+    return without + [f"statement/kit_words.txt has a line for {word}, which no promise reaches"
+                      for word in sorted(known - reached)]

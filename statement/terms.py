@@ -12,7 +12,7 @@ BETWEEN = ("≡", "≢", "≤", "<")
 
 @dataclass(frozen=True)
 class Relation:
-    """A relation of values: its head or the sign between two values, its text, and its arguments that may be relations."""
+    """A relation of values: its head or the sign between two, its text, and its arguments that may be relations."""
 
     head: str
     text: str
@@ -31,8 +31,8 @@ class Joined:
 class Arrow:
     """What stands left of arrows, one after another, and what stands at the end."""
 
-    left: tuple["Term", ...]
-    right: "Term"
+    premises: tuple["Term", ...]
+    end: "Term"
 
 
 Term = Relation | Joined | Arrow
@@ -80,13 +80,13 @@ def term(tokens: list[str]) -> Term | None:
     tokens = unbound(tokens)
     if tokens[:1] == ["λ"]:
         return term(tokens[tokens.index(".") + 1 :])
-    *left, right = (unbound(it) for it in words.parted(tokens, "→"))
-    if not left:
+    *before, last = (unbound(part) for part in words.parted(tokens, "→"))
+    if not before:
         return joined(tokens)
-    made = tuple(it for part in left for each in bound_types(part) if (it := joined(each)))
-    end = term(right)
+    premises = tuple(premise for part in before for each in bound_types(part) if (premise := joined(each)))
+    end = term(last)
     # What leads to nothing is denied.
-    return Relation("¬", spelled(tokens)) if end == NEVER else Arrow(made, end) if end else None
+    return Relation("¬", spelled(tokens)) if end == NEVER else Arrow(premises, end) if end else None
 
 
 def joined(tokens: list[str]) -> Term | None:
@@ -94,21 +94,21 @@ def joined(tokens: list[str]) -> Term | None:
     for sign in JOINED:
         parts = words.parted(tokens, sign)
         if len(parts) > 1:
-            return Joined(sign, tuple(it for part in parts for each in bound_types(part) if (it := term(each))))
+            return Joined(sign, tuple(made for part in parts for each in bound_types(part) if (made := term(each))))
     return relation(tokens)
 
 
 def relation(tokens: list[str]) -> Term | None:
     """A relation, or what stands in brackets."""
     each = groups(tokens)
-    sign = next((it[0] for it in each if it[0] in BETWEEN), None)
+    sign = next((group[0] for group in each if group[0] in BETWEEN), None)
     if sign:
         return Relation(sign, spelled(tokens))
     if len(each) == 1 and each[0][0] == "(":
         return term(each[0][1:-1])
     if not each or each[0][0] in words.OPEN:
         return None
-    return Relation(each[0][0], spelled(tokens), tuple(it for it in map(argument, each[1:]) if it))
+    return Relation(each[0][0], spelled(tokens), tuple(inner for inner in map(argument, each[1:]) if inner))
 
 
 def argument(group: list[str]) -> Term | None:

@@ -1,5 +1,5 @@
 #!/usr/bin/env python3
-"""Tests of the statement: what its readers take from specs and code, what a promise reaches, and what the check finds wrong."""
+"""Tests of the statement: what its readers take from specs and code, what a promise reaches, what the check refuses."""
 
 import re
 import tempfile
@@ -15,10 +15,10 @@ import source
 import tables
 import words
 from reach import reach
-from test_premises import Given, Planted, Terms
+from test_premises import Given, Planted, Terms, repository
 from world import Unknown, World
 
-__all__ = ["Given", "Planted", "Reached", "Readers", "Repository", "Terms"]
+__all__ = ["Fields", "Given", "Planted", "Reached", "Readers", "Repository", "Terms"]
 
 ROOT = Path(__file__).resolve().parent.parent
 
@@ -113,6 +113,10 @@ impl Boxed {
 }
 '''
 
+# The same, with a clause that is a record.
+PAIRED = CODE.replace("ensures value {", "ensures { IsPair 1 shape }\n        ensures value {")
+PAIRED = PAIRED.replace("{next, Shape}", "{next, Shape, IsPair}")
+
 NESTED = """module _ (d e : N) where
   abbrev one : N
   one = d
@@ -132,41 +136,43 @@ README = "> It is *lawful*\n> at once.\n\n| opening | lawful |\n"
 PROMISES = "== Opening\nrow: opening\nin: README.md\nsays: It is *lawful*\n  at once.\nby: high Boxed::open lawful\n"
 
 
-def made(room, **other):
+def made(room: str, **other: str) -> World:
     """A repository of two crates below a folder."""
-    files = {"crates.txt": "# the lowest first\nlow:\nhigh: low\n", "README.md": README, "crates/low/src/item.rt": ITEM,
-             "crates/low/specs/Numbers.antt": LOW, "crates/high/specs/Lawful.antt": HIGH, "crates/high/src/open.rt": CODE, **other}  # fmt: skip
-    for name, text in files.items():
-        path = Path(room, name)
-        path.parent.mkdir(parents=True, exist_ok=True)
-        path.write_text(text)
-    return World(room)
+    return repository(room, {
+        "crates.txt": "# the lowest first\nlow:\nhigh: low\n", "README.md": README, "docs/PROMISES.md": README,
+        "crates/low/src/item.rt": ITEM, "crates/low/specs/Numbers.antt": LOW, "crates/high/specs/Lawful.antt": HIGH,
+        "crates/high/src/open.rt": CODE, **other})
 
 
 class Readers(unittest.TestCase):
-    def setUp(self):
+    def setUp(self) -> None:
         self.low = antt.read("Rattle.low.specs.Numbers", "Numbers.antt", LOW)
 
-    def test_definitions_have_their_lines_and_comments(self):
-        self.assertEqual(list(self.low.definitions), ["next", "IsPair", "IsPast", "◌then◌", "Shape", "kind_of", "alone"])
+    def test_definitions_have_their_lines_and_comments(self) -> None:
+        names = ["next", "IsPair", "IsPast", "◌then◌", "Shape", "kind_of", "alone"]
+        self.assertEqual(list(self.low.definitions), names)
         pair = self.low.definitions["IsPair"]
-        self.assertEqual((pair.kind, pair.line, pair.comment), ("record", 10, ["-- a pair of numbers,", "-- the first below the second"]))
+        self.assertEqual((pair.kind, pair.line), ("record", 10))
+        self.assertEqual(pair.comment, ["-- a pair of numbers,", "-- the first below the second"])
         self.assertEqual((len(pair.lines), len(pair.code)), (6, 5))
         past = self.low.definitions["IsPast"]
         self.assertEqual((past.comment, len(past.code), past.lines[2]), ([], 3, "-- any other"))
         self.assertEqual(self.low.definitions["kind_of"].section, "{S : Type 0}")
         self.assertEqual(set(self.low.constructors), {"point", "line"})
 
-    def test_modules_stand_in_modules(self):
+    def test_modules_stand_in_modules(self) -> None:
         read = antt.read("Rattle.low.proofs.Nested", "Nested.antt", NESTED)
-        self.assertEqual([(it.name, it.section, len(it.lines)) for it in read.definitions.values()],
-                         [("one", "(d e : N)", 2), ("two", "(d e : N) {S : Type 0}", 2), ("three", "(d e : N)", 2), ("four", "", 2)])  # fmt: skip
+        found = [(each.name, each.section, len(each.lines)) for each in read.definitions.values()]
+        self.assertEqual(found, [("one", "(d e : N)", 2), ("two", "(d e : N) {S : Type 0}", 2),
+                                 ("three", "(d e : N)", 2), ("four", "", 2)])
         self.assertEqual(self.words_of(read, "one"), ["N"])
 
-    def words_of(self, specs, name):
-        return [head for head, _ in words.words_of(specs.definitions[name], lambda token: token in {"zero", "suc", "point"} or "." in token)]
+    def words_of(self, specs: antt.Specs, name: str) -> list[str]:
+        """The words of a definition."""
+        found = words.words_of(specs.definitions[name], lambda token: token in {"zero", "suc", "point"} or "." in token)
+        return [head for head, _ in found]
 
-    def test_names_that_are_bound_within_are_no_words(self):
+    def test_names_that_are_bound_within_are_no_words(self) -> None:
         self.assertEqual(self.words_of(self.low, "next"), ["ℕ", "+"])
         self.assertEqual(self.words_of(self.low, "IsPair"), ["ℕ", "IsPast"])
         self.assertEqual(self.words_of(self.low, "IsPast"), ["ℕ", "zero", "Unit", "suc"])
@@ -175,67 +181,91 @@ class Readers(unittest.TestCase):
         words = ["single", "Shape", "single", "point", "ℕ", "after", "IsPair", "then", "×", "IsPast", "kind_of"]
         self.assertEqual(self.words_of(high, "IsLawful"), words)
         self.assertEqual(high.brought["after"], antt.Name("Rattle.low.specs.Numbers", "next"))
-        self.assertEqual((high.aliases, high.passed), ({"single": "Rattle.low.specs.declared.item.Item.TheVariants"}, {"IsPast"}))
+        self.assertEqual(high.aliases, {"single": "Rattle.low.specs.declared.item.Item.TheVariants"})
+        self.assertEqual(high.passed, {"IsPast"})
 
-    def test_steps_of_a_do_are_bound(self):
+    def test_steps_of_a_do_are_bound(self) -> None:
         walk = words.Walk()
         walk.expression(words.tokens_of(["do", "  x ← first bytes", "  Some (x, «in»)"]))
-        self.assertEqual([head for head, _ in walk.told], [">>=", "first", "bytes", "Some", "in"])
+        self.assertEqual([head for head, _ in walk.words], [">>=", "first", "bytes", "Some", "in"])
 
-    def test_clauses_and_types_of_code(self):
+    def test_clauses_and_types_of_code(self) -> None:
         code = source.read("high", "open.rt", CODE)
         function = code.functions[0]
-        self.assertEqual((function.label, [it.name for it in function.clauses]), ("high::Boxed::open", ["small", "lawful", "value"]))
+        self.assertEqual(function.label, "high::Boxed::open")
+        self.assertEqual([clause.name for clause in function.clauses], ["small", "lawful", "value"])
         self.assertEqual(function.clauses[1].lines, ["ensures lawful { IsLawful self.item", "    shape }"])
         self.assertEqual(shown.meaning(code.types["Boxed"]), "A box.")
         self.assertEqual(shown.declared(code.types["Boxed"]), ["pub struct Boxed {", "    pub item: Item,", "}"])
         self.assertEqual(shown.declared(code.types["Hidden"]), ["in contracts it is: List ℕ"])
 
 
-class Reached(unittest.TestCase):
-    def setUp(self):
-        room = tempfile.TemporaryDirectory()
-        self.addCleanup(room.cleanup)
-        self.room = room.name
+def look_at_links(test: unittest.TestCase, text: str) -> None:
+    """Each place of a page stands once, and each link leads to one."""
+    places = re.findall(r' id="([^"]+)"', text)
+    test.assertEqual(len(places), len(set(places)))
+    test.assertLessEqual(set(re.findall(r'href="#([^"]+)"', text)), set(places))
 
-    def test_a_clause_reaches_what_it_uses_and_no_other(self):
+
+class Fields(unittest.TestCase):
+    """A field of a record that stands alone."""
+
+    def test_its_comment_is_that_of_the_record_and_of_the_field(self) -> None:
+        head = ["-- a pair of numbers,", "-- the first below the second"]
+        more = f"{head[1]}\n-- `first`: one.\n-- `high`, `last`: two\n-- lines.\n"
+        text = LOW.replace(f"{head[1]}\n", more)
+        pair = antt.read("Rattle.low.specs.Numbers", "Numbers.antt", text).definitions["IsPair"]
+        comments = [found.comment for name in ("first", "high") if (found := words.with_field(pair, name))]
+        self.assertEqual(comments, [[*head, "-- `first`: one."], [*head, "-- `high`, `last`: two", "-- lines."]])
+
+
+class Reached(unittest.TestCase):
+    def setUp(self) -> None:
+        self.room = self.enterContext(tempfile.TemporaryDirectory())
+
+    def test_a_clause_reaches_what_it_uses_and_no_other(self) -> None:
         found = promises.promises(made(self.room), PROMISES)[0].reach
-        names = [(it.crate, [each.name for each in it.definitions], [each.name for each in it.types]) for it in found.chapters]
+        names = [(chapter.crate, [each.name for each in chapter.definitions], [each.name for each in chapter.types])
+                 for chapter in found.chapters]
         low = ("low", ["Shape", "next", "IsPair", "IsPast", "◌then◌", "kind_of"], ["Item"])
         self.assertEqual(names, [("high", ["IsLawful"], ["Boxed"]), low])
-        self.assertEqual([it.label for it in found.kit], ["std.suc", "std.zero", "std.ℕ", "std.◌+◌", "std.◌≡◌"])
+        self.assertEqual([word.label for word in found.kit], ["std.suc", "std.zero", "std.ℕ", "std.◌+◌", "std.◌≡◌"])
         self.assertEqual(found.counts, (7, 20, 2, 5))
 
-    def test_a_value_of_contracts_hides_the_fields(self):
+    def test_a_value_of_contracts_hides_the_fields(self) -> None:
         world = made(self.room)
-        self.assertEqual([it.label for it in world.uses(world.type_of("high", "Hidden"))], ["std.List", "std.ℕ"])
+        self.assertEqual([word.label for word in world.uses(world.type_of("high", "Hidden"))], ["std.List", "std.ℕ"])
 
-    def test_a_field_of_a_record_stands_alone(self):
-        code = CODE.replace("ensures value {", "ensures { IsPair 1 shape }\n        ensures value {")
-        code = code.replace("{next, Shape}", "{next, Shape, IsPair}")
-        world = made(self.room, **{"crates/high/src/open.rt": code})
+    def test_a_field_of_a_record_stands_alone(self) -> None:
+        world = made(self.room, **{"crates/high/src/open.rt": PAIRED})
         found = promises.promises(world, PROMISES.replace("open lawful", "open IsPair.high"))[0]
-        pair = next(it for it in found.reach.definitions if it.name == "IsPair")
+        pair = next(definition for definition in found.reach.definitions if definition.name == "IsPair")
         self.assertEqual((pair.part, pair.lines[1:]), ("high", ["  pub high : IsPast high", "      next"]))
         for wrong in ("IsPair.middle", "IsPast.high", "lawful.high"):
-            with self.assertRaises(promises.Wrong):
+            with self.assertRaises(tables.Wrong):
                 promises.promises(world, PROMISES.replace("open lawful", f"open {wrong}"))
 
-    def test_a_word_that_nothing_brings_in_is_told(self):
+    def test_a_clause_of_two_fields_is_printed_once(self) -> None:
+        world = made(self.room, **{"crates/high/src/open.rt": PAIRED})
+        every = promises.promises(world, PROMISES.replace("open lawful", "open IsPair.high IsPair.first"))
+        text = shown.text(every, every, {}, {word.label: "said" for word in every[0].reach.kit})
+        self.assertEqual((text.count("    ensures { IsPair 1 shape }\n"), text.count("[IsPair, its field ")), (1, 2))
+
+    def test_a_word_that_nothing_brings_in_is_told(self) -> None:
         world = made(self.room, **{"crates/low/specs/Numbers.antt": LOW.replace("next n = n + 1", "next n = more n")})
         with self.assertRaisesRegex(Unknown, "next uses more"):
             reach(world, [world.specs["Rattle.low.specs.Numbers"].definitions["next"]])
 
-    def test_wrong_promises_are_told(self):
+    def test_wrong_promises_are_told(self) -> None:
         world = made(self.room)
         for words, others in (("at once", "later"), ("open lawful", "open awful"), ("row: opening", "row: closing")):
-            with self.assertRaises(promises.Wrong):
+            with self.assertRaises(tables.Wrong):
                 promises.promises(world, PROMISES.replace(words, others))
 
-    def test_pointers_that_lead_nowhere_are_told(self):
+    def test_pointers_that_lead_nowhere_are_told(self) -> None:
         world = made(self.room, **{"tests/one.py": "def next_of():\n    pass\n", "tests/rows/a.in": ""})
         every = promises.promises(world, PROMISES)
-        for line, faults in (
+        for line, count in (
             ("low.Numbers: next IsPair | python | tests/one.py: next_of", 0),
             ("low.Numbers: next | row | tests/rows/a", 0),
             ("low.Numbers: next | python | tests/one.py: other", 1),
@@ -244,23 +274,22 @@ class Reached(unittest.TestCase):
             ("low.Numbers: next | test | tests/one.py: next_of", 1),
             ("low.Numbers: alone | python | tests/one.py: next_of", 1),
         ):
-            self.assertEqual(len(evidence.faults(world, every, evidence.evidence(line))), faults, line)
-        with self.assertRaises(evidence.Wrong):
+            self.assertEqual(len(evidence.faults(world, every, evidence.evidence(line))), count, line)
+        with self.assertRaises(tables.Wrong):
             evidence.evidence("low.Numbers: next | rumour | tests/one.py: next_of")
 
-    def test_words_of_the_kit_need_a_line(self):
+    def test_words_of_the_kit_need_a_line(self) -> None:
         every = promises.promises(made(self.room), PROMISES)
-        lines = "".join(f"{it.label}: said\n" for it in every[0].reach.kit)
+        lines = "".join(f"{word.label}: said\n" for word in every[0].reach.kit)
         self.assertEqual(tables.faults_of_kit(every, tables.kit_words(lines)), [])
-        self.assertEqual(len(tables.faults_of_kit(every, tables.kit_words(lines.partition("\n")[2] + "std.more: said\n"))), 2)
+        others = lines.partition("\n")[2] + "std.more: said\n"
+        self.assertEqual(len(tables.faults_of_kit(every, tables.kit_words(others))), 2)
 
-    def test_each_word_of_the_page_leads_somewhere(self):
+    def test_each_word_of_the_page_leads_somewhere(self) -> None:
         world = made(self.room)
         every = promises.promises(world, PROMISES)
-        text = page.page(world, every, {}, {it.label: "said" for it in every[0].reach.kit})
-        places = re.findall(r' id="([^"]+)"', text)
-        self.assertEqual(len(places), len(set(places)))
-        self.assertLessEqual(set(re.findall(r'href="#([^"]+)"', text)), set(places))
+        text = page.page(world, every, {}, {word.label: "said" for word in every[0].reach.kit})
+        look_at_links(self, text)
         self.assertIn('<a href="#low.Numbers.IsPair">IsPair</a> k', text)
         self.assertNotIn("http", text.replace("<!doctype", ""))
 
@@ -268,18 +297,16 @@ class Reached(unittest.TestCase):
 class Repository(unittest.TestCase):
     """The statement of this repository."""
 
-    def test_laws_and_examples_speak_of_what_they_are_held_against(self):
+    def test_laws_and_examples_speak_of_what_they_are_held_against(self) -> None:
         world, law = World(ROOT), "crates/rs_time/src/laws.rt: moment_texts_read_back"
         every = promises.promises(world)
-        self.assertEqual(evidence.faults(world, every, evidence.evidence(f"rs_time.Moment: moment_text two_digits | law | {law}")), [])
-        self.assertEqual(len(evidence.faults(world, every, evidence.evidence(f"rs_model.Step: put_causes | law | {law}"))), 1)
+        for names, count in (("rs_time.Moment: moment_text two_digits", 0), ("rs_model.Step: put_causes", 1)):
+            found = evidence.faults(world, every, evidence.evidence(f"{names} | law | {law}"))
+            self.assertEqual(len(found), count)
 
-    def test_each_word_of_its_page_leads_somewhere(self):
+    def test_each_word_of_its_page_leads_somewhere(self) -> None:
         world = World(ROOT)
-        text = page.page(world, promises.promises(world), evidence.evidence(), tables.kit_words())
-        places = re.findall(r' id="([^"]+)"', text)
-        self.assertEqual(len(places), len(set(places)))
-        self.assertLessEqual(set(re.findall(r'href="#([^"]+)"', text)), set(places))
+        look_at_links(self, page.page(world, promises.promises(world), evidence.evidence(), tables.kit_words()))
 
 
 if __name__ == "__main__":

@@ -1,17 +1,23 @@
 """The words that a definition uses, in the order in which they stand in it.
 
-A name that is bound within is no such word: the variables of a pattern, of `λ`, of `let`, of `(x : A) →` and of the head of a
-record stand for themselves, and hide what goes by the same name outside. Neither is a field after a dot, nor one that is given its
-value (`record { at = t }`).
+A name that is bound within is no such word: the variables of a pattern, of `λ`, of `let`, of `(x : A) →` and of the
+head of a record stand for themselves, and hide what goes by the same name outside. Neither is a field after a dot, nor
+one that is given its value (`record { at = t }`).
 """
 
 import re
+from collections.abc import Callable, Iterable
 from dataclasses import replace
+
+from antt import Definition
 
 TOKEN = re.compile(r'"(?:[^"\\]|\\.)*"|\[\]|[(){}\[\];,]|[^\s(){}\[\];,"]+')
 # What a type has by a trait of Rust, `⟦<PageRef as Ord>⟧`.
 IMPLEMENTED = re.compile(r"⟦[^⟧]*⟧")
 OPEN, CLOSE = "({[", ")}]"
+# Tokens, and a word with what follows it behind dots.
+Tokens = list[str]
+Word = tuple[str, list[str]]
 # Signs and words of the language that name nothing.
 SIGNS = set("→ : = λ let in record where pub abbrev unfoldable opaque data Type _ . , ; | ↦ elim as do ←".split())
 NUMBER = re.compile(r"[\d_]+$")
@@ -19,9 +25,9 @@ NUMBER = re.compile(r"[\d_]+$")
 KIT_CONSTRUCTORS = {"zero", "suc", "true", "false", "[]", "∷", "Some", "None", "Ok", "Err", "tt", "pos", "negsuc"}
 
 
-def tokens_of(lines):
+def tokens_of(lines: Iterable[str]) -> Tokens:
     """The tokens of these lines. The dot behind the names of a `λ` is one of its own."""
-    found = []
+    found: Tokens = []
     for line in lines:
         for token in TOKEN.findall(IMPLEMENTED.sub("", line)):
             if len(token) > 1 and token.endswith(".") and token[0] != '"':
@@ -31,11 +37,12 @@ def tokens_of(lines):
     return found
 
 
-def is_name(token):
+def is_name(token: str) -> bool:
+    """Whether a token may name something."""
     return token not in SIGNS and token[0] not in "(){}[];,\"." and not NUMBER.match(token)
 
 
-def closing(tokens, at):
+def closing(tokens: Tokens, at: int) -> int:
     """Where the bracket at this place is closed."""
     depth = 0
     for place in range(at, len(tokens)):
@@ -45,7 +52,7 @@ def closing(tokens, at):
     return len(tokens)
 
 
-def binder(tokens, at):
+def binder(tokens: Tokens, at: int) -> tuple[Tokens, int]:
     """The names that a bracket at this place binds, `(x y : A)`, or none; and where the `:` stands."""
     end = at + 1
     while end < len(tokens) and (is_name(tokens[end]) or tokens[end] == "_"):
@@ -55,21 +62,23 @@ def binder(tokens, at):
 
 
 class Walk:
-    """A walk over the tokens of a definition. `told` gets each word that is not bound within, with what follows it behind dots."""
+    """A walk over the tokens of a definition. `words` gets each that is not bound within, with what dots add to it."""
 
-    def __init__(self, bound=()):
-        self.scopes, self.told = [set(bound)], []
+    def __init__(self, bound: Iterable[str] = ()) -> None:
+        self.scopes: list[set[str]] = [set(bound)]
+        self.words: list[Word] = []
 
-    def is_bound(self, name):
-        return any(name in it for it in self.scopes)
+    def is_bound(self, name: str) -> bool:
+        """Whether a name is bound within."""
+        return any(name in scope for scope in self.scopes)
 
-    def expression(self, tokens):
+    def expression(self, tokens: Tokens) -> None:
         """Walks over an expression."""
-        at, lets = 0, []
+        at, lets = 0, list[str]()
         while at < len(tokens):
             at = self.step(tokens, at, lets)
 
-    def step(self, tokens, at, lets):
+    def step(self, tokens: Tokens, at: int, lets: list[str]) -> int:
         """Walks over what begins at a place, and gives where the next begins."""
         token = tokens[at]
         if token in "({" and binder(tokens, at)[0]:
@@ -92,37 +101,34 @@ class Walk:
             self.tell(token)
         return at + 1
 
-    def nested(self, tokens, at):
+    def nested(self, tokens: Tokens, at: int) -> int:
         """What stands in brackets has a scope of its own."""
         end = closing(tokens, at)
-        self.scopes.append(set())
         inner = tokens[at + 1 : end]
-        if has_assignments(tokens[at], inner):
-            self.assignments(inner)
+        # A bracket may have fields with their values: `record { at = t }`, `f {x = e}`.
+        if tokens[at] == "{" and len(inner) > 2 and inner[1] == "=":
+            for each in parted(inner, ";"):
+                if len(each) > 2 and each[1] == "=":
+                    self.within(each[2:])
         else:
-            self.expression(inner)
-        self.scopes.pop()
+            self.within(inner)
         return end + 1
 
-    def assignments(self, tokens):
-        """Walks over `field = value; ..`."""
-        for each in parted(tokens, ";"):
-            if len(each) > 2 and each[1] == "=":
-                self.scopes.append(set())
-                self.expression(each[2:])
-                self.scopes.pop()
+    def within(self, tokens: Tokens) -> None:
+        """Walks over an expression that has a scope of its own."""
+        self.scopes.append(set())
+        self.expression(tokens)
+        self.scopes.pop()
 
-    def bind(self, tokens, at):
+    def bind(self, tokens: Tokens, at: int) -> int:
         """A bracket that binds names: its type comes first, and then the names are bound."""
         names, colon = binder(tokens, at)
         end = closing(tokens, at)
-        self.scopes.append(set())
-        self.expression(tokens[colon + 1 : end])
-        self.scopes.pop()
+        self.within(tokens[colon + 1 : end])
         self.scopes[-1].update(names)
         return end + 1
 
-    def function(self, tokens, at):
+    def function(self, tokens: Tokens, at: int) -> int:
         """The names of a `λ`, up to its dot."""
         while at < len(tokens) and tokens[at] != ".":
             if tokens[at] in "({":
@@ -132,14 +138,15 @@ class Walk:
                 at += 1
         return at + 1
 
-    def tell(self, token):
+    def tell(self, token: str) -> None:
+        """Notes a word that is not bound within."""
         # A reserved word may be a name, `«in»`.
         head, *path = token.replace("«", "").replace("»", "").split(".")
         if head and not self.is_bound(head):
-            self.told.append((head, path))
+            self.words.append((head, path))
 
-    def patterns(self, tokens, is_constructor):
-        """Walks over the left side of an equation: constructors are told, and variables are bound."""
+    def patterns(self, tokens: Tokens, is_constructor: Callable[[str], bool]) -> None:
+        """Walks over the left side of an equation: it notes constructors, and binds variables."""
         for token in tokens:
             if is_name(token):
                 if is_constructor(token):
@@ -148,14 +155,10 @@ class Walk:
                     self.scopes[-1].add(token)
 
 
-def has_assignments(bracket, inner):
-    """Whether a bracket has fields with their values: `record { at = t }`, `f {x = e}`."""
-    return bracket == "{" and len(inner) > 2 and inner[1] == "="
-
-
-def parted(tokens, mark):
+def parted(tokens: Tokens, mark: str) -> list[Tokens]:
     """The tokens between marks, where no bracket is open."""
-    parts, depth = [[]], 0
+    parts: list[Tokens] = [[]]
+    depth = 0
     for token in tokens:
         depth += (token in OPEN) - (token in CLOSE)
         if token == mark and not depth:
@@ -165,25 +168,29 @@ def parted(tokens, mark):
     return parts
 
 
-def equation(tokens):
+def equation(tokens: Tokens) -> tuple[Tokens, Tokens]:
     """The two sides of an equation."""
-    left, *rest = parted(tokens, "=")
-    return left, [it for each in rest for it in ["=", *each]][1:]
+    first, *rest = parted(tokens, "=")
+    return first, [token for each in rest for token in ["=", *each]][1:]
 
 
-def pieces(lines):
+def pieces(lines: Iterable[str]) -> list[list[str]]:
     """The head of a definition and its equations: each begins at the left edge."""
-    found = []
+    return grouped(lines, lambda line: not line.startswith(" "))
+
+
+def grouped(lines: Iterable[str], begins: Callable[[str], bool]) -> list[list[str]]:
+    """Lines in groups, each from a line that begins one to the next such line."""
+    found: list[list[str]] = []
     for line in lines:
-        if line.startswith(" ") and found:
-            found[-1].append(line)
-        else:
-            found.append([line])
+        if begins(line) or not found:
+            found.append([])
+        found[-1].append(line)
     return found
 
 
-def head_words(definition, head):
-    """The words of the head of a definition: its type, or the parameters and the fields of a record or the cases of a data."""
+def head_words(definition: Definition, head: list[str]) -> list[Word]:
+    """The words of a definition's head: its type, or the parameters and fields of a record or the cases of a data."""
     tokens = tokens_of(head)
     walk = Walk()
     if definition.section:
@@ -191,50 +198,49 @@ def head_words(definition, head):
     start = tokens.index(definition.name) + 1
     if definition.kind in ("function", "proof"):
         walk.expression(tokens[start + 1 :])
-        return walk.told
+        return walk.words
     where = tokens.index("where")
     walk.expression(tokens[start:where])
     for piece in fields(head):
         each = tokens_of(piece)
         colon = each.index(":")
-        walk.scopes.append(set())
-        walk.expression(each[colon + 1 :])
-        walk.scopes.pop()
+        walk.within(each[colon + 1 :])
         if definition.kind == "record":
             walk.scopes[-1].update(each[:colon])
-    return walk.told
+    return walk.words
 
 
-def fields(head):
+def fields(head: list[str]) -> list[list[str]]:
     """The lines of each field of a record, or of each case of a data."""
     begin = next(place for place, line in enumerate(head) if line.rstrip().endswith("where")) + 1
-    found = []
-    for line in head[begin:]:
-        if line.startswith("   ") and found:
-            found[-1].append(line)
-        else:
-            found.append([line])
-    return found
+    return grouped(head[begin:], lambda line: not line.startswith("   "))
 
 
-def with_field(definition, name):
+def with_field(definition: Definition, name: str) -> Definition | None:
     """A record of which this field alone stands, or nothing where it has no such field."""
     head, *_ = pieces(definition.code)
-    begin = len(head) - sum(map(len, fields(head)))
-    chosen = [it for it in fields(head) if name in tokens_of(it[:1])[: tokens_of(it[:1]).index(":")]]
-    return replace(definition, lines=[*head[:begin], *chosen[0]], part=name) if chosen else None
+    begin = len(head) - sum(len(lines) for lines in fields(head))
+    chosen = [lines for lines in fields(head) if name in tokens_of(lines[:1])[: tokens_of(lines[:1]).index(":")]]
+    comment = [line for part in paragraphs(definition.comment)
+               if not part[0].startswith("-- `") or f"`{name}`" in part[0] for line in part]
+    return replace(definition, comment=comment, lines=[*head[:begin], *chosen[0]], part=name) if chosen else None
 
 
-def words_of(definition, is_constructor):
+def paragraphs(comment: list[str]) -> list[list[str]]:
+    """A comment in parts: its head, and what it says of fields, each of which begins with a field's name."""
+    return grouped(comment, lambda line: line.startswith("-- `"))
+
+
+def words_of(definition: Definition, is_constructor: Callable[[str], bool]) -> list[tuple[str, tuple[str, ...]]]:
     """The words of a definition in their order, each once: the name, and what follows it behind dots."""
     head, *equations = pieces(definition.code)
-    told = head_words(definition, head)
+    used = head_words(definition, head)
     # An operator stands between its sides by the parts of its name.
     own = {definition.name, *definition.name.split("◌")}
     for lines in [] if definition.kind == "proof" else equations:
-        left, right = equation(tokens_of(lines))
+        first, right = equation(tokens_of(lines))
         walk = Walk(name for names in re.findall(r"[({]([\w ]+) :", definition.section) for name in names.split())
-        walk.patterns([it for it in left if it not in own], is_constructor)
+        walk.patterns([token for token in first if token not in own], is_constructor)
         walk.expression(right)
-        told += walk.told
-    return list(dict.fromkeys((head, tuple(path)) for head, path in told if head not in own))
+        used += walk.words
+    return list(dict.fromkeys((head, tuple(path)) for head, path in used if head not in own))
