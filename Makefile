@@ -21,9 +21,12 @@
 #   make long     runs all of these long forms (tests/long.txt) and tries all must-fail edits, and says what each took
 #   make rust     writes the sources as plain Rust, a Cargo workspace and its tarball, into out/rust (rust/README.md)
 #   make twins    builds that too, and gives both programs the same CASES=1000000 lines, disks, requests and command lines
+#   make planted  plants each bug of tests/planted in the plain program, which a check has to notice ('make test' draws some)
 #   make pictures draws the pictures of docs/pictures anew, from runs of the proved program
 #   make bench    measures speed (docs/keepers/BENCH.md has figures; it needs wrk, lighttpd and python3-lmdb of Debian)
 #   make bench-more  measures what changes seldom: digests, `verify`, the writing of lists, and list makers that are killed (it needs jekyll)
+#   make bench-two  measures the proved program and the plain one beside LMDB, SQLite and lighttpd, after `make twins`
+#   make bench-month  measures what fill, mirror and the start of the command take of a processor, beside rsync and wget
 #   make proof-times  tells what each part of the proofs of CRATES="rs_io rs_time" took
 # The targets of what stands around the program are in operations/Makefile.
 
@@ -38,7 +41,7 @@ SYSTEM = $(filter-out operations.tests.system.install,$(shell python3 -m tests.c
 # How many go side by side: checks of edits, if not as many as there are processors and memory for. (`make replicas` reads it too.)
 LANES ?=
 
-.PHONY: demo test quick long setup edits build rows statement bench bench-more proof-times memory ends crash hostile system powercut snapshots rust twins pictures
+.PHONY: demo test quick long setup edits build rows statement bench bench-more bench-two bench-month proof-times memory ends crash hostile system powercut snapshots rust twins planted pictures
 
 # Quick, and no more than an unproved build.
 demo:
@@ -94,6 +97,12 @@ bench-more: build
 	python3 -m bench.lists
 	python3 -m bench.sitemaps
 
+bench-two: build
+	/usr/bin/python3 -m bench.two
+
+bench-month: build
+	python3 -m bench.month
+
 proof-times:
 	@python3 -m bench.proofs $(CRATES)
 
@@ -123,6 +132,9 @@ rust:
 
 twins: build
 	@python3 gate/long.py twins
+
+planted: build
+	@python3 gate/long.py planted
 
 # One check alone, as `make tests.system.calls`.
 tests.% operations.tests.%: build

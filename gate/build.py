@@ -1,8 +1,9 @@
 #!/usr/bin/env python3
-"""Proves and builds the program as the gate does: `rt ci` in a copy that has the program's crates and those below it, without must-fail edits.
+"""Proves and builds the program as the gate does: `rt ci` in a copy of the program's crates, without must-fail edits.
 
-What `rt ci` proves it keeps on this machine by the checksums of all that it read. So after `make test` this proves nothing again, and after
-this `make test` proves only the crates of tests. Nothing runs where the program is made of these files already.
+What `rt ci` proves it keeps on this machine by the checksums of all that it read. So after `make test` this proves
+nothing again, and after this `make test` proves only the crates of tests. Nothing runs where the program is made of
+these files already.
 """
 
 import hashlib
@@ -28,14 +29,12 @@ MADE_OF = BUILT.with_suffix(".made_of")
 
 def copied(root: Path, room: str, names: list[str]) -> Path:
     """A copy of these crates, without must-fail edits, with the list of them. What git ignores is left out."""
-    copy = Path(room, "copy")
-    for name in runs.files_of_repository(root):
-        parts = name.split("/")
-        if name == "HANDLES" or parts[0] == "crates" and parts[1] in names and parts[2] != "must-fail":
-            (copy / name).parent.mkdir(parents=True, exist_ok=True)
-            shutil.copy2(root / name, copy / name)
+    places = tuple(f"crates/{name}/" for name in names)
+    copy = runs.copied(root, room, lambda file: file == "HANDLES" or (
+        file.startswith(places) and "/must-fail/" not in file))
     lines = Path(root, "crates.txt").read_text().splitlines(keepends=True)
-    Path(copy, "crates.txt").write_text("".join(line for line in lines if line.partition(":")[0].split()[:1] in [[name] for name in names]))
+    listed = [line for line in lines if {*line.partition(":")[0].split()[:1]} & {*names}]
+    Path(copy, "crates.txt").write_text("".join(listed))
     return copy
 
 
@@ -81,6 +80,7 @@ def build(names: list[str], copy: Path, room: str) -> list[str]:
 
 def main() -> int:
     """Builds the program, if it is not made of these files already; its path is printed last."""
+    kit.require()
     names = [*kit.below(kit.crates_of(ROOT), PROGRAM), PROGRAM]
     with tempfile.TemporaryDirectory(prefix="build-") as room:
         # The toolchain runs programs as nobody, on copies below this folder.

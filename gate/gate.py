@@ -1,22 +1,25 @@
 #!/usr/bin/env python3
-"""The gate of `make test`. Its last line is 'N passed, M failed', with ', K skipped' where a part or a piece of one could not be tried.
-Its status is 1 where M is not 0. With STRICT=1 what is skipped fails.
+"""The gate of `make test`. Its last line is 'N passed, M failed', with ', K skipped' where a part or a piece of one was
+not tried. Its status is 1 where M is not 0. With STRICT=1 what is skipped fails.
 
-It proves and builds a copy of the repository by the toolchain's own run (`rt ci`), tries the must-fail edits of what changed
-and of two crates more, looks at the program that it proved, and reads texts: docs/keepers/GATE.md has each part, and what fails it.
-N counts crates, edits and the other parts. The minutes of a processor of each part are told before.
+It proves and builds a copy of the repository by the toolchain's own run (`rt ci`), tries the must-fail edits of what
+changed and of two crates more, looks at the program that it proved, and reads texts: docs/keepers/GATE.md has each
+part, and what fails it. N counts crates, edits and the other parts. The minutes of a processor of each part are told
+before.
 """
 
 import os
 import re
-import resource
 import shutil
 import subprocess
 import sys
 import tempfile
+import threading
 import time
-from collections.abc import Callable, Iterable
+from collections.abc import Callable, Iterable, Sequence
+from concurrent.futures import ThreadPoolExecutor
 from pathlib import Path
+from typing import Protocol
 
 ROOT = Path(__file__).resolve().parent.parent
 sys.path[:0] = [str(ROOT / "gate" / "edits"), str(ROOT)]
@@ -26,37 +29,46 @@ import edits
 import kit
 import record
 import runs
+from tests import verdict
 from tests.table import checks
 
 LOG = ROOT / "out" / "test.log"
 # The seconds of each part (`python3 -m tests.checks --note out/seconds.txt` notes those of checks).
-TOOK = ROOT / "out" / "seconds.txt"
+SECONDS = ROOT / "out" / "seconds.txt"
 # A line of Python has at most so many columns.
-WIDTH = 150
+WIDTH = 120
 # What is looked at on the program that cargo builds of the same sources (rust/README.md), and where that lies.
-PLAIN_CHECKS = ["rows", "system.calls", "system.edges", "crash --short", "hostile.disks --short", "hostile.lines --short",
-                "hostile.requests --short", "ends --short"]
+PLAIN_CHECKS = ["rows", "system.calls", "system.edges", "crash --short", "hostile.disks --short",
+                "hostile.lines --short", "hostile.requests --short", "ends --short"]
 PLAIN = "out/rust/ropepeach-plain-*/target/release/rs_source"
-# What comes of a part: how many passed, what failed, and why pieces of it were not tried, if it has such pieces.
-Came = tuple[int, list[str]] | tuple[int, list[str], list[str]]
+# How many of a part passed, what failed, and why pieces of it were not tried, if it has such pieces.
+Result = tuple[int, list[str]] | tuple[int, list[str], list[str]]
 # How a check ends that could not be tried, and how a line says so of a check or of a piece of it, behind its name.
 SKIPPED = 77
 NOT_TRIED = re.compile(r"^[\w .-]+: NOT TRIED\b")
 
 
-def copied(room: str) -> Path:
-    """A copy of the repository's files as they stand, without must-fail edits. What git ignores is left out."""
-    copy = Path(room, "copy")
-    for name in runs.files_of_repository(ROOT):
-        if "/must-fail/" not in name:
-            (copy / name).parent.mkdir(parents=True, exist_ok=True)
-            shutil.copy2(ROOT / name, copy / name)
-    return copy
+class Output:
+    """What the program of a part prints, and the seconds of a processor that it took. It is shown at once, or kept."""
+
+    def __init__(self, is_shown: bool = True) -> None:
+        self.is_shown = is_shown
+        self.lines: list[str] = []
+        self.seconds = 0.0
+
+    def take(self, line: str) -> None:
+        """Takes a line."""
+        if self.is_shown:
+            print(line, end="", flush=True)
+        else:
+            self.lines.append(line)
 
 
-def used() -> float:
-    """The seconds of a processor that the programs took which have ended."""
-    return sum(resource.getrusage(resource.RUSAGE_CHILDREN)[:2])
+class Script(Protocol):
+    """A part that is a program of its own."""
+
+    def __call__(self, output: Output | None = None) -> Result:
+        """Runs it. It prints to this output, or at once."""
 
 
 class Parts:
@@ -68,99 +80,151 @@ class Parts:
         self.skipped: list[str] = []
         # The name of each part, its seconds of a processor, and those on the clock.
         self.rows: list[tuple[str, float, float]] = []
+        self.lock = threading.Lock()
 
-    def run(self, name: str, call: Callable[[], Came]) -> bool:
-        """Runs a part, which gives how many passed and what failed, and why pieces of it were not tried, if it has such pieces."""
+    def run(self, name: str, call: Callable[[], Result]) -> bool:
+        """Runs a part, and gives whether none of it failed."""
         print(f"== {name}", flush=True)
-        before, started = used(), time.time()
-        passed, failed, *skipped = call()
+        before, started = kit.used(), time.time()
+        return self.note(name, call(), kit.used() - before, time.time() - started)
+
+    def note(self, name: str, result: Result, seconds: float, clock: float) -> bool:
+        """Counts a part that has ended. It gives whether none of it failed."""
+        passed, failed, *skipped = result
         self.passed, self.failed = self.passed + passed, self.failed + failed
         self.skipped += [why for each in skipped for why in each]
-        self.rows.append((name, used() - before, time.time() - started))
+        self.rows.append((name, seconds, clock))
         return not failed
+
+    def leave_seconds(self, file: Path) -> None:
+        """Writes the seconds on the clock of each part."""
+        file.parent.mkdir(exist_ok=True)
+        file.write_text("".join(f"{name} {clock:.0f}\n" for name, _, clock in self.rows))
+
+    def run_beside(self, scripts: Sequence[tuple[str, Script]], lanes: int) -> None:
+        """Runs programs, so many at a time. Each is told as it ends, with all that it printed."""
+
+        def one(name: str, call: Script) -> None:
+            output, started = Output(is_shown=lanes == 1), time.time()
+            if output.is_shown:
+                print(f"== {name}", flush=True)
+            result = call(output)
+            with self.lock:
+                print("".join([*[f"== {name}\n"] * (not output.is_shown), *output.lines]), end="", flush=True)
+                self.note(name, result, output.seconds, time.time() - started)
+
+        with ThreadPoolExecutor(lanes) as pool:
+            for ended in [pool.submit(one, *each) for each in scripts]:
+                ended.result()
 
 
 def files_of(*kinds: str, below: Path = ROOT) -> list[Path]:
     """The files of these kinds, without what is built."""
-    return [it for kind in kinds for it in sorted(below.rglob(kind)) if "out" not in it.relative_to(below).parts]
+    return [path for kind in kinds for path in sorted(below.rglob(kind)) if "out" not in path.relative_to(below).parts]
 
 
-def layout() -> Came:
-    """Whether each file of code, specs and proofs is in the toolchain's layout, and no line of Python is longer than WIDTH."""
-    words: list[str | Path] = [f"{kit.folder()}/bin/rattle", "fmt", "--check", *files_of("*.rt", "*.antt", below=ROOT / "crates")]
-    ran = subprocess.run(words, capture_output=True, text=True)
-    wrong = (ran.stdout + ran.stderr).splitlines() or ["the layout was not checked"] if ran.returncode else []
+def layout() -> Result:
+    """Whether each file of code, specs and proofs is in the toolchain's layout, and no line of Python is too long."""
+    wrong = laid_otherwise(files_of("*.rt", "*.antt", below=ROOT / "crates"))
     wrong += [line for file in files_of("*.py") for line in wide(file)]
     return int(not wrong), wrong
 
 
+def laid_otherwise(files: list[Path]) -> list[str]:
+    """What the toolchain says of those of these files that are not in its layout."""
+    words: list[str | Path] = [f"{kit.folder()}/bin/rattle", "fmt", "--check", *files]
+    finished = subprocess.run(words, capture_output=True, text=True)
+    output = (finished.stdout + finished.stderr).splitlines()
+    return output or ["the layout was not checked"] if finished.returncode else []
+
+
 def wide(file: Path) -> list[str]:
-    """The lines of a file that are too long, by number."""
-    return [f"{file}:{at}: more than {WIDTH} columns" for at, line in enumerate(file.read_text().splitlines(), 1) if len(line) > WIDTH]
+    """The lines of a file that have more than WIDTH columns, by number."""
+    lines = enumerate(file.read_text().splitlines(), 1)
+    return [f"{file}:{number}: more than {WIDTH} columns" for number, line in lines if len(line) > WIDTH]
 
 
-def dates() -> Came:
+def dates() -> Result:
     """Whether each line of the record is as old as its crate."""
     old = record.outdated(ROOT)
-    return (0 if old else 1), [f"gate/edits/record.txt is older than {it}: make edits CRATES={it}" for it in old]
+    return int(not old), [f"gate/edits/record.txt is older than {crate}: make edits CRATES={crate}" for crate in old]
 
 
-def fitting() -> Came:
+def fitting() -> Result:
     """Whether each edit still fits the code that it changes."""
-    crates = sorted(it for it in Path(ROOT, "crates").iterdir() if it.is_dir())
-    left = [it.label for crate in crates for it in edit.of_crate(ROOT, crate.name, {}) if edit.applied(it, crate) is None]
-    return (0 if left else 1), [f"{it} fits its code no more" for it in left]
+    crates = sorted(folder for folder in Path(ROOT, "crates").iterdir() if folder.is_dir())
+    every = [(crate, one) for crate in crates for one in edit.of_crate(ROOT, crate.name, {})]
+    unfit = [f"{one.label} fits its code no more" for crate, one in every if edit.applied(one, crate) is None]
+    return int(not unfit), unfit
 
 
-def due() -> list[str]:
-    """The crates whose edits are tried: those that the record does not cover as they stand, and those that the commit picks."""
+def due() -> dict[str, list[str]]:
+    """The edits that are tried, by crate: all of those that the record does not cover as they stand, some of others."""
     commit = subprocess.run(["git", "rev-parse", "HEAD"], cwd=ROOT, capture_output=True, text=True).stdout.strip()
-    return list(dict.fromkeys([*record.uncovered(ROOT), *record.picked(ROOT, commit)]))
+    picked = {name: record.drawn(ROOT, name, commit) for name in record.picked(ROOT, commit)}
+    return picked | {name: record.edits_of(ROOT, name) for name in record.uncovered(ROOT)}
 
 
-def some_edits(copy: Path, names: list[str]) -> Came:
-    """The edits of these crates."""
-    print(f"trying the edits of: {' '.join(names)}", flush=True)
-    for name in names:
-        shutil.copytree(ROOT / "crates" / name / "must-fail", copy / "crates" / name / "must-fail")
-    tried = edits.try_crates(str(copy), names, kit.lanes())
-    every = [it for found in tried.values() for it in found]
-    return sum(it.is_refused for it in every), [it.label for it in every if not it.is_refused]
+def some_edits(copy: Path, tried: dict[str, list[str]]) -> Result:
+    """These edits, by crate."""
+    print(f"trying the edits of: {' '.join(f'{name} ({len(paths)})' for name, paths in tried.items())}", flush=True)
+    for name, paths in tried.items():
+        (copy / "crates" / name / "must-fail").mkdir()
+        for path in paths:
+            shutil.copy2(ROOT / "crates" / name / path, copy / "crates" / name / path)
+    every = [found for edits_of in edits.try_crates(str(copy), tried, kit.lanes()).values() for found in edits_of]
+    return sum(found.is_refused for found in every), [found.label for found in every if not found.is_refused]
 
 
-def script(*words: str | Path, folder: Path | None = None, **settings: str) -> Callable[[], Came]:
-    """A part that is a program of its own, run in a folder with settings of the environment, and passes with status 0. Status SKIPPED
-    says that it could not be tried; a line NOT TRIED says why, or which piece of it could not be."""
-    return lambda: program(sys.executable, words, folder, settings)
+def script(*words: str | Path, folder: Path | None = None, **settings: str) -> Script:
+    """A part that is a program of its own, run in a folder with settings of the environment, and passes with status 0.
+    Status SKIPPED says that it could not be tried; a line NOT TRIED says why, or which piece of it could not be."""
+    return lambda output=None: program(sys.executable, words, folder, settings, output)
 
 
-def program(command: str, words: Iterable[str | Path], folder: Path | None, settings: dict[str, str] | None = None) -> Came:
-    """What comes of a program that runs in a folder, with settings of the environment. None takes another program for ours by it."""
+def program(command: str, words: Iterable[str | Path], folder: Path | None, settings: dict[str, str] | None = None,
+            output: Output | None = None) -> Result:
+    """The result of a program that runs in a folder, with these settings and without the environment's PROGRAM."""
+    output = output or Output()
     name = " ".join(map(str, words)) or command
-    environment = {it: value for it, value in os.environ.items() if it != "PROGRAM"}
+    environment = {key: value for key, value in os.environ.items() if key != "PROGRAM"}
     environment |= {"PYTHONUNBUFFERED": "1", **(settings or {})}
-    told: list[str] = []
-    pipe = subprocess.PIPE
-    with subprocess.Popen([command, *map(str, words)], cwd=folder, stdout=pipe, text=True, errors="replace", env=environment) as ran:
-        for line in ran.stdout or ():
-            print(line, end="", flush=True)
-            told += [line.strip()] if NOT_TRIED.search(line) else []
-    if ran.returncode == SKIPPED:
-        return 0, [], told or [f"{name} does not say why it was not tried"]
-    return (0, [f"{name} ended with status {ran.returncode}"], told) if ran.returncode else (1, [], told)
+    not_tried: list[str] = []
+    with subprocess.Popen([command, *map(str, words)], cwd=folder, stdout=subprocess.PIPE, text=True, errors="replace",
+                          env=environment) as process:
+        for line in process.stdout or ():
+            output.take(line)
+            not_tried += [line.strip()] if NOT_TRIED.search(line) else []
+        _, status, usage = os.wait4(process.pid, 0)
+        process.returncode = os.waitstatus_to_exitcode(status)
+    output.seconds = usage.ru_utime + usage.ru_stime
+    if process.returncode == SKIPPED:
+        return 0, [], not_tried or [f"{name} does not say why it was not tried"]
+    failed = [f"{name} ended with status {process.returncode}"] if process.returncode else []
+    return int(not failed), failed, not_tried
 
 
-def plain(parts: Parts, copy: Path) -> None:
-    """The sources as plain Rust, and what the program that is built of them answers."""
+def plain(parts: Parts, copy: Path) -> list[tuple[str, Script]]:
+    """Builds the sources as plain Rust, and gives the checks of what the program that is built of them answers."""
     parts.run("the eraser's own tests", script("-m", "rust.tests", folder=copy))
     parts.run("plain Rust", script("-m", "rust.build", folder=copy))
     built = str(next(iter(copy.glob(PLAIN)), ""))
-    for name in PLAIN_CHECKS if built else []:
-        module, *form = name.split()
-        parts.run(f"{name}, of the plain program", script("-m", f"tests.{module}", *form, folder=copy, PROGRAM=built))
+    checked = [(name, *name.split()) for name in PLAIN_CHECKS if built]
+    return [(f"{name}, of the plain program", script("-m", f"tests.{module}", *words, folder=copy, PROGRAM=built))
+            for name, module, *words in checked]
 
 
-def types() -> Came:
+def proved(copy: Path) -> list[tuple[str, Script]]:
+    """The checks of the program that was proved."""
+    return [(check.name, script("-m", *check.words, folder=copy)) for check in checks() if check.form != "never"]
+
+
+def beside() -> int:
+    """How many checks go side by side: one for two processors, since some of them measure time."""
+    return max(1, kit.lanes() // 2)
+
+
+def types() -> Result:
     """Whether the types of Python are right, in the files that mypy.ini names, here and in operations/."""
     if not shutil.which("mypy"):
         return 0, [], ["types: NOT TRIED: there is no mypy here"]
@@ -174,20 +238,22 @@ def tell(parts: Parts, meter: runs.Meter, started: float) -> None:
     print("== minutes of a processor, and minutes on the clock")
     for name, seconds, clock in parts.rows:
         print(f"{name}: {seconds / 60:.1f}, {clock / 60:.1f}")
-    TOOK.write_text("".join(f"{name} {clock:.0f}\n" for name, _, clock in parts.rows))
-    print(f"in all: {sum(it[1] for it in parts.rows) / 60:.1f}, {(time.time() - started) / 60:.1f}")
+    parts.leave_seconds(SECONDS)
+    print(f"in all: {sum(row[1] for row in parts.rows) / 60:.1f}, {(time.time() - started) / 60:.1f}")
     print("== seconds of a processor by crate: proofs, tests, compiling, edits")
     for crate in kit.crates_of(ROOT):
-        print(f"{crate}: {', '.join(f'{meter.seconds(crate, it):.0f}' for it in ('proofs', 'tests', 'compiling', 'edits'))}")
+        figures = [f"{meter.seconds(crate, kind):.0f}" for kind in ("proofs", "tests", "compiling", "edits")]
+        print(f"{crate}: {', '.join(figures)}")
 
 
-def announce(uses: dict[str, list[str]], names: list[str]) -> None:
+def announce(uses: dict[str, list[str]], tried: dict[str, list[str]]) -> None:
     """What is about to be done, and about how long it takes."""
     processors, known = kit.lanes(), runs.table()
-    number = sum(len(record.edits_of(ROOT, it)) for it in names)
-    seconds = runs.proving(uses, [*uses], processors, with_tests=True) + number * known["an_edit"][0] / processors + known["all_else"][0]
-    tried = f"tries {number} must-fail edits of {len(names)} crates"
-    what = f"make test: proves {len(uses)} crates and their tests, {tried}, and looks at the program that it proved."
+    number = sum(map(len, tried.values()))
+    seconds = runs.proving(uses, [*uses], processors, with_tests=True)
+    seconds += number * known["an_edit"][0] / processors + known["all_else"][0]
+    what = (f"make test: proves {len(uses)} crates and their tests, tries {number} must-fail edits of {len(tried)} "
+            "crates, and looks at the program that it proved.")
     runs.announce(what, seconds, processors, LOG)
 
 
@@ -196,45 +262,62 @@ def is_strict() -> bool:
     return os.environ.get("STRICT", "") not in ("", "0")
 
 
-def conclude(parts: Parts, is_strict: bool) -> int:
-    """Tells what failed and what was skipped, and gives the status. Who is strict takes what is skipped as failed."""
-    failed = parts.failed + [f"not tried: {it}" for it in parts.skipped] * is_strict
+def concluded(parts: Parts, is_strict: bool) -> tuple[list[str], list[str], str]:
+    """What failed, what was skipped, and the last line. Who is strict takes what is skipped as failed."""
+    failed = parts.failed + [f"not tried: {why}" for why in parts.skipped] * is_strict
     skipped = [] if is_strict else parts.skipped
-    print("".join(f"FAILED: {it}\n" for it in failed) + "".join(f"SKIPPED: {it}\n" for it in skipped), end="")
-    print(f"{parts.passed} passed, {len(failed)} failed" + f", {len(skipped)} skipped" * bool(skipped))
+    return failed, skipped, f"{parts.passed} passed, {len(failed)} failed" + f", {len(skipped)} skipped" * bool(skipped)
+
+
+def conclude(parts: Parts, is_strict: bool) -> int:
+    """Tells what failed and what was skipped, and gives the status."""
+    failed, skipped, line = concluded(parts, is_strict)
+    print("".join(f"FAILED: {why}\n" for why in failed) + "".join(f"SKIPPED: {why}\n" for why in skipped), end="")
+    print(line)
     return 1 if failed else 0
+
+
+def note(parts: Parts, is_strict: bool, before: verdict.State) -> None:
+    """Writes the verdict of this run for a release (out/verdict.json), with what changed since the run began."""
+    failed, skipped, line = concluded(parts, is_strict)
+    state = verdict.joined(before, verdict.state_of(ROOT))
+    counts = parts.passed, tuple(failed), tuple(skipped), line
+    verdict.write(ROOT, verdict.Verdict(state.commit, state.changes, " logic ".join(kit.identity()), *counts))
 
 
 def main() -> int:
     """Runs all parts, and gives the status."""
+    kit.require()
+    # (a run that is stopped leaves none)
+    verdict.drop(ROOT)
+    before = verdict.state_of(ROOT)
     # The set-up installs what the tests use of Debian, or names what is left out.
     if subprocess.run([sys.executable, "-m", "tests.house.setup"], cwd=ROOT).returncode:
         return 1
-    parts, started, uses, names = Parts(), time.time(), kit.crates_of(ROOT), due()
+    parts, started, uses, tried = Parts(), time.time(), kit.crates_of(ROOT), due()
     LOG.parent.mkdir(exist_ok=True)
-    announce(uses, names)
+    announce(uses, tried)
     with tempfile.TemporaryDirectory(prefix="gate-") as room, runs.Meter(room) as meter:
         # The toolchain runs programs as nobody, on copies below this folder.
         os.chmod(room, 0o711)
         os.environ["TMPDIR"] = tempfile.tempdir = room
-        copy = copied(room)
+        copy = runs.copied(ROOT, room, lambda name: "/must-fail/" not in name)
         parts.run("the gate's own tests", script(ROOT / "gate" / "tests"))
         parts.run("the layout", layout)
         parts.run("the texts of edits", fitting)
         parts.run("the record of edits", dates)
-        for name, module in (("the house's own tests", "house"), ("imports", "house.imports"), ("the pages", "house.words")):
-            parts.run(name, script("-m", f"tests.{module}", folder=ROOT))
+        parts.run("the house's own tests", script("-m", "tests.house", folder=ROOT))
+        parts.run("imports", script("-m", "tests.house.imports", folder=ROOT))
+        parts.run("the pages", script("-m", "tests.house.words", folder=ROOT))
         parts.run("types", types)
         parts.run("proofs by hand", script("-m", "tests.house.hand_proofs", folder=copy))
         parts.run("the statement", script(copy / "statement" / "statement.py", "--check"))
         parts.run("the statement's own tests", script(copy / "statement" / "test_statement.py"))
         if parts.run("proofs, tests and builds", lambda: runs.rt_ci(copy, uses, LOG, meter.seconds)):
-            parts.run("must-fail edits", lambda: some_edits(copy, names))
-            plain(parts, copy)
-            for check in checks():
-                if check.form != "never":
-                    parts.run(check.name, script("-m", *check.words, folder=copy))
+            parts.run("must-fail edits", lambda: some_edits(copy, tried))
+            parts.run_beside([*plain(parts, copy), *proved(copy)], beside())
         tell(parts, meter, started)
+    note(parts, is_strict(), before)
     return conclude(parts, is_strict())
 
 

@@ -1,7 +1,8 @@
 #!/usr/bin/env python3
-"""`make long`: the long forms of checks, by the tables long.txt, and all must-fail edits. Its last line is that of `make test`.
+"""`make long`: the long forms of checks, by the tables long.txt, and all must-fail edits.
 
-It runs them on the program of `make build`, says what each took, and leaves the seconds in out/long.txt.
+It runs them on the program of `make build`, says what each took, and leaves the seconds in out/long.txt. Its last line
+is that of `make test`.
 
 usage: python3 gate/long.py [NAME..]     names of checks as in long.txt, or `edits`; all, where none is named
 """
@@ -17,7 +18,7 @@ sys.path[:0] = [str(ROOT / "gate" / "edits"), str(ROOT)]
 import gate
 from tests.table import Long, long_forms
 
-TOOK = ROOT / "out" / "long.txt"
+SECONDS = ROOT / "out" / "long.txt"
 EDITS = "edits"
 # What has to be built before a check, beside the program.
 BEFORE = {"twins": ("plain Rust", "rust.build")}
@@ -36,8 +37,7 @@ def tell(parts: gate.Parts) -> None:
     print("== minutes on the clock")
     for name, _, clock in parts.rows:
         print(f"{name}: {clock / 60:.1f}")
-    TOOK.parent.mkdir(exist_ok=True)
-    TOOK.write_text("".join(f"{name} {clock:.0f}\n" for name, _, clock in parts.rows))
+    parts.leave_seconds(SECONDS)
 
 
 def main(names: list[str]) -> int:

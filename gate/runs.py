@@ -1,9 +1,10 @@
-"""What a long run tells: what is about to be done, about how long it takes, and each crate as it is done: `12 of 33 rs_plan 54 s`."""
+"""What a long run tells: what it is about to do and for how long, and each crate when done: `12 of 33 rs_plan 54 s`."""
 
 import contextlib
 import glob
 import os
 import re
+import shutil
 import subprocess
 import threading
 from collections.abc import Callable, Collection, Mapping
@@ -25,19 +26,28 @@ def files_of_repository(root: str | Path) -> list[str]:
     return [name for name in listed if name and Path(root, name).is_file()]
 
 
+def copied(root: Path, room: str, is_wanted: Callable[[str], bool]) -> Path:
+    """A copy of the files of a repository that are wanted, by their names from its top."""
+    copy = Path(room, "copy")
+    for name in filter(is_wanted, files_of_repository(root)):
+        (copy / name).parent.mkdir(parents=True, exist_ok=True)
+        shutil.copy2(root / name, copy / name)
+    return copy
+
+
 def table() -> dict[str, list[int]]:
     """Seconds of a processor by name."""
-    rows = [it.split() for it in SECONDS.read_text().splitlines() if it and not it.startswith("#")]
-    return {name: [int(it) for it in figures] for name, *figures in rows}
+    rows = [line.split() for line in SECONDS.read_text().splitlines() if line and not line.startswith("#")]
+    return {name: [int(figure) for figure in figures] for name, *figures in rows}
 
 
 def proving(uses: Mapping[str, list[str]], names: Collection[str], processors: int, with_tests: bool = False) -> float:
-    """About how many seconds it takes to prove these crates from nothing on this many processors: at least those of their longest chain."""
+    """About how many seconds these crates take to prove from nothing: at least those of their longest chain."""
     known, ends, total = table(), [0], 0
     chain: dict[str, int] = {}
     for name in uses:
         own, tests = known.get(name, [60, 0]) if name in names else (0, 0)
-        chain[name] = own + max((chain[it] for it in uses[name] if it in chain), default=0)
+        chain[name] = own + max((chain[lower] for lower in uses[name] if lower in chain), default=0)
         ends.append(chain[name] + tests * with_tests)
         total += own + tests * with_tests
     return max(*ends, total / processors)
@@ -45,43 +55,48 @@ def proving(uses: Mapping[str, list[str]], names: Collection[str], processors: i
 
 def announce(what: str, seconds: float, processors: int, log: Path) -> None:
     """The two lines with which a run begins."""
-    took = f"about {round(seconds / 60)} minutes" if seconds > 60 else "less than a minute"
-    print(f"{what}\nThat takes {took} on {processors} of the processors here, and less over kept work. What the toolchain says goes to {log}.",
-          flush=True)
+    duration = f"about {round(seconds / 60)} minutes" if seconds > 60 else "less than a minute"
+    print(f"{what}\nThat takes {duration} on {processors} of the processors here, and less over kept work. "
+          f"What the toolchain says goes to {log}.", flush=True)
 
 
-def rt_ci(copy: str | Path, crates: Collection[str], log: str | Path, seconds: Callable[[str, str], float]) -> tuple[int, list[str]]:
-    """The toolchain's own run in a copy of the repository, with a line for each crate: how many passed, and what failed.
-    All that it says goes to a log, and is shown where it fails. `seconds` gives those of a processor."""
+def rt_ci(copy: str | Path, crates: Collection[str], log: str | Path,
+          seconds: Callable[[str, str], float]) -> tuple[int, list[str]]:
+    """The toolchain's own run in a copy of the repository: how many crates passed, and what failed.
+
+    It prints a line for each crate. All that the toolchain says goes to a log, and is shown where it fails. `seconds`
+    gives those of a processor.
+    """
     number, last = count(1), ""
     since: list[str] = []
-    pipe, same = subprocess.PIPE, subprocess.STDOUT
-    with open(log, "w") as kept, subprocess.Popen([kit.RT, "ci"], cwd=copy, stdout=pipe, stderr=same, text=True, errors="replace") as ran:
-        for line in ran.stdout or ():
-            kept.write(line)
+    with open(log, "w") as output, subprocess.Popen([kit.RT, "ci"], cwd=copy, stdout=subprocess.PIPE, text=True,
+                                                    stderr=subprocess.STDOUT, errors="replace") as process:
+        for line in process.stdout or ():
+            output.write(line)
             since.append(line)
             last = line if line.strip() else last
             if found := DONE.match(line):
-                name, tests, came = found.groups()
-                if came == "NOT PROVED":
+                name, tests, result = found.groups()
+                if result == "NOT PROVED":
                     print("".join(since), end="")
-                took = f"{seconds(name, 'tests' if tests else 'proofs'):.0f} s" if came == "proved" else came
-                print(f"the tests of {name} {took}" if tests else f"{next(number)} of {len(crates)} {name} {took}", flush=True)
+                figure = f"{seconds(name, 'tests' if tests else 'proofs'):.0f} s" if result == "proved" else result
+                front = "the tests of" if tests else f"{next(number)} of {len(crates)}"
+                print(f"{front} {name} {figure}", flush=True)
                 since = []
     ended = re.fullmatch(r"(\d+) passed, (\d+) failed\n", last)
-    if not ran.returncode and ended and not int(ended[2]):
+    if not process.returncode and ended and not int(ended[2]):
         print(last, end="")
         return int(ended[1]), []
     print("".join(since), end="")
-    return 0, [f"rt ci ended with status {ran.returncode}: {last.strip()} ({log} has all that it said)"]
+    return 0, [f"rt ci ended with status {process.returncode}: {last.strip()} ({log} has all that it said)"]
 
 
 class Meter:
-    """Looks at the prover's processes below a folder once a second while it is entered: what the last second of one took is missed."""
+    """Looks at the prover's processes below a folder once a second: what the last second of one took is missed."""
 
     def __init__(self, folder: str | Path) -> None:
         self.folder, self.stop = os.path.realpath(folder), threading.Event()
-        self.seen: dict[tuple[str, str, str, str], float] = {}
+        self.times: dict[tuple[str, str, str, str], float] = {}
 
     def __enter__(self) -> "Meter":
         threading.Thread(target=self.look_on, daemon=True).start()
@@ -93,9 +108,9 @@ class Meter:
     def look_on(self) -> None:
         """Looks at all processes, until it is stopped."""
         while not self.stop.wait(1.0):
-            for it in glob.glob("/proc/[0-9]*"):
+            for process in glob.glob("/proc/[0-9]*"):
                 with contextlib.suppress(OSError):
-                    self.look(it)
+                    self.look(process)
 
     def look(self, process: str) -> None:
         """Looks at one process."""
@@ -103,11 +118,12 @@ class Meter:
         folder = os.readlink(f"{process}/cwd") if "--crate-name" in words else ""
         if folder.startswith(self.folder):
             fields = Path(f"{process}/stat").read_text().rpartition(")")[2].split()
-            kinds = {"tests": "--test" in words, "edits": "/edits-" in folder, "compiling": "--crate-checked" in words, "proofs": True}
+            kinds = {"tests": "--test" in words, "edits": "/edits-" in folder, "compiling": "--crate-checked" in words,
+                     "proofs": True}
             # A process is known by its number and its start.
             key = (process, fields[19], words[words.index("--crate-name") + 1], next(filter(kinds.get, kinds)))
-            self.seen[key] = (int(fields[11]) + int(fields[12])) / os.sysconf("SC_CLK_TCK")
+            self.times[key] = (int(fields[11]) + int(fields[12])) / os.sysconf("SC_CLK_TCK")
 
     def seconds(self, crate: str, kind: str) -> float:
         """Those of a processor that a crate's proofs, its tests, its edits or its compiling took."""
-        return sum(it for key, it in [*self.seen.items()] if key[2:] == (crate, kind))
+        return sum(seconds for key, seconds in [*self.times.items()] if key[2:] == (crate, kind))

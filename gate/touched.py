@@ -13,16 +13,16 @@ ELSEWHERE = {"ropepeach": "operations"}
 
 def changed(root: Path) -> list[str]:
     """The files that are not as the last commit has them: changed, new or gone."""
-    asked = (["diff", "--name-only", "-z", "HEAD"], ["ls-files", "-z", "--others", "--exclude-standard"])
-    told = [subprocess.run(["git", *words], cwd=root, capture_output=True, check=True).stdout.decode() for words in asked]
-    return sorted({name for it in told for name in it.split("\0") if name})
+    commands = (["diff", "--name-only", "-z", "HEAD"], ["ls-files", "-z", "--others", "--exclude-standard"])
+    outputs = [subprocess.run(["git", *words], cwd=root, capture_output=True, check=True).stdout.decode()
+               for words in commands]
+    return sorted({name for output in outputs for name in output.split("\0") if name})
 
 
 def crates(uses: list[str], names: list[str]) -> list[str]:
     """The crates whose code, specs or proofs are among these files, in the order of the crates."""
-    parts = [Path(it).parts for it in names]
-    touched = {it[1] for it in parts if len(it) > 3 and it[0] == "crates" and it[2] in ("src", "specs", "proofs")}
-    return [it for it in uses if it in touched]
+    places = {crate: tuple(f"crates/{crate}/{part}/" for part in ("src", "specs", "proofs")) for crate in uses}
+    return [crate for crate in uses if any(name.startswith(places[crate]) for name in names)]
 
 
 def place_of(root: Path, module: str) -> Path:
@@ -40,7 +40,7 @@ def files_of(root: Path, module: str) -> list[Path]:
 
 @cache
 def imported(file: Path) -> frozenset[str]:
-    """The modules that a file brings in, and the names that it takes of them, as dotted names; none where it is no Python."""
+    """The modules that a file brings in, and the names that it takes of them, dotted; none where it is no Python."""
     found: set[str] = set()
     try:
         tree = ast.parse(file.read_bytes())
@@ -48,23 +48,23 @@ def imported(file: Path) -> frozenset[str]:
         return frozenset()
     for node in ast.walk(tree):
         if isinstance(node, ast.Import):
-            found |= {it.name for it in node.names}
+            found |= {alias.name for alias in node.names}
         elif isinstance(node, ast.ImportFrom) and node.module:
-            found |= {node.module, *(f"{node.module}.{it.name}" for it in node.names)}
+            found |= {node.module, *(f"{node.module}.{alias.name}" for alias in node.names)}
     return frozenset(found)
 
 
 def behind(root: Path, check: Check) -> set[Path]:
     """All files of Python that a check is made of: its own, and what these bring in."""
-    seen: set[Path] = set()
-    left = files_of(root, check.module)
-    while left:
-        file = left.pop()
-        if file not in seen:
-            seen.add(file)
+    found: set[Path] = set()
+    waiting = files_of(root, check.module)
+    while waiting:
+        file = waiting.pop()
+        if file not in found:
+            found.add(file)
             # (a package that is brought in by its name alone brings its first file)
-            left += [it for name in imported(file) for it in own_files(root, name)]
-    return seen
+            waiting += [path for name in imported(file) for path in own_files(root, name)]
+    return found
 
 
 def own_files(root: Path, module: str) -> list[Path]:
@@ -75,6 +75,6 @@ def own_files(root: Path, module: str) -> list[Path]:
 
 def is_touched(root: Path, check: Check, names: list[str]) -> bool:
     """Whether one of these files is a check's own, or brought in by it, or among those that its line names."""
-    own = {str(it.relative_to(root)) for it in behind(root, check)}
-    folders = (f"{check.module.replace('.', '/')}/", *(f"{it}/" for it in check.touched))
-    return any(it in own or it in check.touched or it.startswith(folders) for it in names)
+    own = {str(file.relative_to(root)) for file in behind(root, check)}
+    folders = (f"{check.module.replace('.', '/')}/", *(f"{place}/" for place in check.touched))
+    return any(name in own or name in check.touched or name.startswith(folders) for name in names)

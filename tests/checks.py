@@ -2,8 +2,10 @@
 
 usage: python3 -m tests.checks                 prints the table as tests/README.md has it
        python3 -m tests.checks --write         writes it there anew
-       python3 -m tests.checks --below PACKAGE the modules of the checks below a package that `make test` runs whole, for the Makefile
-       python3 -m tests.checks --note FILE     notes the seconds that `make test` (out/seconds.txt) or `make long` (out/long.txt) took
+       python3 -m tests.checks --below PACKAGE the modules of the checks below a package that `make test` runs whole,
+                                               for the Makefile
+       python3 -m tests.checks --note FILE     notes the seconds that `make test` (out/seconds.txt) or `make long`
+                                               (out/long.txt) took
 """
 
 import argparse
@@ -16,11 +18,15 @@ from tests.table import LONG, PAGE, ROOMS, TABLE, BadTable, Check, checks, folde
 BEGIN, END = "<!-- made from checks.txt: python3 -m tests.checks --write -->", "<!-- end of what is made -->"
 
 
+def row_of(check: Check) -> str:
+    """The row of a check in the table of the page."""
+    form = {"whole": "", "short": " `--short`", "never": ", not in `make test`"}[check.form]
+    return f"| `{check.module}`{form} | {check.holds} | {'' if check.needs == '-' else check.needs} |"
+
+
 def drawn(every: list[Check]) -> str:
     """The table as the page has it."""
-    forms = {"whole": "", "short": " `--short`", "never": ", not in `make test`"}
-    rows = [f"| `{it.module}`{forms[it.form]} | {it.holds} | {'' if it.needs == '-' else it.needs} |" for it in every]
-    return "\n".join(["| check | what it holds the program to | what it needs |", "|---|---|---|", *rows])
+    return "\n".join(["| check | what it holds the program to | what it needs |", "|---|---|---|", *map(row_of, every)])
 
 
 def with_table(page: str, every: list[Check]) -> str:
@@ -32,41 +38,43 @@ def with_table(page: str, every: list[Check]) -> str:
     return f"{before}{BEGIN}\n{drawn(every)}\n{END}{after}"
 
 
-def noted(text: str, took: dict[str, int], at: int = 4) -> str:
+def noted(text: str, seconds: dict[str, int], at: int = 4) -> str:
     """A table with the seconds that were taken in this column of it."""
     found = []
     for line in text.splitlines():
         name = line.partition(" | ")[0].strip()
-        if line in lines(text) and name in took:
+        if line in lines(text) and name in seconds:
             parts = line.split(" | ")
-            line = " | ".join([*parts[:at], str(took[name]), *parts[at + 1 :]])
+            line = " | ".join([*parts[:at], str(seconds[name]), *parts[at + 1 :]])
         found.append(line)
     return "\n".join(found) + "\n"
 
 
 def seconds_of(text: str) -> dict[str, int]:
     """The seconds by check, from lines NAME SECONDS."""
-    pairs = (re.fullmatch(r"([\w.]+) (\d+)", it.strip()) for it in text.splitlines())
-    return {it[1]: int(it[2]) for it in pairs if it}
+    pairs = (re.fullmatch(r"([\w.]+) (\d+)", line.strip()) for line in text.splitlines())
+    return {match[1]: int(match[2]) for match in pairs if match}
 
 
 def main() -> None:
-    said = argparse.ArgumentParser(description=__doc__, formatter_class=argparse.RawDescriptionHelpFormatter)
-    said.add_argument("--write", action="store_true")
-    said.add_argument("--below", metavar="PACKAGE")
-    said.add_argument("--note", type=Path, metavar="FILE")
-    given = said.parse_args()
-    if given.below:
-        print(*(it.module for it in checks() if it.module.startswith(f"{given.below}.") and it.form == "whole"))
-    elif not (given.note or given.write):
+    """Prints the table, or writes it or its seconds."""
+    parser = argparse.ArgumentParser(description=__doc__, formatter_class=argparse.RawDescriptionHelpFormatter)
+    parser.add_argument("--write", action="store_true")
+    parser.add_argument("--below", metavar="PACKAGE")
+    parser.add_argument("--note", type=Path, metavar="FILE")
+    options = parser.parse_args()
+    if options.below:
+        below = [check for check in checks() if check.module.startswith(f"{options.below}.")]
+        print(*(check.module for check in below if check.form == "whole"))
+    elif not (options.note or options.write):
         print(drawn(checks()))
     for room in ROOMS:
         page = folder(room) / PAGE
-        if given.note:
-            name, at = (LONG, 3) if given.note.name == LONG else (TABLE, 4)
+        if options.note:
+            name, at = (LONG, 3) if options.note.name == LONG else (TABLE, 4)
             table = folder(room) / name
-            table.write_text(noted(table.read_text(), seconds_of(given.note.read_text()), at))
-        if given.write:
+            table.write_text(noted(table.read_text(), seconds_of(options.note.read_text()), at))
+        if options.write:
             page.write_text(with_table(page.read_text(), checks(room)))
 
 

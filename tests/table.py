@@ -1,4 +1,4 @@
-"""The tables of checks: checks.txt (what each holds the program to, and what touches it) and long.txt (their long forms)."""
+"""The tables of checks: checks.txt (what each shows and what touches it) and long.txt (their long forms)."""
 
 import shlex
 from collections.abc import Mapping
@@ -49,7 +49,7 @@ def folder(room: str) -> Path:
 
 def parsed(room: str, line: str) -> Check:
     """A line of the table of a package."""
-    parts = [it.strip() for it in line.split(" | ")]
+    parts = [part.strip() for part in line.split(" | ")]
     if len(parts) != 6 or parts[1] not in FORMS or not parts[4].isdigit():
         raise BadTable(f"{room}, {TABLE}: not a line of the table: {line}")
     name, form, holds, needs, seconds, touched = parts
@@ -58,7 +58,7 @@ def parsed(room: str, line: str) -> Check:
 
 def lines(text: str) -> list[str]:
     """The lines of a table that are no comments."""
-    return [it for it in text.splitlines() if it.strip() and not it.startswith("#")]
+    return [line for line in text.splitlines() if line.strip() and not line.startswith("#")]
 
 
 def listed(room: str, text: str) -> list[Check]:
@@ -97,10 +97,14 @@ def parsed_long(room: str, line: str) -> Long:
 
 
 def long_forms() -> dict[str, Long]:
-    """The long forms by the modules of their checks. One that is short in `make test` and has no line runs without words."""
+    """The long forms by the modules of their checks.
+
+    One that is short in `make test` and has no line runs without words.
+    """
     found: dict[str, Long] = {}
     for room in ROOMS:
         listed_forms = [parsed_long(room, line) for line in lines((folder(room) / LONG).read_text())]
         found |= {f"{room}.{form.name}": form for form in listed_forms}
-        found |= {it.module: Long(it.name, "", {}, 0) for it in checks(room) if it.form != "whole" and it.module not in found}
+        found |= {check.module: Long(check.name, "", {}, 0) for check in checks(room)
+                  if check.form != "whole" and check.module not in found}
     return found

@@ -1,7 +1,8 @@
-"""Copies of a function, beside it and each under a name of its own: on them edits of the function are tried, many in one check.
+"""Copies of a function, each beside it under its own name: on them edits of the function are tried, many in one check.
 
-A copy has the function's contract and proof files, and an edit's body. What the prover refuses of it, it would of the function,
-since names alone differ: a function that any other text of the crate's contracts, specs or proofs names is not copied.
+A copy has the function's contract and proof files, and an edit's body. What the prover refuses of it, it would of the
+function, since names alone differ: a function that any other text of the crate's contracts, specs or proofs names is
+not copied.
 """
 
 from __future__ import annotations
@@ -31,40 +32,42 @@ def proof_module(symbol: str) -> str:
 @cache
 def texts_of(folder: str | Path) -> list[tuple[Path, str]]:
     """The texts of a crate's code, specs and proofs, by their files."""
-    return [(it, it.read_text()) for part in ("src", "specs", "proofs") for it in Path(folder, part).rglob("*") if it.is_file()]
+    return [(file, file.read_text()) for part in ("src", "specs", "proofs") for file in Path(folder, part).rglob("*")
+            if file.is_file()]
 
 
 def can_be_copied(edit: Edit, folder: str | Path) -> bool:
     """Whether an edit changes one function alone, whose copy can stand beside it.
-
-    Such a function is no method of a trait, does not call itself, has no proof by hand, and only its own proof files name it.
-    """
+    It is no method of a trait, does not call itself, has no proof by hand, and only its own proof files name it."""
     if edit.function is None or len(edit.symbols) != 1 or len({path for path, _, _ in edit.pairs}) != 1:
         return False
     symbol = next(iter(edit.symbols))
     place, name = Path(folder, proof_folder(symbol)), re.escape(".".join(symbol.split("::")[1:]))
     by_hand = [place / "Proof.antt", place.parent / f"+{place.name}", place.parent / "fn" / place.name]
-    if edit.function.name == "main" or re.search(r"\bfor\b|\Atrait\b", edit.function.block) or any(it.exists() for it in by_hand):
+    is_of_trait = re.search(r"\bfor\b|\Atrait\b", edit.function.block)
+    if edit.function.name == "main" or is_of_trait or any(path.exists() for path in by_hand):
         return False
-    return not any(re.search(rf"\b(?:proofs|contracts)\.{name}\b", text) for file, text in texts_of(folder) if file.parent != place)
+    others = [text for file, text in texts_of(folder) if file.parent != place]
+    return not any(re.search(rf"\b(?:proofs|contracts)\.{name}\b", text) for text in others)
 
 
 def with_copy(texts: Texts, folder: str | Path, edit: Edit, edited: Texts, number: int) -> tuple[Texts, set[str]]:
-    """These texts, with a copy of the function that the edit changes and the copy's proof files; and the copy's symbol, in a set.
-
-    The copy is as `edited` has the function.
-    """
+    """These texts, with a copy of the function that the edit changes, as `edited` has it, and the copy's proof files;
+    and the copy's symbol, in a set."""
     symbol, path = next(iter(edit.symbols)), edit.pairs[0][0]
     text, new_text = texts.get(path) or Path(folder, path).read_text(), edited[path]
     wanted = edit.function
     assert wanted is not None, f"{edit.label} changes no function"
     function, changed = (
-        next(one for one in functions.functions_of(each) if (one.name, one.block) == (wanted.name, wanted.block)) for each in (text, new_text)
+        next(one for one in functions.functions_of(each) if (one.name, one.block) == (wanted.name, wanted.block))
+        for each in (text, new_text)
     )
     name = f"{changed.name}_tried_{number}"
-    copy = f"{new_text[functions.item_of(new_text, changed) : changed.at]}{name}{new_text[changed.at + len(changed.name) : changed.end]}"
+    head = new_text[functions.item_of(new_text, changed) : changed.at]
+    copy = f"{head}{name}{new_text[changed.at + len(changed.name) : changed.end]}"
     texts = {**texts, path: f"{text[:function.end]}\n\n{copy}{text[function.end:]}"}
     copied = f"{symbol.rpartition('::')[0]}::{name}"
     for file in sorted(Path(folder, proof_folder(symbol)).glob("*.antt")):
-        texts[str(proof_folder(copied) / file.name)] = file.read_text().replace(f"{proof_module(symbol)}.", f"{proof_module(copied)}.")
+        proof = file.read_text().replace(f"{proof_module(symbol)}.", f"{proof_module(copied)}.")
+        texts[str(proof_folder(copied) / file.name)] = proof
     return texts, {copied}

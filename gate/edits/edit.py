@@ -27,7 +27,7 @@ class Outcome(Enum):
 
 @dataclass
 class Edit:
-    """An edit of a crate: pairs of texts, the symbols of the functions whose bodies alone it changes, and the first of these functions."""
+    """An edit of a crate: pairs of texts, the symbols of the functions whose bodies alone it changes, the first one."""
 
     label: str
     pairs: list[tuple[str, str, str]]
@@ -46,7 +46,8 @@ class Edit:
 
 
 def of_crate(root: str | Path, name: str, known: Mapping[str, str]) -> list[Edit]:
-    """The edits of a crate, with the goals that are known. A file has lines 'file: PATH', each before pairs of lines 'old: TEXT' and 'new: TEXT'."""
+    """The edits of a crate, with the goals that are known.
+    A file has lines 'file: PATH', each before pairs of lines 'old: TEXT' and 'new: TEXT'."""
     found: list[Edit] = []
     for file in sorted(Path(root, "crates", name, "must-fail").glob("*.edit")):
         pairs: list[tuple[str, str, str]] = []
@@ -65,10 +66,11 @@ def of_crate(root: str | Path, name: str, known: Mapping[str, str]) -> list[Edit
 
 
 def applied(edit: Edit, folder: str | Path, texts: Texts | None = None) -> Texts | None:
-    """The texts of the files that the edit changes, by their paths, on top of these texts. None where it can't be applied."""
+    """These texts with those of the files that the edit changes, by their paths. None where it can't be applied."""
     texts = dict(texts or {})
     for path, old, new in edit.pairs:
-        if path not in texts and re.match(r"(src|specs|proofs)/(?!.*\.\.)", path) and os.path.isfile(f"{folder}/{path}"):
+        is_text = re.match(r"(src|specs|proofs)/(?!.*\.\.)", path) and os.path.isfile(f"{folder}/{path}")
+        if path not in texts and is_text:
             texts[path] = Path(folder, path).read_text()
         text = texts.get(path, "")
         if not old or text.count(old) != 1:
@@ -97,13 +99,13 @@ def look(edit: Edit, folder: str | Path, symbols: Iterable[str]) -> None:
 
 @dataclass
 class Group:
-    """Edits that are tried in one check: the edit of each function or copy by its symbol, and the texts that they make together."""
+    """Edits that are tried in one check: the edit of each function or copy by its symbol, and the texts of all."""
 
     tried: dict[str, Edit] = field(default_factory=dict)
     texts: Texts = field(default_factory=dict)
 
     def takes(self, edit: Edit, folder: str | Path) -> bool:
-        """Takes an edit, on a copy of its function or, where that can't be copied, in its place. False where it can't."""
+        """Takes an edit, on a copy of its function or, where that has none, in its place. False where it can't."""
         texts: Texts | None
         edited = applied(edit, folder)
         if edited and copies.can_be_copied(edit, folder):
@@ -117,7 +119,7 @@ class Group:
 
 
 def grouped(edits: Iterable[Edit], folder: str | Path) -> list[Group]:
-    """Groups of edits, each of which is tried in one check. Those that no copy serves come first, while each text stands once."""
+    """Groups of edits, each tried in one check. Those that no copy serves come first, while each text stands once."""
     groups: list[Group] = []
     for edit in sorted(edits, key=lambda one: copies.can_be_copied(one, folder)):
         if not any(group.takes(edit, folder) for group in groups):

@@ -1,8 +1,9 @@
 #!/usr/bin/env python3
-"""Tries must-fail edits: wrong bodies, each of which the prover has to refuse by a goal of the function that it changes.
+"""Tries must-fail edits: wrong bodies, each of which the prover has to refuse by a goal of the function it changes.
 
-Many edits of bodies are tried in one check, each on a copy of its function where that can be copied, and each is refused by an
-error or an open goal of that very copy. One that has none there is tried once more alone, as is one that changes more.
+Many edits of bodies are tried in one check, each on a copy of its function where that can be copied, and each is
+refused by an error or an open goal of that very copy. One that has none there is tried once more alone, as is one that
+changes more.
 
 Prints a line for each edit. The last line is 'N refused, M not refused', and the status is 1 where M is not 0.
 With --record the file goals.txt is written, and record.txt for the crates of which every edit was refused.
@@ -10,7 +11,6 @@ With --record the file goals.txt is written, and record.txt for the crates of wh
 
 import argparse
 import os
-import resource
 import shutil
 import sys
 import tempfile
@@ -34,11 +34,10 @@ class Trial:
         self.name, self.edits, self.built, self.folder = name, edits, built, f"{built.root}/crates/{name}"
         self.checks, self.seconds = 0, 0.0
 
-    def check(self, room: str, texts: Mapping[str, str], only: Iterable[str] = (), kept: str | None = None) -> kit.Told:
+    def check(self, room: str, texts: Mapping[str, str], only: Iterable[str] = (),
+              work: str | None = None) -> kit.Report:
         """Checks a copy of the crate with these texts in place of its own, or only these functions of it.
-
-        It goes over a copy of the work in the folder `room`, or over the work `kept` itself.
-        """
+        It goes over a copy of the work in the folder `room`, or over this `work` itself."""
         with self.built.turns, tempfile.TemporaryDirectory(prefix="copy-", dir=room) as crate:
             for part in ("src", "specs", "proofs"):
                 if os.path.isdir(f"{self.folder}/{part}"):
@@ -46,114 +45,112 @@ class Trial:
             for path, text in texts.items():
                 Path(crate, path).parent.mkdir(parents=True, exist_ok=True)
                 Path(crate, path).write_text(text)
-            if kept is None:
-                kept = f"{crate}/work"
-                kit.linked_copy(f"{room}/kept", kept)
-            told = kit.check([*self.built.command(self.name, kept), *(word for it in only for word in ("--only", it))], crate)
-        self.checks, self.seconds = self.checks + 1, self.seconds + told.seconds
-        return told
+            if work is None:
+                work = f"{crate}/work"
+                kit.linked_copy(f"{room}/kept", work)
+            symbols = [word for symbol in only for word in ("--only", symbol)]
+            report = kit.check([*self.built.command(self.name, work), *symbols], crate)
+        self.checks, self.seconds = self.checks + 1, self.seconds + report.seconds
+        return report
 
-    def check_each(self, room: str, every: Sequence[tuple[Texts, list[str]]]) -> list[kit.Told]:
+    def check_each(self, room: str, every: Sequence[tuple[Texts, list[str]]]) -> list[kit.Report]:
         """Checks each of these, texts with the functions that are looked at, side by side as turns come free."""
         with ThreadPoolExecutor(max(1, len(every))) as pool:
             return list(pool.map(lambda one: self.check(room, *one), every))
 
-    def can_be_tried(self, it: Edit, room: str, symbols: list[str] | None) -> bool:
+    def can_be_tried(self, one: Edit, room: str, symbols: list[str] | None) -> bool:
         """Whether an edit fits a crate that is proved, with these symbols of its functions; finds what it changes."""
         if symbols is None:
-            it.why = "the crate itself is not proved"
-        elif edit.applied(it, self.folder) is None:
-            it.outcome, it.why = edit.Outcome.NOT_APPLIED, "it has no pair of texts, or an 'old:' text is not in its file once"
+            one.why = "the crate itself is not proved"
+        elif edit.applied(one, self.folder) is None:
+            one.outcome = edit.Outcome.NOT_APPLIED
+            one.why = "it has no pair of texts, or an 'old:' text is not in its file once"
         else:
-            edit.look(it, self.folder, symbols)
-            it.goal, it.others = (it.goal, goals.of_function(f"{room}/kept", *it.symbols)) if len(it.symbols) == 1 else ("", [])
-        return not it.why
+            edit.look(one, self.folder, symbols)
+            is_of_one = len(one.symbols) == 1
+            one.goal = one.goal if is_of_one else ""
+            one.others = goals.of_function(f"{room}/kept", *one.symbols) if is_of_one else []
+        return not one.why
 
     def run(self) -> None:
-        """Tries the crate's edits, once all its functions are proved as they are, by the building of its library or by a check."""
+        """Tries the crate's edits, once its library's build or a check proved all its functions as they are."""
         with tempfile.TemporaryDirectory(prefix="edits-") as room:
             kit.linked_copy(f"{self.folder}/out/incremental", f"{room}/kept")
             symbols = self.built.proved(self.name)
-            if symbols is None and (told := self.check(room, {}, kept=f"{room}/kept")).is_proved:
-                symbols = verdict.proved(told)
-            left = [it for it in self.edits if self.can_be_tried(it, room, symbols)]
-            self.try_together(room, [it for it in left if it.symbols])
-            alone = [it for it in left if not it.is_refused]
-            for it, told in zip(alone, self.check_each(room, [(edit.applied(it, self.folder) or {}, []) for it in alone])):
-                self.judge_alone(it, told)
+            if symbols is None and (report := self.check(room, {}, work=f"{room}/kept")).is_proved:
+                symbols = verdict.proved(report)
+            fitting = [one for one in self.edits if self.can_be_tried(one, room, symbols)]
+            self.try_together(room, [one for one in fitting if one.symbols])
+            alone = [one for one in fitting if not one.is_refused]
+            texts = [edit.applied(one, self.folder) or {} for one in alone]
+            for one, report in zip(alone, self.check_each(room, [(each, []) for each in texts])):
+                self.judge_alone(one, report)
 
     def try_together(self, room: str, edits: list[Edit]) -> None:
         """Tries edits of bodies, many in one check, with all but the known goal of each left out."""
         groups = edit.grouped(edits, self.folder)
         for group in groups:
-            for symbol, it in group.tried.items():
-                group.texts = goals.left_out(group.texts, self.folder, symbol, it)
-        for group, told in zip(groups, self.check_each(room, [(it.texts, [*it.tried]) for it in groups])):
-            self.judge(group, told)
+            for symbol, one in group.tried.items():
+                group.texts = goals.left_out(group.texts, self.folder, symbol, one)
+        for group, report in zip(groups, self.check_each(room, [(each.texts, [*each.tried]) for each in groups])):
+            self.judge(group, report)
 
-    def judge(self, group: Group, told: kit.Told) -> None:
-        """Takes an edit of a group as refused where the check has an error or an open goal of its own functions, or of copies of them.
-
-        The goal that is known is taken first.
-        """
-        found = verdict.read(self.name, told, {symbol: goals.beside(it, self.folder) for symbol, it in group.tried.items()})
+    def judge(self, group: Group, report: kit.Report) -> None:
+        """Takes an edit of a group as refused by an error or an open goal of its own functions, or of copies of them.
+        The goal that is known is taken first."""
+        left_out = {symbol: goals.beside(one, self.folder) for symbol, one in group.tried.items()}
+        found = verdict.read(self.name, report, left_out)
         # An error of a function that none of them changes could come from any: then each is tried alone.
         if found.is_read and {*found.own} <= {*group.tried}:
-            for symbol, it in group.tried.items():
-                if symbol in found.own and (not it.goal or it.goal in found.refused(symbol)):
-                    self.refused(it, symbol, found)
+            for symbol, one in group.tried.items():
+                if symbol in found.own and (not one.goal or one.goal in found.refused(symbol)):
+                    self.refused(one, symbol, found)
 
-    def judge_alone(self, it: Edit, told: kit.Told) -> None:
+    def judge_alone(self, one: Edit, report: kit.Report) -> None:
         """Judges an edit by a check of it alone."""
-        found = verdict.read(self.name, told)
-        own = {symbol: text for symbol, text in found.own.items() if not it.symbols or symbol in it.symbols}
-        if told.is_proved:
-            it.outcome, it.why = edit.Outcome.PROVED, "the crate is still proved with it"
+        found = verdict.read(self.name, report)
+        own = {symbol: text for symbol, text in found.own.items() if not one.symbols or symbol in one.symbols}
+        if report.is_proved:
+            one.outcome, one.why = edit.Outcome.PROVED, "the crate is still proved with it"
         elif not found.is_read:
-            it.outcome, it.why = edit.Outcome.NOT_READ, f"it did not reach the prover: {found.first}"
+            one.outcome, one.why = edit.Outcome.NOT_READ, f"it did not reach the prover: {found.first}"
         elif not own:
-            it.outcome, it.why = edit.Outcome.NO_GOAL, f"no goal of what it changes is left open, so it shows nothing: {found.first}"
+            one.outcome = edit.Outcome.NO_GOAL
+            one.why = f"no goal of what it changes is left open, so it shows nothing: {found.first}"
         else:
-            self.refused(it, next(iter(own)), found, "(alone) ")
+            self.refused(one, next(iter(own)), found, "(alone) ")
 
-    def refused(self, it: Edit, symbol: str, found: verdict.Verdict, how: str = "") -> None:
-        """Notes that an edit is refused, and by which goal: another one than its line has only where that one is not left open."""
-        it.outcome, it.why = edit.Outcome.REFUSED, f"{how}{symbol}: {found.own[symbol]}"
+    def refused(self, one: Edit, symbol: str, found: verdict.Verdict, how: str = "") -> None:
+        """Notes that an edit is refused, and by which goal: its line's own, unless that is not left open."""
+        one.outcome, one.why = edit.Outcome.REFUSED, f"{how}{symbol}: {found.own[symbol]}"
         opened = found.refused(symbol)
-        it.goal = it.goal if it.goal in opened else [*opened, ""][0]
+        one.goal = one.goal if one.goal in opened else [*opened, ""][0]
 
 
-def try_crates(
-    root: str, names: Iterable[str], jobs: int, when_done: Callable[[str, list[Edit]], None] = lambda name, edits: None
-) -> dict[str, list[Edit]]:
+def try_crates(root: str, names: Iterable[str], jobs: int,
+               when_done: Callable[[str, list[Edit]], None] = lambda name, edits: None) -> dict[str, list[Edit]]:
     """Tries the edits of these crates, `jobs` checks side by side, and gives the edits by crate.
-
-    It prints what came of each, and calls `when_done` as each crate is done.
-    """
+    It prints what came of each, and calls `when_done` as each crate is done."""
     built, known = Libraries(root, jobs), goals.known(root)
     trials = [Trial(name, found, built) for name in names if (found := edit.of_crate(root, name, known))]
-    # A crate's own checks go side by side too, so that the last one leaves no processor idle. Those with the most edits begin.
+    # A crate's own checks go side by side too, so that the last leaves no processor idle. Crates of most edits begin.
     with ThreadPoolExecutor(jobs) as pool:
-        running = {pool.submit(it.run): it for it in sorted(trials, key=lambda it: -len(it.edits))}
+        running = {pool.submit(trial.run): trial for trial in sorted(trials, key=lambda trial: -len(trial.edits))}
         for done in as_completed(running):
             trial, _ = running[done], done.result()
-            for it in trial.edits:
-                print(f"{it.outcome.value}: {it.label}: {it.why[:200]}")
-            print(f"-- {trial.name}: {len(trial.edits)} edits by {trial.checks} checks, {trial.seconds:.0f} seconds of a processor", flush=True)
+            for one in trial.edits:
+                print(f"{one.outcome.value}: {one.label}: {one.why[:200]}")
+            count = f"{len(trial.edits)} edits by {trial.checks} checks"
+            print(f"-- {trial.name}: {count}, {trial.seconds:.0f} seconds of a processor", flush=True)
             when_done(trial.name, trial.edits)
-    return {it.name: it.edits for it in trials}
+    return {trial.name: trial.edits for trial in trials}
 
 
 def note(root: str, name: str, edits: list[Edit]) -> None:
-    """Writes by which goal each of a crate's edits was refused, and the record's line of a crate of which every edit was."""
+    """Writes by which goal each of a crate's edits was refused, and its line of the record where every one was."""
     goals.write(root, name, edits)
-    if all(it.is_refused for it in edits):
+    if all(one.is_refused for one in edits):
         record.write(root, [name])
-
-
-def minutes() -> float:
-    """What the checks that have ended took of a processor."""
-    return sum(resource.getrusage(resource.RUSAGE_CHILDREN)[:2]) / 60
 
 
 def main() -> int:
@@ -163,16 +160,19 @@ def main() -> int:
     words.add_argument("--jobs", type=int, default=kit.lanes())
     words.add_argument("--record", action="store_true")
     words.add_argument("crates", nargs="*")
-    given = words.parse_args()
-    names = [it for it in given.crates or kit.crates_of(given.root) if record.edits_of(given.root, it)]
-    if wrong := Libraries(given.root, given.jobs).build_each(names):
+    options = words.parse_args()
+    kit.require()
+    names = [name for name in options.crates or kit.crates_of(options.root) if record.edits_of(options.root, name)]
+    if wrong := Libraries(options.root, options.jobs).build_each(names):
         sys.exit(wrong)
-    built = minutes()
-    tried = try_crates(given.root, names, given.jobs, lambda name, edits: note(given.root, name, edits) if given.record else None)
-    came = [it.is_refused for edits in tried.values() for it in edits]
-    print(f"minutes of a processor: {built:.1f} for crates that were not built, {minutes() - built:.1f} for the edits")
-    print(f"{sum(came)} refused, {len(came) - sum(came)} not refused")
-    return 0 if all(came) else 1
+    built = kit.used() / 60
+    noted = lambda name, edits: note(options.root, name, edits) if options.record else None
+    tried = try_crates(options.root, names, options.jobs, noted)
+    refused = [one.is_refused for edits in tried.values() for one in edits]
+    tries = kit.used() / 60 - built
+    print(f"minutes of a processor: {built:.1f} for crates that were not built, {tries:.1f} for the edits")
+    print(f"{sum(refused)} refused, {len(refused) - sum(refused)} not refused")
+    return 0 if all(refused) else 1
 
 
 if __name__ == "__main__":

@@ -14,7 +14,7 @@ CLAUSE = re.compile(r"(\b(requires|ensures)\s*\*?(\s*\w+)?|\bghost\s+\w+\s*:)\s*
 
 @dataclass(frozen=True)
 class Function:
-    """A function: its name and where that stands, the head of the block around it ('' for none), and where its body begins and ends."""
+    """A function: its name, the name's place, the head of the block around it ('' for none), and its body's ends."""
 
     name: str
     at: int
@@ -25,7 +25,7 @@ class Function:
 
 def blanked(text: str) -> str:
     """The text with blanks in place of comments, strings and characters, at the same places."""
-    return QUIET.sub(lambda it: re.sub(r"[^\n]", " ", it[0]), text)
+    return QUIET.sub(lambda found: re.sub(r"[^\n]", " ", found[0]), text)
 
 
 def closed(code: str, at: int) -> int:
@@ -51,12 +51,12 @@ def functions_of(text: str) -> list[Function]:
     """Each function of a source text that has a body."""
     code = blanked(text)
     found: list[Function] = []
-    blocks = [(it.end(), closed(code, it.end() - 1), it[1]) for it in BLOCK.finditer(code)]
-    for it in re.finditer(r"\bfn\s+(\w+)", code):
-        at = body_of(code, it.end())
+    blocks = [(block.end(), closed(code, block.end() - 1), block[1]) for block in BLOCK.finditer(code)]
+    for name in re.finditer(r"\bfn\s+(\w+)", code):
+        at = body_of(code, name.end())
         if code[at : at + 1] == "{":
-            around = [head for start, end, head in blocks if start <= it.start() < end]
-            found.append(Function(it[1], it.start(1), around[-1] if around else "", at, closed(code, at)))
+            around = [head for start, end, head in blocks if start <= name.start() < end]
+            found.append(Function(name[1], name.start(1), around[-1] if around else "", at, closed(code, at)))
     return found
 
 
@@ -65,17 +65,25 @@ def words_of(head: str) -> list[str]:
     return re.findall(r"\b[A-Za-z]\w*\b(?!\s*::)", re.sub(r"'\w+", "", head))
 
 
+def module_of(path: str) -> list[str]:
+    """The module that a file of code is, by the file's path below src/."""
+    steps = path.removeprefix("src/").removesuffix(".rt").split("/")
+    return [step for step in steps if step not in ("lib", "main", "mod")]
+
+
 def symbol_of(path: str, function: Function, symbols: Iterable[str]) -> str | None:
     """The one symbol of a check's lines that a function of the file can have, or None."""
-    module = [it for it in path.removeprefix("src/").removesuffix(".rt").split("/") if it not in ("lib", "main", "mod")]
+    module = module_of(path)
     head = re.sub(r"\A(impl|trait)\s*(<([^<>]|<[^<>]*>)*>)?", "", function.block.split("where")[0]).strip()
     trait, _, owner = head.rpartition(" for ")
     owner = (words_of(owner) or [""])[0]
     # A method of a plain impl has its type's module, wherever the impl stands.
     is_plain = function.block and not trait
-    parts = [*([] if is_plain else module), *([owner + "".join(words_of(trait))] if function.block else []), function.name]
+    parts = [*([] if is_plain else module), *([owner + "".join(words_of(trait))] if function.block else []),
+             function.name]
     end = "::" + "::".join(parts)
-    found = [it for it in symbols if it.endswith(end) and (is_plain or it.count("::") == end.count("::"))]
+    found = [symbol for symbol in symbols if symbol.endswith(end)]
+    found = [symbol for symbol in found if is_plain or symbol.count("::") == end.count("::")]
     return found[0] if len(found) == 1 and (owner or not function.block) else None
 
 
@@ -88,7 +96,7 @@ def item_of(text: str, function: Function) -> int:
 
 
 def outline(text: str) -> str:
-    """What a source text says to the crates above: all of it but comments and the bodies of functions. (No test says anything to them.)"""
+    """What a source text says to the crates above: all but comments and the bodies of functions."""
     for function in reversed(functions_of(text)):
         if function.end <= len(text):
             text = text[: function.start] + ";" + text[function.end :]

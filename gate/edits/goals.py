@@ -1,7 +1,8 @@
-"""The goal by which each must-fail edit was last seen refused (gate/edits/goals.txt), and how the others are left out of a trial.
+"""The goal by which each must-fail edit was last seen refused (goals.txt), and how a trial leaves out the others.
 
-One open goal refuses an edit, and the prover searches long for all others. So that of an edit's line alone is tried, and refuses
-it: the others get an answer that no check takes. Where it has an answer by hand, all these stay, since one may cite another.
+One open goal refuses an edit, and the prover searches long for all others. So that of an edit's line alone is tried,
+and refuses it: the others get an answer that no check takes. Where it has an answer by hand, all these stay, since one
+may cite another.
 """
 
 from __future__ import annotations
@@ -38,42 +39,46 @@ def known(root: str | Path) -> dict[str, str]:
 def write(root: str | Path, crate: str, edits: Iterable[Edit]) -> None:
     """Writes the lines of a crate's edits anew."""
     lines = {label: goal for label, goal in known(root).items() if not label.startswith(f"{crate}/")}
-    lines.update({it.label: it.goal for it in edits if it.is_refused and it.goal})
+    lines.update({edit.label: edit.goal for edit in edits if edit.is_refused and edit.goal})
     Path(root, FILE).write_text(HEAD + "".join(f"{label}: {lines[label]}\n" for label in sorted(lines)))
 
 
-def of_function(kept: str | Path, symbol: str) -> list[str]:
-    """The goals of a function as it is, by what kept work says that its proof declares. Where that is kept in another way it gives none,
-    which costs only time."""
+def of_function(work: str | Path, symbol: str) -> list[str]:
+    """The goals of a function as it is, by what kept work says that its proof declares: none where that is kept in
+    another way, which costs only time."""
     crate, *names = symbol.split("::")
-    file = next(Path(kept).glob(f"*/Rattle-{crate}-proofs.{'.'.join(names)}.Proof.oantt"), None)
+    file = next(Path(work).glob(f"*/Rattle-{crate}-proofs.{'.'.join(names)}.Proof.oantt"), None)
     declared = DECLARED.search(file.read_bytes()) if file else None
-    found: list[str] = [it["spelling"] for it in json.loads(declared[1])["exports"] if not it["pub"]] if declared else []
-    return [it for it in found if not any(other.startswith(f"{it}-clause-") for other in found)]
+    exports = json.loads(declared[1])["exports"] if declared else []
+    found: list[str] = [each["spelling"] for each in exports if not each["pub"]]
+    return [goal for goal in found if not any(other.startswith(f"{goal}-clause-") for other in found)]
 
 
 def beside(edit: Edit, folder: str | Path) -> list[str]:
-    """The goals that get an answer in a trial of an edit that is none: that of no function alone, where no goal of it is known."""
+    """The goals that get an answer that is none in a trial of an edit: NO_GOAL alone, where no goal of it is known."""
     if not edit.goal:
         return [NO_GOAL]
     answers = Path(folder, copies.proof_folder(next(iter(edit.symbols))), "Answers.antt")
     by_hand = ANSWERED.findall(answers.read_text()) if answers.is_file() else []
     # A goal covers its clauses, and one of them covers it.
-    parts = [goal for goal in edit.others if goal.startswith(f"{edit.goal}-clause-") or edit.goal.startswith(f"{goal}-clause-")]
+    parts = [goal for goal in edit.others
+             if goal.startswith(f"{edit.goal}-clause-") or edit.goal.startswith(f"{goal}-clause-")]
     stay = {*by_hand, edit.goal, *parts}
-    return [*(by_hand if edit.goal not in by_hand else []), *(goal for goal in edit.others if goal not in stay), NO_GOAL]
+    return [*(by_hand if edit.goal not in by_hand else []), *(goal for goal in edit.others if goal not in stay),
+            NO_GOAL]
 
 
 def left_out(texts: Texts, folder: str | Path, symbol: str, edit: Edit) -> Texts:
-    """These texts, with the answers of a function or its copy in which all but the known goal of an edit are left out of its trial.
+    """These texts, with the answers of a function or its copy that leave out all but the known goal of an edit.
     Over an answer to no goal, the prover does not run once more to print what it would offer for the open ones."""
-    place, left = copies.proof_folder(symbol), beside(edit, folder)
+    place, goals = copies.proof_folder(symbol), beside(edit, folder)
     if Path(folder, place.parent, f"+{place.name}").is_dir() or Path(folder, place, "Proof.antt").is_file():
         return texts
     path, module = place / "Answers.antt", f"{copies.proof_module(symbol)}.Goals"
     text = texts.get(str(path)) or (Path(folder, path).read_text() if Path(folder, path).is_file() else "")
-    text = "" if {*ANSWERED.findall(text)} & {*left} else text
+    text = "" if {*ANSWERED.findall(text)} & {*goals} else text
     if not (brought := re.search(rf"(?m)^use {re.escape(module)} as (\w+)", text)):
         text = f"use {module} as goals_of_this_trial\n{text}"
     name = brought[1] if brought else "goals_of_this_trial"
-    return {**texts, str(path): text + "".join(f"\npub {it} : {name}.{it}\n{it} = {NO_ANSWER}\n" for it in left)}
+    answers = [f"\npub {goal} : {name}.{goal}\n{goal} = {NO_ANSWER}\n" for goal in goals]
+    return {**texts, str(path): text + "".join(answers)}

@@ -2,8 +2,10 @@
 
 import os
 import re
+import resource
 import shutil
 import subprocess
+import sys
 from collections.abc import Iterable, Mapping
 from dataclasses import dataclass
 from functools import cache
@@ -14,8 +16,8 @@ RT = os.environ.get("RT", "rt")
 
 
 @dataclass(frozen=True)
-class Told:
-    """What a check told: its exit status and its text, and the seconds of a processor that it took."""
+class Report:
+    """The report of a check: its exit status, its text, and the seconds of a processor that it took."""
 
     status: int
     text: str
@@ -27,22 +29,28 @@ class Told:
         return self.status == 0
 
 
+def require() -> None:
+    """Ends the run in a line where there is no kit."""
+    if not shutil.which(RT):
+        sys.exit(f"there is no Rattle kit here (the command `{RT}`): a release has the built program (README.md)")
+
+
 @cache
 def folder() -> Path:
     """The kit's folder: that of the page that `rt doc` names."""
-    told = subprocess.run([RT, "doc"], capture_output=True, text=True, check=True)
-    return Path(told.stdout.strip()).parent
+    finished = subprocess.run([RT, "doc"], capture_output=True, text=True, check=True)
+    return Path(finished.stdout.strip()).parent
 
 
 def identity() -> tuple[str, str]:
     """The kit's name, and the sum of the program logic that it proves in: several kits can have one logic."""
-    told = subprocess.run([RT, "version"], capture_output=True, text=True, check=True).stdout
-    name, logic = re.findall(r"\A(\S+) logic (\w+)\s*\Z", told)[0]
+    output = subprocess.run([RT, "version"], capture_output=True, text=True, check=True).stdout
+    name, logic = re.findall(r"\A(\S+) logic (\w+)\s*\Z", output)[0]
     return name, logic
 
 
 def lanes() -> int:
-    """How many checks go side by side: one a processor, with 4 GB of free memory for each. None was seen to take more than 3.1 GB."""
+    """How many checks go side by side: one a processor, with 4 GB of free memory each. None took more than 3.1 GB."""
     free = int(re.findall(r"MemAvailable:\s+(\d+)", Path("/proc/meminfo").read_text())[0])
     return max(1, min(len(os.sched_getaffinity(0)), free // 4_000_000))
 
@@ -56,24 +64,29 @@ def crates_of(root: str | Path) -> dict[str, list[str]]:
 def below(uses: Mapping[str, Iterable[str]], name: str) -> list[str]:
     """The repository's crates that this one stands on, near or far, the lowest first."""
     lower = {*uses[name]}
-    for it in reversed([*uses]):
-        lower |= {*uses[it]} if it in lower else set()
-    return [it for it in uses if it in lower]
+    for crate in reversed([*uses]):
+        lower |= {*uses[crate]} if crate in lower else set()
+    return [crate for crate in uses if crate in lower]
 
 
-def check(words: list[str], crate_folder: str | Path) -> Told:
+def check(words: list[str], crate_folder: str | Path) -> Report:
     """Runs a check in a crate's folder."""
     none, pipe, same = subprocess.DEVNULL, subprocess.PIPE, subprocess.STDOUT
-    with subprocess.Popen(words, cwd=crate_folder, errors="replace", stdin=none, stdout=pipe, stderr=same) as ran:
-        text = ran.stdout.read() if ran.stdout else ""
-        _, status, took = os.wait4(ran.pid, 0)
-        ran.returncode = os.waitstatus_to_exitcode(status)
-    return Told(ran.returncode, text, took.ru_utime + took.ru_stime)
+    with subprocess.Popen(words, cwd=crate_folder, errors="replace", stdin=none, stdout=pipe, stderr=same) as process:
+        text = process.stdout.read() if process.stdout else ""
+        _, status, usage = os.wait4(process.pid, 0)
+        process.returncode = os.waitstatus_to_exitcode(status)
+    return Report(process.returncode, text, usage.ru_utime + usage.ru_stime)
 
 
-def linked_copy(kept: str | Path, to: str | Path) -> None:
+def used() -> float:
+    """The seconds of a processor that the programs took which have ended."""
+    return sum(resource.getrusage(resource.RUSAGE_CHILDREN)[:2])
+
+
+def linked_copy(work: str | Path, to: str | Path) -> None:
     """A copy of kept work by links, which serve since the prover replaces files and never writes into one."""
-    if os.path.isdir(kept):
-        shutil.copytree(kept, to, copy_function=os.link)
+    if os.path.isdir(work):
+        shutil.copytree(work, to, copy_function=os.link)
     else:
         os.makedirs(to)

@@ -1,7 +1,8 @@
 """The record of the crates all of whose must-fail edits were seen refused (gate/edits/record.txt).
 
-A crate's line names the kit, and holds a hash of the crate's code, specs, proofs and edits, of what the crates below say to
-it (their source without bodies and comments, and their specs), and of the program logic. `make edits` alone writes it.
+A crate's line names the kit, and holds a hash of the crate's code, specs, proofs and edits, of what the crates below
+say to it (their source without bodies and comments, and their specs), and of the program logic. `make edits` alone
+writes it.
 """
 
 import datetime
@@ -14,14 +15,16 @@ import kit
 import functions
 
 FILE = "gate/edits/record.txt"
-HEAD = "# Crates all of whose must-fail edits were seen refused: name, number of edits, day, kit, hash. Written by `make edits`.\n"
+HEAD = ("# Crates all of whose must-fail edits were seen refused: name, number of edits, day, kit, hash. "
+        "Written by `make edits`.\n")
 # What a text says is read once, however many crates stand above it.
 outline = cache(functions.outline)
 
 
 def files(folder: str | Path, *parts: str) -> list[str]:
     """The paths of the crate's files below these folders, in a fixed order."""
-    return sorted(it.relative_to(folder).as_posix() for part in parts for it in Path(folder, part).rglob("*") if it.is_file())
+    return sorted(file.relative_to(folder).as_posix() for part in parts for file in Path(folder, part).rglob("*")
+                  if file.is_file())
 
 
 def edits_of(root: str | Path, name: str) -> list[str]:
@@ -32,10 +35,12 @@ def edits_of(root: str | Path, name: str) -> list[str]:
 def hash_of(root: str | Path, uses: Mapping[str, list[str]], name: str, logic: str) -> str:
     """The hash that a crate's line of the record must have now."""
     total, crates = hashlib.sha256(logic.encode()), Path(root, "crates")
-    texts = [(it, (crates / name / it).read_bytes()) for it in files(crates / name, "src", "specs", "proofs", "must-fail")]
+    texts = [(file, (crates / name / file).read_bytes())
+             for file in files(crates / name, "src", "specs", "proofs", "must-fail")]
     for lower in kit.below(uses, name):
-        said = [(it, (crates / lower / it).read_text()) for it in files(crates / lower, "src", "specs")]
-        texts += [(f"{lower}/{it}", (outline(text) if it.endswith(".rt") else text).encode()) for it, text in said]
+        for file in files(crates / lower, "src", "specs"):
+            text = (crates / lower / file).read_text()
+            texts.append((f"{lower}/{file}", (outline(text) if file.endswith(".rt") else text).encode()))
     for label, data in [(name, " ".join(uses[name]).encode()), *texts]:
         total.update(f"{label} {len(data)}\n".encode() + data)
     return total.hexdigest()
@@ -44,14 +49,15 @@ def hash_of(root: str | Path, uses: Mapping[str, list[str]], name: str, logic: s
 def lines(root: str | Path) -> dict[str, tuple[str, ...]]:
     """The record's lines by crate: number of edits, day, kit and hash."""
     text = Path(root, FILE).read_text() if Path(root, FILE).is_file() else ""
-    rows = [it.split() for it in text.splitlines() if it and not it.startswith("#")]
-    return {it[0]: tuple(it[1:]) for it in rows if len(it) == 5}
+    rows = [line.split() for line in text.splitlines() if line and not line.startswith("#")]
+    return {row[0]: tuple(row[1:]) for row in rows if len(row) == 5}
 
 
 def uncovered(root: str | Path) -> list[str]:
     """The crates with edits that the record does not cover as they stand."""
     uses, known, (_, logic) = kit.crates_of(root), lines(root), kit.identity()
-    return [name for name in uses if edits_of(root, name) and known.get(name, ("",))[-1] != hash_of(root, uses, name, logic)]
+    return [name for name in uses
+            if edits_of(root, name) and known.get(name, ("",))[-1] != hash_of(root, uses, name, logic)]
 
 
 def outdated(root: str | Path) -> list[str]:
@@ -63,13 +69,18 @@ def outdated(root: str | Path) -> list[str]:
 def picked(root: str | Path, commit: str, number: int = 2) -> list[str]:
     """This many crates with edits that a commit's own hash picks."""
     with_edits = [name for name in kit.crates_of(root) if edits_of(root, name)]
-    return sorted(with_edits, key=lambda it: hashlib.sha256(f"{commit} {it}".encode()).digest())[:number]
+    return sorted(with_edits, key=lambda name: hashlib.sha256(f"{commit} {name}".encode()).digest())[:number]
+
+
+def drawn(root: str | Path, name: str, commit: str, limit: int = 24) -> list[str]:
+    """At most this many edits of a crate, which a commit's own hash draws."""
+    return sorted(edits_of(root, name), key=lambda path: hashlib.sha256(f"{commit} {path}".encode()).digest())[:limit]
 
 
 def write(root: str | Path, names: Iterable[str]) -> None:
     """Writes the lines of these crates anew, and drops those of crates that are gone."""
-    uses, known, (named, logic) = kit.crates_of(root), lines(root), kit.identity()
+    uses, known, (kit_name, logic) = kit.crates_of(root), lines(root), kit.identity()
     today = datetime.date.today().isoformat()
     for name in names:
-        known[name] = (str(len(edits_of(root, name))), today, named, hash_of(root, uses, name, logic))
+        known[name] = (str(len(edits_of(root, name))), today, kit_name, hash_of(root, uses, name, logic))
     Path(root, FILE).write_text(HEAD + "".join(f"{name} {' '.join(known[name])}\n" for name in uses if name in known))

@@ -4,5 +4,6 @@ import sys
 import unittest
 from pathlib import Path
 
-ran = unittest.TextTestRunner(verbosity=2).run(unittest.defaultTestLoader.discover(str(Path(__file__).resolve().parent)))
-sys.exit(not (ran.testsRun and ran.wasSuccessful()))
+tests = unittest.defaultTestLoader.discover(str(Path(__file__).resolve().parent))
+result = unittest.TextTestRunner(verbosity=2).run(tests)
+sys.exit(not (result.testsRun and result.wasSuccessful()))

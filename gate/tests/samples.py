@@ -1,21 +1,24 @@
 """What the tests of the gate have in common: a sample crate, repositories of such crates, and the tables in texts/."""
 
 import contextlib
+import subprocess
 import sys
 import tempfile
+from collections.abc import Iterator
 from pathlib import Path
 
 HERE = Path(__file__).resolve().parent
-sys.path[:0] = [str(HERE.parent), str(HERE.parent / "edits")]
+sys.path[:0] = [str(HERE.parent), str(HERE.parent / "edits"), str(HERE.parents[1])]
 
 
-def text(name):
+def text(name: str) -> str:
+    """The text of this name in texts/."""
     return (HERE / "texts" / f"{name}.txt").read_text()
 
 
-def rows(name):
+def rows(name: str) -> list[list[str]]:
     """The rows of a table, behind the line that says what its columns are."""
-    return [[it.strip() for it in row.split(" |")] for row in text(name).splitlines()[1:]]
+    return [[cell.strip() for cell in row.split(" |")] for row in text(name).splitlines()[1:]]
 
 
 # A crate, and one above it.
@@ -23,11 +26,11 @@ CODE, ABOVE = text("sample"), text("above")
 
 
 @contextlib.contextmanager
-def repository(**crates):
+def repository(**crates: str) -> Iterator[str]:
     """A repository of these crates, each over those before it, with their source texts and an edit each."""
     names = [*crates]
     with tempfile.TemporaryDirectory() as room:
-        Path(room, "crates.txt").write_text("".join(f"{it}: {' '.join(names[:i])}\n" for i, it in enumerate(names)))
+        write("".join(f"{name}: {' '.join(names[:at])}\n" for at, name in enumerate(names)), room, "crates.txt")
         for name, code in crates.items():
             write(code, room, "crates", name, "src/lib.rt")
             write_edit(room, name, "one", "a", "b")
@@ -35,10 +38,26 @@ def repository(**crates):
         yield room
 
 
-def write(text, *path):
-    Path(*path).parent.mkdir(parents=True, exist_ok=True)
-    Path(*path).write_text(text)
+def write(text: str, *path: str | Path) -> Path:
+    """Writes a text to the file of this path, whose folders it makes."""
+    file = Path(*path)
+    file.parent.mkdir(parents=True, exist_ok=True)
+    file.write_text(text)
+    return file
 
 
-def write_edit(room, crate, name, old, new):
+def write_program(text: str, *path: str | Path) -> None:
+    """Writes a program of the shell."""
+    write(f"#!/bin/sh\n{text}", *path).chmod(0o755)
+
+
+def write_edit(room: str, crate: str, name: str, old: str, new: str) -> None:
+    """Writes an edit of a crate."""
     write(f"file: src/lib.rt\nold: {old}\nnew: {new}\n", room, "crates", crate, "must-fail", f"{name}.edit")
+
+
+def commit(folder: Path, subject: str) -> None:
+    """Commits all that is in a folder."""
+    author = ["-c", "user.name=a", "-c", "user.email=a@example.org", "-c", "commit.gpgsign=false"]
+    for words in (["init", "-q"], ["add", "-A"], [*author, "commit", "-q", "-m", subject]):
+        subprocess.run(["git", *words], cwd=folder, check=True, capture_output=True)

@@ -5,17 +5,17 @@ import io
 import subprocess
 import tempfile
 import unittest
+from collections.abc import Callable
 from pathlib import Path
 from unittest import mock
 
-from samples import write
+from samples import write, write_program
 
 import build
 import kit
 
 # A toolchain that proves the program, or does not; it makes the program of the words that its source has.
-RT = """#!/bin/sh
-[ "$1" = version ] && echo 'a-kit logic 1a' && exit
+RT = """[ "$1" = version ] && echo 'a-kit logic 1a' && exit
 echo run >> {room}/runs
 cat crates.txt > {room}/crates
 mkdir -p crates/rs_source/out
@@ -30,33 +30,29 @@ CRATES = "# the lowest first\nlow: std\nlow_tests: low\nother: std\nrs_source: l
 
 class Build(unittest.TestCase):
     def setUp(self) -> None:
-        folder = tempfile.TemporaryDirectory()
-        self.addCleanup(folder.cleanup)
-        self.room = Path(folder.name)
+        self.room = Path(self.enterContext(tempfile.TemporaryDirectory()))
         self.root = self.room / "repository"
-        for name in ("low/src/lib.rt", "low/must-fail/a.edit", "low_tests/src/lib.rt", "other/src/lib.rt", "rs_source/src/main.rt"):
+        for name in ("low/src/lib.rt", "low/must-fail/a.edit", "low_tests/src/lib.rt", "other/src/lib.rt",
+                     "rs_source/src/main.rt"):
             write(f"{name}\n", self.root, f"crates/{name}")
         write(CRATES, self.root, "crates.txt")
         write("Handles allowed: none.\n", self.root, "HANDLES")
         write("out/\n", self.root, ".gitignore")
         subprocess.run(["git", "init", "-q"], cwd=self.root, check=True)
         out = self.root / "crates/rs_source/out"
-        places = {"ROOT": self.root, "LOG": self.root / "out/build.log", "BUILT": out / "rs_source", "MADE_OF": out / "rs_source.made_of"}
-        for name, value in places.items():
+        for name, value in (("ROOT", self.root), ("LOG", self.root / "out/build.log"), ("BUILT", out / "rs_source"),
+                            ("MADE_OF", out / "rs_source.made_of")):
             self.patch(build, name, value)
         self.patch(kit, "RT", f"{self.room}/rt")
         self.toolchain(failed=0)
 
     def patch(self, where: object, name: str, value: object) -> None:
         """Gives a module another value while a test runs."""
-        patched = mock.patch.object(where, name, value)
-        patched.start()
-        self.addCleanup(patched.stop)
+        self.enterContext(mock.patch.object(where, name, value))
 
     def toolchain(self, failed: int) -> None:
         """Sets the toolchain up, which fails where `failed` is 1."""
-        write(RT.format(room=self.room, failed=failed), self.room, "rt")
-        Path(self.room, "rt").chmod(0o755)
+        write_program(RT.format(room=self.room, failed=failed), self.room, "rt")
 
     def built(self) -> tuple[int, str]:
         """The status of `make build`, and its last line."""
@@ -86,7 +82,7 @@ class Build(unittest.TestCase):
         self.built()
         self.built()
         self.assertEqual(self.runs(), 1)
-        changes = (
+        changes: tuple[Callable[[], object], ...] = (
             lambda: write("changed\n", self.root, "crates/low/src/lib.rt"),
             lambda: write("new\n", self.root, "crates/rs_source/specs/New.antt"),
             lambda: write("Handles allowed: Net.\n", self.root, "HANDLES"),
@@ -102,7 +98,8 @@ class Build(unittest.TestCase):
 
     def test_it_does_not_run_for_what_the_program_is_not_made_of(self) -> None:
         self.built()
-        for name in ("crates/other/src/lib.rt", "crates/low_tests/src/lib.rt", "crates/low/must-fail/a.edit", "docs/A.md"):
+        for name in ("crates/other/src/lib.rt", "crates/low_tests/src/lib.rt", "crates/low/must-fail/a.edit",
+                     "docs/A.md"):
             write("changed\n", self.root, name)
         self.built()
         self.assertEqual(self.runs(), 1)
@@ -114,7 +111,3 @@ class Build(unittest.TestCase):
         self.assertEqual(self.built()[0], 1)
         self.assertEqual(build.BUILT.read_text(), "low/src/lib.rt\nrs_source/src/main.rt\n")
         self.assertEqual(self.built()[0], 1)
-
-
-if __name__ == "__main__":
-    unittest.main()

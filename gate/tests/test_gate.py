@@ -7,17 +7,20 @@ import subprocess
 import sys
 import tempfile
 import unittest
+from collections.abc import Callable
 from pathlib import Path
 from unittest import mock
 
-from samples import CODE, repository, text, write, write_edit
+from samples import CODE, repository, text, write, write_edit, write_program
 
 import gate
 import kit
 import runs
+from tests.table import checks
 
-# A toolchain by which one crate is proved, one is kept and the tests of one are proved; and what it may say of another one.
-RAN, FAILED = text("told_by_rt_ci"), "== high\nof high\nrt: high NOT PROVED\nwhat else failed\n"
+# What a toolchain says that proves one crate, keeps one and proves the tests of one; what it may say of another one.
+PROVED, FAILED = text("told_by_rt_ci"), "== high\nof high\nrt: high NOT PROVED\nwhat else failed\n"
+SHOWN = FAILED.replace("what", "3 of 3 high NOT PROVED\nwhat")
 # Checks that need more than Python.
 WITH_TOOLS = """
 operations.tests.page
@@ -28,150 +31,184 @@ tests.system.tour
 tests.powercut
 operations.tests.replicas
 """.split()
+# Runs a module as one that finds no tool on its search path.
+WITHOUT_TOOLS = """
+import os, runpy, shutil
+shutil.which = lambda *_, **__: None
+runpy.run_module('{name}', run_name='__main__', alter_sys=True)
+"""
+
+
+def result_of(file: Path) -> tuple[int, list[str], list[str], str]:
+    """The result of a part that is this program, and what it prints."""
+    with contextlib.redirect_stdout(io.StringIO()) as out:
+        passed, failed, *skipped = gate.script(file)()
+    return passed, failed, [why for each in skipped for why in each], out.getvalue()
+
+
+def run_here(*words: str, **environment: str) -> "subprocess.CompletedProcess[str]":
+    """Runs Python at the top of the repository in this environment alone."""
+    return subprocess.run([sys.executable, *words], cwd=gate.ROOT, env=environment, capture_output=True, text=True)
 
 
 class Parts(unittest.TestCase):
-    def test_an_edit_that_fits_no_more_is_told(self):
+    def setUp(self) -> None:
+        self.room = self.enterContext(tempfile.TemporaryDirectory())
+
+    def test_an_edit_that_fits_no_more_is_told(self) -> None:
         with repository(low=CODE) as room, mock.patch.object(gate, "ROOT", Path(room)):
-            for name, old, wanted in (("one", "x - x", (1, [])), ("two", "x - y", (0, ["low/two fits its code no more"]))):
-                write_edit(room, "low", name, old, "x")
-                self.assertEqual(gate.fitting(), wanted)
+            write_edit(room, "low", "one", "x - x", "x")
+            self.assertEqual(gate.fitting(), (1, []))
+            write_edit(room, "low", "two", "x - y", "x")
+            self.assertEqual(gate.fitting(), (0, ["low/two fits its code no more"]))
 
-    def test_a_long_line_of_python_is_told(self):
-        with tempfile.TemporaryDirectory() as room:
-            write(f"#{'x' * 149}\n#{'x' * 150}\n#\n", room, "it.py")
-            self.assertEqual(gate.wide(Path(room, "it.py")), [f"{room}/it.py:2: more than 150 columns"])
-            write("\n", room, "out/it.py")
-            self.assertEqual(gate.files_of("*.py", below=Path(room)), [Path(room, "it.py")])
+    def test_a_long_line_of_python_is_told(self) -> None:
+        file = write(f"#{'x' * 119}\n#{'x' * 120}\n#\n", self.room, "it.py")
+        self.assertEqual(gate.wide(file), [f"{file}:2: more than 120 columns"])
+        write("\n", self.room, "out/it.py")
+        self.assertEqual(gate.files_of("*.py", below=Path(self.room)), [file])
 
-    def test_what_the_layout_tells(self):
-        """A file that the toolchain would lay out otherwise, a toolchain that tells nothing, lines of Python that are too long."""
-        wide, unread = ["it.py:2: more than 150 columns"], ["the layout was not checked"]
-        rows = [(0, "", [], (1, [])), (1, "a.rt\n", [], (0, ["a.rt"])), (1, "", [], (0, unread)), (0, "", wide, (0, wide))]
-        for status, told, lines, wanted in rows:
-            ran = mock.Mock(returncode=status, stdout=told, stderr="")
-            with mock.patch.object(gate.subprocess, "run", lambda *words, **how: ran), mock.patch.object(gate, "wide", lambda file: lines):
-                with mock.patch.object(gate, "files_of", lambda *kinds, **how: ["it"]):
-                    self.assertEqual(gate.layout(), wanted)
+    def test_what_the_layout_tells(self) -> None:
+        """A file that is laid out otherwise, a toolchain that tells nothing, lines of Python that are too long."""
+        wide, unread = ["it.py:2: more than 120 columns"], ["the layout was not checked"]
+        none: list[str] = []
+        for status, output, lines, wanted in ((0, "", none, (1, none)), (1, "a.rt\n", none, (0, ["a.rt"])),
+                                              (1, "", none, (0, unread)), (0, "", wide, (0, wide))):
+            finished = mock.Mock(returncode=status, stdout=output, stderr="")
+            with (mock.patch.object(subprocess, "run", lambda *words, **how: finished),
+                  mock.patch.multiple(gate, wide=lambda file: lines, files_of=lambda *kinds, **how: ["it"])):
+                self.assertEqual(gate.layout(), wanted)
 
-    def test_a_part_that_is_a_program_passes_by_its_status(self):
-        with tempfile.TemporaryDirectory() as room:
-            for status, wanted in ((0, (1, 0, 0)), (1, (0, 1, 0)), (3, (0, 1, 0)), (77, (0, 0, 1)), (None, (0, 1, 0))):
-                if status is not None:
-                    write(f"raise SystemExit({status})\n", room, f"ends_{status}.py")
-                passed, failed, skipped = self.ran(Path(room, f"ends_{status}.py"))
-                self.assertEqual((passed, len(failed), len(skipped)), wanted)
+    def test_a_part_that_is_a_program_passes_by_its_status(self) -> None:
+        for status, wanted in ((0, (1, 0, 0)), (1, (0, 1, 0)), (3, (0, 1, 0)), (77, (0, 0, 1))):
+            file = write(f"raise SystemExit({status})\n", self.room, f"ends_{status}.py")
+            passed, failed, skipped, _ = result_of(file)
+            self.assertEqual((passed, len(failed), len(skipped)), wanted)
+        passed, failed, skipped, _ = result_of(Path(self.room, "is_not_there.py"))
+        self.assertEqual((passed, len(failed), len(skipped)), (0, 1, 0))
 
-    def ran(self, file):
-        """What came of a part that is this program; what it prints is left out."""
-        with contextlib.redirect_stdout(io.StringIO()) as out:
-            came = gate.script(file)()
-        self.told = out.getvalue()
-        return came
-
-    def test_a_part_that_was_not_tried_is_no_pass(self):
-        """A part that could not be tried, one of which a piece could not be, and one that fails beside; lines that only look so."""
+    def test_a_part_that_was_not_tried_is_no_pass(self) -> None:
+        """A part that could not be tried, one of which a piece could not be, and one that fails beside; lines that only
+        look so."""
         why, piece = "page: NOT TRIED: there is no chromium here", "it_is_clean: NOT TRIED, as there is no mandoc here"
-        rows = [(why, 77, (0, 0, [why])), (piece, 0, (1, 0, [piece])), (why, 1, (0, 1, [why])), ("NOT TRIED: low/one", 0, (1, 0, [])),
-                ("all is tried", 0, (1, 0, [])), ("a page says NOT TRIED where it must", 0, (1, 0, []))]  # fmt: skip
-        with tempfile.TemporaryDirectory() as room:
-            for line, status, wanted in rows:
-                write(f"print({line!r})\nraise SystemExit({status})\n", room, "check.py")
-                passed, failed, skipped = self.ran(Path(room, "check.py"))
-                self.assertEqual((passed, len(failed), skipped), wanted)
-                self.assertEqual(self.told, f"{line}\n")
+        none: list[str] = []
+        for line, status, wanted in (
+            (why, 77, (0, 0, [why])), (piece, 0, (1, 0, [piece])), (why, 1, (0, 1, [why])),
+            ("NOT TRIED: low/one", 0, (1, 0, none)), ("all is tried", 0, (1, 0, none)),
+            ("a page says NOT TRIED where it must", 0, (1, 0, none)),
+        ):
+            file = write(f"print({line!r})\nraise SystemExit({status})\n", self.room, "check.py")
+            passed, failed, skipped, output = result_of(file)
+            self.assertEqual((passed, len(failed), skipped), wanted)
+            self.assertEqual(output, f"{line}\n")
 
-    def test_what_is_skipped_is_told_and_fails_who_is_strict(self):
+    def test_what_is_skipped_is_told_and_fails_who_is_strict(self) -> None:
         """The last line and the status: all is tried, something is not, and it is asked for strictly."""
-        rows = [([], [], False, "2 passed, 0 failed\n", 0), ([], ["so"], False, "SKIPPED: so\n2 passed, 0 failed, 1 skipped\n", 0),
-                ([], ["so"], True, "FAILED: not tried: so\n2 passed, 1 failed\n", 1), ([], [], True, "2 passed, 0 failed\n", 0),
-                (["it"], ["so"], False, "FAILED: it\nSKIPPED: so\n2 passed, 1 failed, 1 skipped\n", 1)]  # fmt: skip
-        for failed, skipped, is_strict, wanted, status in rows:
+        none: list[str] = []
+        for failed, skipped, is_strict, wanted, status in (
+            (none, none, False, "2 passed, 0 failed\n", 0), (none, none, True, "2 passed, 0 failed\n", 0),
+            (none, ["so"], False, "SKIPPED: so\n2 passed, 0 failed, 1 skipped\n", 0),
+            (none, ["so"], True, "FAILED: not tried: so\n2 passed, 1 failed\n", 1),
+            (["it"], ["so"], False, "FAILED: it\nSKIPPED: so\n2 passed, 1 failed, 1 skipped\n", 1),
+        ):
             parts = gate.Parts()
             parts.passed, parts.failed, parts.skipped = 2, failed, skipped
             with contextlib.redirect_stdout(io.StringIO()) as out:
                 self.assertEqual(gate.conclude(parts, is_strict), status)
             self.assertEqual(out.getvalue(), wanted)
 
-    def test_each_check_that_has_not_its_tools_says_so(self):
+    def test_each_check_that_has_not_its_tools_says_so(self) -> None:
         """Checks on a machine with no tool but Python: each says what it lacks, and none passes."""
-        with tempfile.TemporaryDirectory() as room:
-            for name in WITH_TOOLS:
-                ran = self.without_tools(name, room)
-                self.assertEqual((name, ran.returncode), (name, gate.SKIPPED))
-                self.assertTrue(any(map(gate.NOT_TRIED.search, ran.stdout.splitlines())), ran.stdout)
+        for name in WITH_TOOLS:
+            finished = run_here("-c", WITHOUT_TOOLS.format(name=name), PATH=self.room, HOME=self.room)
+            self.assertEqual((name, finished.returncode), (name, gate.SKIPPED))
+            self.assertTrue(any(map(gate.NOT_TRIED.search, finished.stdout.splitlines())), finished.stdout)
 
-    def without_tools(self, name, room):
-        """A check with a search path of no folder with tools, as far as it looks for them there."""
-        words = [sys.executable, "-c", f"import os, runpy, shutil\nshutil.which = lambda *_, **__: None\nrunpy.run_module('{name}', "
-                 "run_name='__main__', alter_sys=True)"]  # fmt: skip
-        return subprocess.run(words, cwd=gate.ROOT, env={"PATH": room, "HOME": room}, capture_output=True, text=True)
+    def test_the_plain_program_is_looked_at_where_it_was_built(self) -> None:
+        parts, made = gate.Parts(), [("rust.tests", None), ("rust.build", None)]
+        with mock.patch.object(gate, "program", return_value=(1, [], [])) as program:
+            self.assertEqual(gate.plain(parts, Path(self.room)), [])
+            self.assertEqual(program.call_count, len(made))
+            built = write("", self.room, "out/rust/ropepeach-plain-1/target/release/rs_source")
+            parts.run_beside(gate.plain(parts, Path(self.room)), 1)
+        calls = [(call.args[1][1], call.args[3].get("PROGRAM")) for call in program.call_args_list]
+        self.assertEqual(calls, made + made + [(f"tests.{name.split()[0]}", str(built)) for name in gate.PLAIN_CHECKS])
 
-    def test_the_plain_program_is_looked_at_where_it_was_built(self):
-        ran, parts, made = [], gate.Parts(), [("rust.tests", None), ("rust.build", None)]
+    def test_no_part_takes_another_program_by_the_environment(self) -> None:
+        with mock.patch.dict(os.environ, PROGRAM="another"):
+            file = write("import os, sys\nsys.exit('PROGRAM' in os.environ)\n", self.room, "looks.py")
+            self.assertEqual(result_of(file)[0], 1)
 
-        def program(command, words, folder, settings=None):
-            ran.append((words[1], (settings or {}).get("PROGRAM")))
-            return 1, [], []
-
-        with tempfile.TemporaryDirectory() as room, mock.patch.object(gate, "program", program):
-            built = Path(room, "out/rust/ropepeach-plain-1/target/release/rs_source")
-            gate.plain(parts, Path(room))
-            self.assertEqual(ran, made)
-            built.parent.mkdir(parents=True)
-            built.touch()
-            gate.plain(parts, Path(room))
-        self.assertEqual(ran, made + made + [(f"tests.{it.split()[0]}", str(built)) for it in gate.PLAIN_CHECKS])
-
-    def test_no_part_takes_another_program_by_the_environment(self):
-        with tempfile.TemporaryDirectory() as room, mock.patch.dict(os.environ, PROGRAM="another"):
-            file = Path(room, "looks.py")
-            file.write_text("import os, sys\nsys.exit('PROGRAM' in os.environ)\n")
-            self.assertEqual(self.ran(file)[0], 1)
-
-    def test_parts_are_counted_and_a_failed_one_stops_none(self):
+    def test_parts_are_counted_and_a_failed_one_stops_none(self) -> None:
         parts = gate.Parts()
-        some = [("one", lambda: (2, [])), ("two", lambda: (0, ["it"])), ("three", lambda: (1, []))]
-        self.assertEqual([parts.run(*it) for it in some], [True, False, True])
+        some: list[tuple[str, Callable[[], gate.Result]]] = [
+            ("one", lambda: (2, [])), ("two", lambda: (0, ["it"])), ("three", lambda: (1, []))]
+        self.assertEqual([parts.run(*each) for each in some], [True, False, True])
         self.assertEqual((parts.passed, parts.failed, len(parts.rows)), (3, ["it"], 3))
 
-    def test_each_check_has_a_program(self):
-        self.assertGreater(len(gate.checks()), 30)
-        for check in gate.checks():
+    def test_parts_that_run_beside_others_are_counted_and_shown_whole(self) -> None:
+        """One at a time and three at a time: what each prints stands together behind its name, and each is counted."""
+        statuses = {"one": 0, "two": 1, "three": 77}
+        scripts = [(name, gate.script(Path(self.room, f"{name}.py"))) for name in statuses]
+        for name, status in statuses.items():
+            write(f"import time\nfor line in 'ab':\n    print('{name}', line, flush=True)\n    time.sleep(0.1)\n"
+                  f"sum(range(10**6))\nraise SystemExit({status})\n", self.room, f"{name}.py")
+        for lanes in (1, 3):
+            parts = gate.Parts()
+            with contextlib.redirect_stdout(io.StringIO()) as out:
+                parts.run_beside(scripts, lanes)
+            blocks = {f"{name}\n{name} a\n{name} b\n" for name in statuses}
+            self.assertEqual({*out.getvalue().split("== ")} - {""}, blocks)
+            self.assertEqual((parts.passed, len(parts.failed), len(parts.skipped), len(parts.rows)), (1, 1, 1, 3))
+            self.assertTrue(all(0 < seconds < clock + 1 for _, seconds, clock in parts.rows))
+
+    def test_a_fault_of_the_gate_beside_others_ends_it(self) -> None:
+        def script(output: gate.Output | None = None) -> gate.Result:
+            return 1 // 0, []
+
+        with self.assertRaises(ZeroDivisionError), contextlib.redirect_stdout(io.StringIO()):
+            gate.Parts().run_beside([("one", script)], 2)
+
+    def test_each_check_has_a_program(self) -> None:
+        self.assertGreater(len(checks()), 30)
+        for check in checks():
             place = Path(gate.ROOT, *check.module.split("."))
             self.assertTrue(place.with_suffix(".py").is_file() or (place / "__main__.py").is_file(), check.name)
 
-    def test_what_has_no_tool_is_told_by_name(self):
+    def test_what_has_no_tool_is_told_by_name(self) -> None:
         """The look at operations/install/ with no tool but the shell: what needs one says so, and fails nothing."""
-        with tempfile.TemporaryDirectory() as room:
-            words = [sys.executable, "-m", "operations.tests.system.install", "/bin/true", "the_page_is_clean", "the_page_has_every_word"]
-            ran = subprocess.run(words, cwd=gate.ROOT, env={"PATH": room}, capture_output=True, text=True)
-        self.assertRegex(ran.stdout, r"the_page_is_clean: NOT TRIED, as there is no mandoc here\n(?s:.*)not tried, 1\n")
+        finished = run_here("-m", "operations.tests.system.install", "/bin/true", "the_page_is_clean",
+                            "the_page_has_every_word", PATH=self.room)
+        wanted = r"the_page_is_clean: NOT TRIED, as there is no mandoc here\n(?s:.*)not tried, 1\n"
+        self.assertRegex(finished.stdout, wanted)
 
 
 class Telling(unittest.TestCase):
-    def test_each_crate_is_told_and_what_fails_is_shown(self):
-        """What the toolchain says of a crate that is not proved, and at its end where it fails; the log has all of it."""
-        for said, status, came, shown in (
-            (RAN + "9 passed, 0 failed\n", 0, (9, 0), "9 passed, 0 failed\n"),
-            (RAN + FAILED + "9 passed, 1 failed\n", 1, (0, 1), FAILED.replace("what", "3 of 3 high NOT PROVED\nwhat") + "9 passed, 1 failed\n"),
-            (RAN + "9 passed, 0 failed\n", 1, (0, 1), "9 passed, 0 failed\n"),
-            (RAN + "9 passed, 1 failed\n", 0, (0, 1), "9 passed, 1 failed\n"),
-            (RAN + "it broke off\n", 0, (0, 1), "it broke off\n"),
+    def test_each_crate_is_told_and_what_fails_is_shown(self) -> None:
+        """What the toolchain says of a crate that is not proved, and at its end where it fails; the log has it all."""
+        ended, not_all, broke = "9 passed, 0 failed\n", "9 passed, 1 failed\n", "it broke off\n"
+        for output, status, counts, shown in (
+            (PROVED + ended, 0, (9, 0), ended), (PROVED + FAILED + not_all, 1, (0, 1), SHOWN + not_all),
+            (PROVED + ended, 1, (0, 1), ended), (PROVED + not_all, 0, (0, 1), not_all),
+            (PROVED + broke, 0, (0, 1), broke),
         ):
-            with tempfile.TemporaryDirectory() as room, contextlib.redirect_stdout(io.StringIO()) as out, mock.patch.object(kit, "RT", f"{room}/rt"):
-                write(f"#!/bin/sh\ncat <<'END'\n{said}END\nexit {status}\n", room, "rt")
-                Path(room, "rt").chmod(0o755)
-                passed, failed = runs.rt_ci(room, ["low", "middle", "high"], f"{room}/log", lambda name, kind: {"proofs": 54.4, "tests": 7}[kind])
-                self.assertEqual((passed, len(failed), Path(room, "log").read_text()), (*came, said))
+            with (tempfile.TemporaryDirectory() as room, contextlib.redirect_stdout(io.StringIO()) as out,
+                  mock.patch.object(kit, "RT", f"{room}/rt")):
+                write_program(f"cat <<'END'\n{output}END\nexit {status}\n", room, "rt")
+                passed, failed = runs.rt_ci(room, ["low", "middle", "high"], f"{room}/log", self.seconds)
+                self.assertEqual((passed, len(failed), Path(room, "log").read_text()), (*counts, output))
             lines = "1 of 3 low 54 s\n2 of 3 middle is kept\nthe tests of low 7 s\n"
             self.assertEqual(out.getvalue(), f"{lines}{shown}")
 
-    def test_how_long_it_takes(self):
-        """As long as the longest chain of crates, or as all of them on this many processors; each crate has its line of the table."""
-        uses = {"a": [], "b": ["a"], "c": ["a", "std"], "d": []}
+    def seconds(self, name: str, kind: str) -> float:
+        """Those of a processor that a crate's proofs took, or its tests."""
+        return {"proofs": 54.4, "tests": 7}[kind]
+
+    def test_how_long_it_takes(self) -> None:
+        """As long as the longest chain of crates, or as all of them on so many processors; each crate has its line."""
+        uses: dict[str, list[str]] = {"a": [], "b": ["a"], "c": ["a", "std"], "d": []}
+        rows = (("abcd", 1, False, 240), ("abcd", 4, False, 170), ("bc", 4, False, 70), ("abcd", 4, True, 450))
         with mock.patch.object(runs, "table", lambda: {"a": [100, 0], "b": [50, 300], "c": [70, 0], "d": [20, 0]}):
-            rows = [("abcd", 1, False, 240), ("abcd", 4, False, 170), ("bc", 4, False, 70), ("abcd", 4, True, 450)]
             for names, processors, with_tests, wanted in rows:
                 self.assertEqual(runs.proving(uses, names, processors, with_tests), wanted)
         self.assertEqual({*kit.crates_of(gate.ROOT)} | {"an_edit", "all_else"}, {*runs.table()})

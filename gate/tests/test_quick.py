@@ -2,13 +2,14 @@
 
 import contextlib
 import io
-import subprocess
+import shutil
 import tempfile
 import unittest
+from collections.abc import Iterable
 from pathlib import Path
 from unittest import mock
 
-from samples import write
+from samples import commit, write, write_program
 
 import gate
 import kit
@@ -16,31 +17,30 @@ import quick
 import touched
 from tests.table import Check, checks
 
-
-def committed(room):
-    """A repository with one commit: a check, what it brings in, a page and a crate."""
-    some = {"tests/rows/__main__.py": "from tests.reading import reader\n", "tests/reading/reader.py": "import tests.low\n"}
-    write("out/\n", room, ".gitignore")
-    none = ("tests/__init__.py", "tests/reading/__init__.py", "tests/low.py", "tests/other.py", "docs/A.md", "bench/fill.py")
-    for name, text in {**some, **dict.fromkeys(none, "")}.items():
-        write(text, room, name)
-    for words in (["init", "-q"], ["add", "-A"], ["-c", "user.name=a", "-c", "user.email=a@a", "commit", "-qm", "all"]):
-        subprocess.run(["git", *words], cwd=room, check=True)
+# The files of a repository: a check, what it brings in, a page and a crate.
+FILES = {
+    "tests/rows/__main__.py": "from tests.reading import reader\n",
+    "tests/reading/reader.py": "import tests.low\n",
+    ".gitignore": "out/\n",
+    **dict.fromkeys(("tests/__init__.py", "tests/reading/__init__.py", "tests/low.py", "tests/other.py", "docs/A.md",
+                     "bench/fill.py"), ""),
+}
 
 
-def check(name, touched_by=(), seconds=0):
+def check(name: str, touched_by: Iterable[str] = (), seconds: int = 0) -> Check:
+    """A check of this name, which these files touch."""
     return Check("tests", name, "whole", "", "-", seconds, tuple(touched_by))
 
 
 class Touched(unittest.TestCase):
-    def setUp(self):
-        room = tempfile.TemporaryDirectory()
-        self.addCleanup(room.cleanup)
-        self.room = Path(room.name)
-        committed(self.room)
+    def setUp(self) -> None:
+        self.room = Path(self.enterContext(tempfile.TemporaryDirectory()))
+        for name, text in FILES.items():
+            write(text, self.room, name)
+        commit(self.room, "all")
         touched.imported.cache_clear()
 
-    def test_what_changed(self):
+    def test_what_changed(self) -> None:
         self.assertEqual(touched.changed(self.room), [])
         write("x = 1\n", self.room, "tests/low.py")
         write("", self.room, "tests/new file.py")
@@ -48,15 +48,16 @@ class Touched(unittest.TestCase):
         (self.room / "docs" / "A.md").unlink()
         self.assertEqual(touched.changed(self.room), ["docs/A.md", "tests/low.py", "tests/new file.py"])
 
-    def test_a_check_is_touched_by_what_it_brings_in_and_by_its_line(self):
+    def test_a_check_is_touched_by_what_it_brings_in_and_by_its_line(self) -> None:
+        by_rows = ("tests/low.py", "tests/reading/reader.py", "tests/rows/a.in", "docs/A.md")
+        by_other = ("tests/other.py", "bench/fill.py")
+        by_none = ("tests/rows_more.py", "docs/A.md.old", "benches/fill.py")
         rows, other = check("rows", ["docs/A.md"]), check("other", ["bench"])
-        for name, wanted in (("tests/low.py", (True, False)), ("tests/reading/reader.py", (True, False)), ("tests/rows/a.in", (True, False)),
-                             ("tests/rows_more.py", (False, False)), ("docs/A.md", (True, False)), ("docs/A.md.old", (False, False)),
-                             ("tests/other.py", (False, True)), ("bench/fill.py", (False, True)), ("benches/fill.py", (False, False))):  # fmt: skip
-            found = tuple(touched.is_touched(self.room, it, [name]) for it in (rows, other))
-            self.assertEqual((name, found), (name, wanted))
+        for name in (*by_rows, *by_other, *by_none):
+            found = tuple(touched.is_touched(self.room, one, [name]) for one in (rows, other))
+            self.assertEqual((name, found), (name, (name in by_rows, name in by_other)))
 
-    def test_a_package_of_its_own_name_touches_what_brings_it_in(self):
+    def test_a_package_of_its_own_name_touches_what_brings_it_in(self) -> None:
         write("from sent.files import Files\n", self.room, "tests/other.py")
         write("", self.room, "bench/sent/files.py")
         touched.imported.cache_clear()
@@ -64,57 +65,61 @@ class Touched(unittest.TestCase):
             with mock.patch.object(touched, "ELSEWHERE", elsewhere):
                 self.assertEqual(touched.is_touched(self.room, check("other"), ["bench/sent/files.py"]), wanted)
 
-    def test_a_check_that_is_no_python_is_touched_by_itself(self):
+    def test_a_check_that_is_no_python_is_touched_by_itself(self) -> None:
         for text in (b"def (:", b"\xff\xfe", b"x\x00"):
             (self.room / "tests" / "other.py").write_bytes(text)
             touched.imported.cache_clear()
             self.assertTrue(touched.is_touched(self.room, check("other"), ["tests/other.py"]))
 
-    def test_a_crate_is_touched_by_its_code_and_proofs(self):
-        names = ["crates/high/proofs/a/B.antt", "crates/low/src/lib.rt", "crates/mid/README.md", "crates/mid/must-fail/a.edit", "docs/A.md"]
+    def test_a_crate_is_touched_by_its_code_and_proofs(self) -> None:
+        names = ["crates/high/proofs/a/B.antt", "crates/low/src/lib.rt", "crates/mid/README.md",
+                 "crates/mid/must-fail/a.edit", "docs/A.md"]
         self.assertEqual(touched.crates(["low", "mid", "high"], names), ["low", "high"])
 
-    def test_each_check_here_is_touched_by_itself(self):
-        for it in checks():
-            own = touched.files_of(gate.ROOT, it.module)
-            self.assertTrue(own and touched.is_touched(gate.ROOT, it, [str(own[-1].relative_to(gate.ROOT))]), it.name)
+    def test_each_check_here_is_touched_by_itself(self) -> None:
+        for one in checks():
+            own = touched.files_of(gate.ROOT, one.module)
+            self.assertTrue(own and touched.is_touched(gate.ROOT, one, [str(own[-1].relative_to(gate.ROOT))]), one.name)
 
 
 class Quick(unittest.TestCase):
-    def test_what_takes_too_long_is_left_out(self):
+    def test_what_takes_too_long_is_left_out(self) -> None:
         some = [check("c", seconds=200), check("a", seconds=30), check("b", seconds=90)]
         now, later = quick.split(some, 150)
-        self.assertEqual(([it.name for it in now], [it.name for it in later]), (["a", "b"], ["c"]))
+        self.assertEqual(([one.name for one in now], [one.name for one in later]), (["a", "b"], ["c"]))
 
-    def told(self, changed, some, status=0, program="/bin/true"):
-        """What a run tells, and its status, where these files changed; a proof ends with this status, and all that reads texts holds."""
-        with tempfile.TemporaryDirectory() as room, contextlib.ExitStack() as set_up, contextlib.redirect_stdout(io.StringIO()) as out:
-            write(f"#!/bin/sh\nexit {status}\n", room, "rt")
-            Path(room, "rt").chmod(0o755)
-            for where, name, value in ((kit, "RT", f"{room}/rt"), (quick, "texts", lambda names: []), (quick, "checks", lambda: some),
-                                       (touched, "changed", lambda root: changed), (quick, "PROGRAM", Path(program)),
-                                       (gate, "script", lambda *words, folder: lambda: (1, [], []))):  # fmt: skip
-                set_up.enter_context(mock.patch.object(where, name, value))
+    def run_quick(self, changed: list[str], some: list[Check], status: int = 0,
+                  program: str | Path = "/bin/true") -> tuple[int, list[str]]:
+        """The status of a run and its lines, where these files changed and a proof ends with this status."""
+        with (tempfile.TemporaryDirectory() as room, contextlib.redirect_stdout(io.StringIO()) as out,
+              mock.patch.multiple(quick, texts=lambda names: [], checks=lambda: some, PROGRAM=Path(program)),
+              mock.patch.object(kit, "RT", f"{room}/rt"), mock.patch.object(touched, "changed", lambda root: changed),
+              mock.patch.object(gate, "script", lambda *words, folder: lambda: (1, [], []))):
+            write_program(f"exit {status}\n", room, "rt")
             return quick.main(), out.getvalue().splitlines()
 
-    def test_a_wrong_body_is_told(self):
-        status, told = self.told(["crates/rs_time/src/moment.rt"], [], status=1)
-        self.assertEqual((status, told[-2:]), (1, ["FAILED: rt check of rs_time ended with status 1", "0 passed, 1 failed"]))
-        status, told = self.told(["crates/rs_store_tests/src/lib.rt"], [])
-        self.assertEqual((status, told[-1]), (0, "1 passed, 0 failed"))
+    def test_a_wrong_body_is_told(self) -> None:
+        status, lines = self.run_quick(["crates/rs_time/src/moment.rt"], [], status=1)
+        wanted = ["FAILED: rt check of rs_time ended with status 1", "0 passed, 1 failed"]
+        self.assertEqual((status, lines[-2:]), (1, wanted))
+        status, lines = self.run_quick(["crates/rs_store_tests/src/lib.rt"], [])
+        self.assertEqual((status, lines[-1]), (0, "1 passed, 0 failed"))
 
-    def test_checks_that_are_touched_run(self):
+    def test_a_crate_wants_a_kit(self) -> None:
+        with mock.patch.object(shutil, "which", lambda command: None):
+            with self.assertRaisesRegex(SystemExit, "^there is no Rattle kit here [^\\n]*$"):
+                self.run_quick(["crates/rs_time/src/moment.rt"], [])
+            self.assertEqual(self.run_quick(["docs/DISK.md"], [])[0], 0)
+
+    def test_checks_that_are_touched_run(self) -> None:
         some = [check("rows", ["docs"]), check("ends"), check("slow", ["docs"], seconds=900)]
-        status, told = self.told(["docs/DISK.md"], some)
-        self.assertEqual((status, told[0]), (0, "make quick: 1 files changed; 0 crates and 2 checks are touched"))
-        self.assertIn("== rows", told)
+        status, lines = self.run_quick(["docs/DISK.md"], some)
+        self.assertEqual((status, lines[0]), (0, "make quick: 1 files changed; 0 crates and 2 checks are touched"))
+        self.assertIn("== rows", lines)
         why = "slow: NOT TRIED: it would end behind 300 seconds (900 s): make tests.slow"
-        self.assertEqual(told[-2:], [f"SKIPPED: {why}", "1 passed, 0 failed, 1 skipped"])
+        self.assertEqual(lines[-2:], [f"SKIPPED: {why}", "1 passed, 0 failed, 1 skipped"])
 
-    def test_no_program_is_no_pass(self):
-        status, told = self.told(["docs/DISK.md"], [check("rows", ["docs"])], program=str(gate.ROOT / "no" / "program"))
-        self.assertEqual((status, told[-1]), (0, "0 passed, 0 failed, 1 skipped"))
-
-
-if __name__ == "__main__":
-    unittest.main()
+    def test_no_program_is_no_pass(self) -> None:
+        none = gate.ROOT / "no" / "program"
+        status, lines = self.run_quick(["docs/DISK.md"], [check("rows", ["docs"])], program=none)
+        self.assertEqual((status, lines[-1]), (0, "0 passed, 0 failed, 1 skipped"))

@@ -14,13 +14,18 @@ import record
 from libraries import Libraries
 
 
+def tried(label: str, goal: str, outcome: edit.Outcome = edit.Outcome.REFUSED) -> edit.Edit:
+    """An edit that was tried."""
+    return edit.Edit(label, [], outcome, goal=goal)
+
+
 class Recording(unittest.TestCase):
-    def test_what_a_change_leaves_covered(self):
-        """A body, a comment, a proof and an edit are their own crates'; what a crate says is of all that stand on it."""
+    def test_what_a_change_leaves_covered(self) -> None:
+        """A body, a comment, a proof and an edit are their own crate's; what a crate says is of all above it."""
         for crate, part, old, new, covered in rows("covered"):
             with repository(low=CODE, high=ABOVE) as room, self.subTest(part=part, old=old):
-                for it in ("specs", "proofs"):
-                    write("one = 1\n", room, "crates/low", it, "One.antt")
+                for folder in ("specs", "proofs"):
+                    write("one = 1\n", room, "crates/low", folder, "One.antt")
                 record.write(room, ["low", "high"])
                 self.assertEqual(record.uncovered(room), [])
                 file = Path(room, "crates", crate, part)
@@ -29,57 +34,82 @@ class Recording(unittest.TestCase):
                 self.assertEqual({"low", "high"} - {*record.uncovered(room)}, {*covered.split()})
                 self.assertEqual({*record.outdated(room)}, {*record.uncovered(room)})
 
-    def test_another_kit_with_the_same_logic(self):
+    def test_another_kit_with_the_same_logic(self) -> None:
         name, logic = kit.identity()
         with repository(low=CODE, high=CODE) as room:
             record.write(room, ["low"])
             self.assertEqual((record.lines(room)["low"][2], record.outdated(room)), (name, []))
-            for identity, left in (((name, logic), ["high"]), (("other", logic), ["high"]), ((name, "other"), ["low", "high"])):
-                with mock.patch.object(kit, "identity", lambda: identity):
-                    self.assertEqual(record.uncovered(room), left)
+            for kit_name, other, wanted in ((name, logic, ["high"]), ("other", logic, ["high"]),
+                                            (name, "other", ["low", "high"])):
+                with mock.patch.object(kit, "identity", lambda: (kit_name, other)):
+                    self.assertEqual(record.uncovered(room), wanted)
 
-    def test_what_is_noted_of_a_crate(self):
-        """The goal of each refused edit beside those of other crates, and a line of the record only where each edit is refused."""
-        seen = lambda label, goal, came=edit.Outcome.REFUSED: edit.Edit(label, [], came, goal=goal)
-        refused, proved = seen("low/one", "returns"), seen("low/two", "returns", edit.Outcome.PROVED)
+    def test_what_is_noted_of_a_crate(self) -> None:
+        """The goal of each refused edit beside other crates' goals; a line of the record where each edit is refused."""
+        refused, proved = tried("low/one", "returns"), tried("low/two", "returns", edit.Outcome.PROVED)
         with repository(low=CODE, high=ABOVE) as room:
-            edits.note(room, "high", [seen("high/one", "sum-fits"), seen("high/two", "")])
-            for every, left in (([refused, proved], ["low"]), ([refused], [])):
+            edits.note(room, "high", [tried("high/one", "sum-fits"), tried("high/two", "")])
+            for every, uncovered in (([refused, proved], ["low"]), ([refused], [])):
                 edits.note(room, "low", every)
-                self.assertEqual((goals.known(room), record.uncovered(room)), ({"high/one": "sum-fits", "low/one": "returns"}, left))
+                self.assertEqual((goals.known(room), record.uncovered(room)),
+                                 ({"high/one": "sum-fits", "low/one": "returns"}, uncovered))
 
-    def test_two_crates_are_picked(self):
+    def test_two_crates_are_picked(self) -> None:
         with repository(**dict.fromkeys("abcdefgh", CODE)) as room:
             picks = {tuple(record.picked(room, str(commit))) for commit in range(200)}
-            self.assertEqual(({len({*it}) for it in picks}, {name for it in picks for name in it}), ({2}, {*"abcdefgh"}))
+            self.assertEqual({len({*pick}) for pick in picks}, {2})
+            self.assertEqual({name for pick in picks for name in pick}, {*"abcdefgh"})
 
-    def test_libraries_are_built_once_and_anew_where_they_or_those_below_changed(self):
+    def test_each_edit_of_a_crate_is_drawn(self) -> None:
+        with repository(a=CODE) as room:
+            for number in range(8):
+                Path(room, f"crates/a/must-fail/{number}.edit").write_text("old: 1\nnew: 2\n")
+            every = record.edits_of(room, "a")
+            draws = [record.drawn(room, "a", str(commit), limit=3) for commit in range(100)]
+            self.assertEqual({len({*draw}) for draw in draws}, {3})
+            self.assertEqual({path for draw in draws for path in draw}, {*every})
+            self.assertEqual(sorted(record.drawn(room, "a", "0", limit=99)), every)
+
+    def test_libraries_are_built_once_and_anew_where_they_or_those_below_changed(self) -> None:
         with repository(low=CODE, middle=ABOVE, high=ABOVE) as room:
-            known = lambda: [Libraries(room, 1).proved(it) for it in ("low", "middle", "high")]
-            both, wrong = [["low::next"], ["middle::next"], None], "low is not proved: fn low::next: proved\nit is told"
-            self.assertEqual(known(), [None, None, None])
-            for changed, status, wanted, proved in (
-                ("", 0, ("", ["low", "middle"]), both),
-                ("", 0, ("", []), both),
-                ("middle/src/lib.rt", 0, ("", ["middle"]), both),
-                ("low/src/lib.rt", 1, (wrong, ["low"]), [None, None, None]),
-                ("", 0, ("", ["low", "middle"]), both),
-                ("low/out/rlib/stamp", 0, ("", ["low"]), both),
+            both: list[list[str] | None] = [["low::next"], ["middle::next"], None]
+            none: list[list[str] | None] = [None, None, None]
+            wrong = "low is not proved: fn low::next: proved\nit is told"
+            self.assertEqual(self.proved(room), none)
+            for changed, status, result, built, proved in (
+                ("", 0, "", ["low", "middle"], both),
+                ("", 0, "", [], both),
+                ("middle/src/lib.rt", 0, "", ["middle"], both),
+                ("low/src/lib.rt", 1, wrong, ["low"], none),
+                ("", 0, "", ["low", "middle"], both),
+                ("low/out/rlib/stamp", 0, "", ["low"], both),
             ):
-                built, told_of, file = [], [], Path(room, "crates", changed)
                 if changed:
+                    file = Path(room, "crates", changed)
                     file.write_text(file.read_text() + "// more\n")
-                check = lambda words, folder: built.append(folder.name) or kit.Told(status, f"fn {folder.name}::next: proved\nit is told")
-                with mock.patch.object(kit, "check", check):
-                    came = Libraries(room, 2).build_each(["middle"], lambda name, told: told_of.append(name))
-                self.assertEqual(((came, built), known(), told_of), (wanted, proved, built))
+                self.assertEqual(self.build(room, status), (result, built, built))
+                self.assertEqual(self.proved(room), proved)
 
-    def test_of_a_program_the_proofs_alone_are_kept(self):
+    def proved(self, room: str) -> list[list[str] | None]:
+        """The functions of each crate that were proved as it was built from what is there now."""
+        return [Libraries(room, 1).proved(name) for name in ("low", "middle", "high")]
+
+    def build(self, room: str, status: int) -> tuple[str, list[str], list[str]]:
+        """What was wrong with a build by checks of this status, the crates checked, and the crates reported."""
+        reported: list[str] = []
+        report_of = lambda words, folder: kit.Report(status, f"fn {folder.name}::next: proved\nit is told")
+        with mock.patch.object(kit, "check", side_effect=report_of) as check:
+            wrong = Libraries(room, 2).build_each(["middle"], lambda name, report: reported.append(name))
+        return wrong, [call.args[1].name for call in check.call_args_list], reported
+
+    def test_of_a_program_the_proofs_alone_are_kept(self) -> None:
         """And a crate that no other one waits beside has all jobs."""
-        asked = []
-        check = lambda words, folder: asked.append(words) or kit.Told(0, "fn top::main: proved\n")
-        with repository(low=CODE, top=ABOVE) as room, mock.patch.object(kit, "check", check):
+        report = kit.Report(0, "fn top::main: proved\n")
+        with (repository(low=CODE, top=ABOVE) as room,
+              mock.patch.object(kit, "check", return_value=report) as check):
             Path(room, "crates/top/src/lib.rt").rename(Path(room, "crates/top/src/main.rt"))
-            self.assertEqual((Libraries(room, 3).build_each(["top"]), Libraries(room, 1).proved("top")), ("", ["top::main"]))
-            found = [(words[1], "-o" in words, words[words.index("--jobs") + 1]) for words in asked]
+            self.assertEqual((Libraries(room, 3).build_each(["top"]), Libraries(room, 1).proved("top")),
+                             ("", ["top::main"]))
+            commands = [call.args[0] for call in check.call_args_list]
+            found = [(words[1], "-o" in words, words[words.index("--jobs") + 1]) for words in commands]
             self.assertEqual(found, [("build", True, "3"), ("check", False, "3")])

@@ -1,0 +1,91 @@
+#!/usr/bin/env python3
+"""Names the must-fail edits whose refusal may be of form alone.
+
+Where a function has answers by hand, they cite its ways out and its locals. An edit that adds a way out, or takes a
+local or a call away that they cite, breaks them whether its body is wrong or not. So an edit is named where the goal by
+which it was last seen refused (goals.txt) has an answer by hand, and the edit does one of these. It reads texts alone.
+
+usage: python3 gate/edits/forms.py     the last line tells how many there are
+"""
+import collections
+import re
+import sys
+from pathlib import Path
+
+import copies
+import edit
+import functions
+import goals
+import kit
+
+ROOT = Path(__file__).resolve().parents[2]
+# What adds a way out, or a branch.
+WAYS = re.compile(r"\breturn\b|\bbreak\b|\bif\b|\belse\b|\bmatch\b|\bwhile\b|\bfor\b|\bloop\b|\?|&&|\|\||=>")
+# What a text binds, or calls: an answer by hand cites it by this name.
+NAMED = re.compile(r"\blet (?:mut )?(\w+)|\bfor (\w+) in\b|\b(\w+)\(")
+
+
+def names_of(text: str) -> set[str]:
+    """The locals and the calls of a body."""
+    return {name for found in NAMED.findall(functions.blanked(text)) for name in found if name}
+
+
+def ways_of(text: str) -> collections.Counter[str]:
+    """The ways out and the branches of a body."""
+    return collections.Counter(WAYS.findall(functions.blanked(text)))
+
+
+def hand_files(crate: Path, path: str, function: functions.Function) -> list[Path]:
+    """The files by hand of a function: those of a folder of its name, below that of its module or of its type."""
+    module = functions.module_of(path)
+    folders = [folder for folder in (crate / "proofs").rglob("*") if folder.is_dir()
+               and folder.name.removeprefix("+") == function.name]
+    owner = (functions.words_of(function.block.split(" for ")[-1].partition("where")[0])[1:2] or [""])[0]
+    fitting = [folder for folder in folders if owner in folder.parts] if function.block else [
+        folder for folder in folders if list(folder.relative_to(crate / "proofs").parts[:-1]) == module]
+    return [file for folder in fitting for file in sorted(folder.glob("*.antt"))]
+
+
+def why_of_form(crate: Path, one: edit.Edit) -> str:
+    """What of form an edit breaks, or nothing."""
+    texts = edit.applied(one, crate)
+    if texts is None or not one.goal:
+        return ""
+    for path, old, _ in one.pairs:
+        before, after = (crate / path).read_text(), texts[path]
+        # (a later pair may change what an earlier one made)
+        at = before.find(old)
+        function = next((one for one in functions.functions_of(before) if one.start < at < one.end), None)
+        if function is None:
+            continue
+        own = function.name, function.block
+        changed = next((one for one in functions.functions_of(after) if (one.name, one.block) == own), None)
+        files = hand_files(crate, path, function)
+        by_hand = "".join(file.read_text() for file in files)
+        if changed is None or one.goal not in goals.ANSWERED.findall(by_hand):
+            continue
+        old_body, new_body = before[function.start : function.end], after[changed.start : changed.end]
+        if more := ways_of(new_body) - ways_of(old_body):
+            return f"it adds {' '.join(sorted(more))}"
+        gone = sorted(name for name in names_of(old_body) - names_of(new_body)
+                      if re.search(rf"(?<!\w){name}(?!\w)", by_hand))
+        if gone:
+            return f"the answers by hand cite {' '.join(gone)}"
+    return ""
+
+
+def main() -> int:
+    """Names them, and gives the status."""
+    known, count, count_named = goals.known(ROOT), 0, 0
+    for crate in kit.crates_of(ROOT):
+        for one in edit.of_crate(ROOT, crate, known):
+            count += 1
+            if why := why_of_form(ROOT / "crates" / crate, one):
+                count_named += 1
+                print(f"{one.label}: {one.goal}: {why}")
+    print(f"forms: {count_named} of {count} edits may be refused for their form alone")
+    return 0
+
+
+if __name__ == "__main__":
+    sys.exit(main())

@@ -1,0 +1,52 @@
+"""Tests of forms.py: an edit that breaks what answers by hand cite is named, one that changes a value is not."""
+import tempfile
+import unittest
+from pathlib import Path
+
+from samples import write
+
+import edit
+import forms
+
+SUMS = """fn add(a: u64, b: u64) -> u64
+    ensures sum { result ≡ a + b }
+{
+    let total = a + b;
+    total
+}
+
+fn free(a: u64) -> u64 {
+    let total = a;
+    total
+}
+"""
+ANSWERS = "pub returns-clause-sum : goal.returns-clause-sum\nreturns-clause-sum g c = c.total\n"
+
+
+class Forms(unittest.TestCase):
+    """Edits of a crate of two functions, one of which has an answer by hand."""
+
+    def why(self, old: str, new: str, goal: str = "returns-clause-sum") -> str:
+        """What of form an edit breaks."""
+        with tempfile.TemporaryDirectory() as room:
+            write(SUMS, room, "src/sum.rt")
+            write(ANSWERS, room, "proofs/sum/add/Answers.antt")
+            return forms.why_of_form(Path(room), edit.Edit("sums/one", [("src/sum.rt", old, new)], goal=goal))
+
+    def test_a_way_out_more_is_named(self) -> None:
+        more = "    if a == 0 { return 0; }\n    let total = a + b;"
+        self.assertEqual(self.why("    let total = a + b;", more), "it adds if return")
+
+    def test_a_local_that_goes_is_named(self) -> None:
+        found = self.why("    let total = a + b;\n    total", "    let sum = a;\n    sum")
+        self.assertEqual(found, "the answers by hand cite total")
+
+    def test_a_value_shows_something(self) -> None:
+        self.assertEqual(self.why("a + b;", "a + b + 1;"), "")
+        self.assertEqual(self.why("    let total = a + b;", "    let total = a + b; // return"), "")
+
+    def test_a_goal_or_a_function_without_an_answer_shows_something(self) -> None:
+        more = "    if a == 0 { return 0; }\n    let total = a"
+        self.assertEqual(self.why("    let total = a + b", f"{more} + b", "returns"), "")
+        self.assertEqual(self.why("    let total = a + b", f"{more} + b", ""), "")
+        self.assertEqual(self.why("    let total = a;", f"{more};"), "")
