@@ -22,11 +22,11 @@ NAME = f"ropepeach-plain-{VERSION}"
 
 def packed(folder: Path, tarball: Path) -> None:
     """Packs a folder, so that the same files make the same bytes."""
-    def settled(it: tarfile.TarInfo) -> tarfile.TarInfo:
-        it.uid = it.gid = it.mtime = 0
-        it.uname = it.gname = ""
-        it.mode = 0o755 if it.isdir() else 0o644
-        return it
+    def settled(member: tarfile.TarInfo) -> tarfile.TarInfo:
+        member.uid = member.gid = member.mtime = 0
+        member.uname = member.gname = ""
+        member.mode = 0o755 if member.isdir() else 0o644
+        return member
 
     with io.BytesIO() as room:
         with tarfile.open(mode="w", fileobj=room, format=tarfile.PAX_FORMAT) as archive:
@@ -40,13 +40,13 @@ def run(to: Path) -> int | str:
     try:
         to.mkdir(parents=True, exist_ok=True)
         with tempfile.TemporaryDirectory(prefix=".rust-", dir=to) as room:
-            told = write(Path(room) / NAME)
+            summary = write(Path(room) / NAME)
             packed(Path(room) / NAME, Path(room) / f"{NAME}.tar.gz")
             for name in (NAME, f"{NAME}.tar.gz"):
                 put(Path(room) / name, to / name)
     except (Missing, Refused, OSError, UnicodeDecodeError) as why:
         return f"rust: {why}"
-    print(f"rust: {told}, each put together again to the byte\n{to / NAME}\n{to / NAME}.tar.gz", flush=True)
+    print(f"rust: {summary}, each put together again to the byte\n{to / NAME}\n{to / NAME}.tar.gz", flush=True)
     return 0
 
 

@@ -28,12 +28,12 @@ class Failed(Exception):
 
 def cargo() -> str:
     """A cargo that is new enough."""
-    wanted = tuple(int(it) for it in RUST_VERSION.split("."))
+    wanted = tuple(int(number) for number in RUST_VERSION.split("."))
     for found in [shutil.which("cargo"), *PLACES]:
         if found and os.access(found, os.X_OK):
-            told = subprocess.run([found, "--version"], capture_output=True, text=True, check=False).stdout
-            version = re.match(r"cargo (\d+)\.(\d+)", told)
-            if version and tuple(int(it) for it in version.groups()) >= wanted:
+            output = subprocess.run([found, "--version"], capture_output=True, text=True, check=False).stdout
+            version = re.match(r"cargo (\d+)\.(\d+)", output)
+            if version and tuple(int(number) for number in version.groups()) >= wanted:
                 return found
     raise Missing(f"there is no cargo of version {RUST_VERSION} or later here: apt-get install cargo-web rustc-web")
 
@@ -43,15 +43,15 @@ def step(folder: Path, *words: str) -> str:
     # The compiler that stands beside it, whatever PATH has first.
     beside = f"{Path(words[0]).parent}{os.pathsep}{os.environ.get('PATH', '')}"
     settings = {**os.environ, "PATH": beside}
-    ran = subprocess.run(words, cwd=folder, capture_output=True, text=True, check=False, env=settings)
-    if ran.returncode:
-        raise Failed(f"{' '.join(words[1:3])} failed:\n{ran.stdout[-3000:]}\n{ran.stderr[-3000:]}")
-    return ran.stdout
+    finished = subprocess.run(words, cwd=folder, capture_output=True, text=True, check=False, env=settings)
+    if finished.returncode:
+        raise Failed(f"{' '.join(words[1:3])} failed:\n{finished.stdout[-3000:]}\n{finished.stderr[-3000:]}")
+    return finished.stdout
 
 
-def passed(told: str) -> int:
+def passed(output: str) -> int:
     """How many tests passed, by what cargo printed. None may be left out."""
-    results = re.findall(r"^test result: ok\. (\d+) passed; 0 failed; (\d+) ignored", told, re.MULTILINE)
+    results = re.findall(r"^test result: ok\. (\d+) passed; 0 failed; (\d+) ignored", output, re.MULTILINE)
     if not results or any(ignored != "0" for _, ignored in results):
         raise Failed("cargo told of no tests, or left some out")
     return sum(int(count) for count, _ in results)
@@ -63,20 +63,20 @@ def main() -> int | str:
     words.add_argument("--to", type=Path, default=ROOT / "out/rust", metavar="FOLDER")
     words.add_argument("--no-tests", action="store_true")
     words.add_argument("--upstream-digests", action="store_true")
-    given = words.parse_args()
+    options = words.parse_args()
     try:
         tool, _ = cargo(), list(vendored())
     except Missing as why:
         print(f"plain: NOT TRIED: {why}")
         return NOT_TRIED
-    status = writing.run(given.to)
+    status = writing.run(options.to)
     if status:
         return status
-    folder = given.to / writing.NAME
-    features = ["--features", FEATURE] if given.upstream_digests else []
+    folder = options.to / writing.NAME
+    features = ["--features", FEATURE] if options.upstream_digests else []
     try:
         step(folder, tool, "build", "--release", "-p", PROGRAM, *features, *SETTINGS)
-        tests = 0 if given.no_tests else passed(step(folder, tool, "test", "--workspace", *SETTINGS))
+        tests = 0 if options.no_tests else passed(step(folder, tool, "test", "--workspace", *SETTINGS))
     except Failed as why:
         return f"plain: {why}"
     print(f"plain: {tests} tests passed; {folder}/target/release/{PROGRAM}")

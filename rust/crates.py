@@ -54,19 +54,21 @@ def kit() -> Path:
     try:
         page = subprocess.run(["rt", "doc"], capture_output=True, text=True, check=True).stdout.strip()
     except (OSError, subprocess.CalledProcessError) as error:
-        raise Missing("there is no kit here (`rt`); a release has the tarball that is written from it") from error
+        raise Missing("there is no Rattle kit here (the command `rt`): "
+                      "a release has the tarball that is written from it") from error
     return Path(page).parent / "rattle"
 
 
 def vendored(registry: Path = REGISTRY) -> Iterator[Path]:
     """The folders of the crates of others, each of its one version."""
     for name, version in VENDORED.items():
-        folder = next((it for it in registry.glob(f"*-{version}") if is_crate(it, name, version)), None)
+        folder = next((folder for folder in registry.glob(f"*-{version}") if is_crate(folder, name, version)), None)
         if folder is None:
-            others = [it.name for it in registry.glob("*") if is_crate(it, name, None)]
+            others = [folder.name for folder in registry.glob("*") if is_crate(folder, name, None)]
             package = f"librust-{name.replace('_', '-')}-dev"
-            seen = f"there is {', '.join(others)}" if others else f"there is none in {registry}: apt-get install {package}"
-            raise Missing(f"the crate {name} of version {version} is needed; {seen}")
+            none = f"there is none in {registry}: apt-get install {package}"
+            found = f"there is {', '.join(others)}" if others else none
+            raise Missing(f"the crate {name} of version {version} is needed; {found}")
         yield folder
 
 

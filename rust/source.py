@@ -15,7 +15,7 @@ class Source:
         self.text = text
         self.all = list(tokens(text))
         gone = {place for edit in erased or [] for place in range(edit.at, edit.at + len(edit.old))}
-        self.code = [it for it in self.all if it.is_code and it.at not in gone]
+        self.code = [token for token in self.all if token.is_code and token.at not in gone]
         self.end_of = self._pairs()
 
     def _pairs(self) -> dict[int, int]:
@@ -54,7 +54,7 @@ class Source:
 
     def words(self, *texts: str) -> Iterator[int]:
         """The places of these words."""
-        return (place for place, it in enumerate(self.code) if it.kind is Kind.WORD and it.text in texts)
+        return (place for place, token in enumerate(self.code) if token.kind is Kind.WORD and token.text in texts)
 
     def closing(self, place: int) -> int:
         """The place of what closes the mark here."""

@@ -117,8 +117,10 @@ def allowed(lints: dict[str, str]) -> list[str]:
 def manifest_of_port(name: str) -> str:
     """The Cargo.toml of one of the kit's ports."""
     return "\n".join(["[package]", f'name = "{name}"', f'version = "{VERSION}"', 'edition = "2024"',
-                      'license-file = "LICENSE-MIT"' if name != "itoa" else 'license-file = "LICENSE"', "publish = false",
-                      "", "[lib]", "doctest = false", "", "[dependencies]", f'rattle_std = {{ path = "../../{SHIM}/rattle_std" }}', "",
+                      'license-file = "LICENSE-MIT"'
+                      if name != "itoa" else 'license-file = "LICENSE"', "publish = false",
+                      "", "[lib]", "doctest = false", "", "[dependencies]",
+                      f'rattle_std = {{ path = "../../{SHIM}/rattle_std" }}', "",
                       "[lints.rust]", 'unsafe_code = "forbid"', 'unused_braces = "allow"', 'unused_imports = "allow"',
                       'unused_labels = "allow"', 'unused_variables = "allow"', "", "[lints.clippy]",
                       '# It is written as its proofs need it.', 'all = "allow"', "", "[lints.rustdoc]",
@@ -140,7 +142,7 @@ def write_erased(source: Path, target: Path, name: str) -> int:
 def write_ours(out: Path, root: Path) -> tuple[list[str], int]:
     """Writes our crates. Answers their folders, and how many lines they have."""
     crates = list(listed(root))
-    ours = [it.name for it in crates]
+    ours = [crate.name for crate in crates]
     lines = 0
     for crate in crates:
         folder = out / OURS / crate.name
@@ -172,11 +174,12 @@ def write_vendored(out: Path) -> None:
     """Copies the crates of others, with the sums by which Cargo knows them."""
     for folder in vendored():
         target = out / VENDOR / folder.name
-        shutil.copytree(folder, target, symlinks=False, ignore=shutil.ignore_patterns("debian", "tests", "benches", ".*"))
-        told = json.loads((folder / ".cargo-checksum.json").read_text())
-        sums = {str(it.relative_to(target)): hashlib.sha256(it.read_bytes()).hexdigest()
-                for it in sorted(target.rglob("*")) if it.is_file()}
-        (target / ".cargo-checksum.json").write_text(json.dumps({"package": told["package"], "files": sums}))
+        shutil.copytree(folder, target, symlinks=False,
+                        ignore=shutil.ignore_patterns("debian", "tests", "benches", ".*"))
+        checksums = json.loads((folder / ".cargo-checksum.json").read_text())
+        sums = {str(file.relative_to(target)): hashlib.sha256(file.read_bytes()).hexdigest()
+                for file in sorted(target.rglob("*")) if file.is_file()}
+        (target / ".cargo-checksum.json").write_text(json.dumps({"package": checksums["package"], "files": sums}))
 
 
 def write(out: Path, root: Path = ROOT) -> str:
@@ -186,8 +189,8 @@ def write(out: Path, root: Path = ROOT) -> str:
     kits, lines_of_ports = write_ports(out, ports)
     members = [*ours, *kits, *write_shim(out)]
     write_vendored(out)
-    listing = "".join(f'    "{it}",\n' for it in members)
-    unused, shape = ("".join(f"{it}\n" for it in allowed(lints)) for lints in (ALLOWED_LINTS, ALLOWED_BY_CLIPPY))
+    listing = "".join(f'    "{member}",\n' for member in members)
+    unused, shape = ("".join(f"{lint}\n" for lint in allowed(lints)) for lints in (ALLOWED_LINTS, ALLOWED_BY_CLIPPY))
     (out / "Cargo.toml").write_text(MANIFEST.format(members=listing, unused=unused, allowed=shape))
     (out / ".cargo").mkdir()
     (out / ".cargo/config.toml").write_text(SETTINGS)

@@ -4,5 +4,6 @@ import unittest
 from pathlib import Path
 
 HERE = Path(__file__).parent
-ran = unittest.TextTestRunner(verbosity=2).run(unittest.defaultTestLoader.discover(str(HERE), top_level_dir=str(HERE.parents[1])))
-sys.exit(not (ran.testsRun and ran.wasSuccessful()))
+tests = unittest.defaultTestLoader.discover(str(HERE), top_level_dir=str(HERE.parents[1]))
+result = unittest.TextTestRunner(verbosity=2).run(tests)
+sys.exit(not (result.testsRun and result.wasSuccessful()))

@@ -36,7 +36,8 @@ class WhatIsMissing(unittest.TestCase):
         with tempfile.TemporaryDirectory() as room:
             folder = self.registry(room, crates.VENDORED)
             (folder / "syn-1.0.107/Cargo.toml").write_text('[package]\nname = "syn"\nversion = "1.0.108"\n')
-            with self.assertRaisesRegex(Missing, r"the crate syn of version 1\.0\.107 is needed; there is syn-1\.0\.107"):
+            needed = r"the crate syn of version 1\.0\.107 is needed"
+            with self.assertRaisesRegex(Missing, rf"{needed}; there is syn-1\.0\.107"):
                 list(vendored(folder))
 
     def test_a_crate_that_is_not_there_is_told(self) -> None:
@@ -46,7 +47,7 @@ class WhatIsMissing(unittest.TestCase):
 
     def test_no_kit_is_told(self) -> None:
         with mock.patch.object(subprocess, "run", side_effect=FileNotFoundError):
-            with self.assertRaisesRegex(Missing, "there is no kit here"):
+            with self.assertRaisesRegex(Missing, "there is no Rattle kit here"):
                 crates.kit()
 
     def test_an_old_cargo_is_told(self) -> None:
@@ -56,10 +57,11 @@ class WhatIsMissing(unittest.TestCase):
                 build.cargo()
 
     def test_tests_that_are_left_out_are_told(self) -> None:
-        self.assertEqual(build.passed("test result: ok. 3 passed; 0 failed; 0 ignored\ntest result: ok. 4 passed; 0 failed; 0 ignored\n"), 7)
-        for told in ("", "test result: ok. 3 passed; 0 failed; 1 ignored\n"):
+        passed = [f"test result: ok. {count} passed; 0 failed; 0 ignored\n" for count in (3, 4)]
+        self.assertEqual(build.passed("".join(passed)), 7)
+        for output in ("", "test result: ok. 3 passed; 0 failed; 1 ignored\n"):
             with self.assertRaises(build.Failed):
-                build.passed(told)
+                build.passed(output)
 
 
 class Manifests(unittest.TestCase):
@@ -67,9 +69,9 @@ class Manifests(unittest.TestCase):
 
     def test_a_crate_names_what_it_needs(self) -> None:
         made = manifest_of(crates.Crate("rs_a", ("rs_b", "md5", "httparse", "jiff", "thiserror")), ["rs_a", "rs_b"])
-        for line in ('rs_b = { path = "../../crates/rs_b" }', 'md5 = { package = "md5_choice", path = "../../shim/md5_choice" }',
-                     'httparse = { path = "../../kit/httparse" }', 'jiff = { path = "../../shim/jiff" }', 'thiserror = "=1.0.38"',
-                     "[lints]\nworkspace = true"):
+        for line in ('rs_b = { path = "../../crates/rs_b" }', 'jiff = { path = "../../shim/jiff" }',
+                     'md5 = { package = "md5_choice", path = "../../shim/md5_choice" }', 'thiserror = "=1.0.38"',
+                     'httparse = { path = "../../kit/httparse" }', "[lints]\nworkspace = true"):
             self.assertIn(line, made)
 
 

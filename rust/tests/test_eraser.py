@@ -17,8 +17,10 @@ FORMS = {
         "impl A {\n    /// Its value.\n    ghost view = { λ a. a.b };\n\n    fn f() {}\n}\n",
         "impl A {\n    \n\n\n    fn f() {}\n}\n",
     ),
-    "a ghost field": ("struct A {\n    a: u8,\n    pub ghost b: { a ≡ 1 } by { c },\n}\n", "struct A {\n    a: u8,\n\n}\n"),
-    "a ghost field of the crate": ("struct A {\n    pub(crate) ghost b: { a ≡ 1 },\n    a: u8,\n}\n", "struct A {\n\n    a: u8,\n}\n"),
+    "a ghost field": ("struct A {\n    a: u8,\n    pub ghost b: { a ≡ 1 } by { c },\n}\n",
+                      "struct A {\n    a: u8,\n\n}\n"),
+    "a ghost field of the crate": ("struct A {\n    pub(crate) ghost b: { a ≡ 1 },\n    a: u8,\n}\n",
+                                   "struct A {\n\n    a: u8,\n}\n"),
     "a ghost of a trait": ("trait T {\n    ghost b: { Self → A };\n    fn f();\n}\n", "trait T {\n\n    fn f();\n}\n"),
     "a ghost field without a comma": ("struct A { a: u8, ghost b: { c } }\n", "struct A { a: u8,  }\n"),
     "clauses": (
@@ -33,8 +35,10 @@ FORMS = {
                     "impl A {\n    fn fmt(&self, f: &mut fmt::Formatter<'_>) -> R {}\n}\n"),
     "a path of std": ("use std::alloc::{AllocError, Global};\nuse std::{env, io};\nuse a::std::b;\n",
                       "use rattle_std::alloc::{AllocError, Global};\nuse rattle_std::{env, io};\nuse a::std::b;\n"),
-    "methods": ("fn f() { a.expect(rt, b); c.to_vec(d); expect(e); }\n", "fn f() { a.expect_by(rt, b); c.to_vec_by(d); expect(e); }\n"),
-    "a clone that may fail": ("impl Clone for A {}\nfn f<T: Clone>() {}\n", "impl TryClone for A {}\nfn f<T: TryClone>() {}\n"),
+    "methods": ("fn f() { a.expect(rt, b); c.to_vec(d); expect(e); }\n",
+                "fn f() { a.expect_by(rt, b); c.to_vec_by(d); expect(e); }\n"),
+    "a clone that may fail": ("impl Clone for A {}\nfn f<T: Clone>() {}\n",
+                              "impl TryClone for A {}\nfn f<T: TryClone>() {}\n"),
     "a function that stays": ("trait T { final fn f() {} }\n", "trait T { fn f() {} }\n"),
     "a block that is unsafe": ("fn f() { unsafe { g() } }\n", "fn f() { { g() } }\n"),
     "words in texts and comments": (
@@ -94,13 +98,14 @@ class Forms(unittest.TestCase):
     def test_each_refusal(self) -> None:
         for text, why in REFUSED.items():
             with self.subTest(text):
-                with self.assertRaises(Refused) as told:
+                with self.assertRaises(Refused) as refusal:
                     plain("a.rt", text)
-                self.assertIn(why, str(told.exception))
+                self.assertIn(why, str(refusal.exception))
 
     def test_a_test_makes_its_own_runtime(self) -> None:
         made = plain("a.rt", "#[test]\nfn it_holds(rt: HostRuntime) -> Result<(), Fail> {\n    a(rt)\n}\n")
-        self.assertIn("fn it_holds() { fn inner() -> Result<(), Fail> { let rt = rattle_std::rt::HostRuntime;\n    a(rt)\n}", made)
+        runtime = "let rt = rattle_std::rt::HostRuntime;"
+        self.assertIn(f"fn it_holds() {{ fn inner() -> Result<(), Fail> {{ {runtime}\n    a(rt)\n}}", made)
         self.assertIn("rattle_std::test::Ended::ended(inner())", made)
         made = plain("a.rt", "#[test]\nfn it_holds(rt: HostRuntime) {\n    a(rt)\n}\n")
         self.assertIn("fn it_holds() { let rt = rattle_std::rt::HostRuntime;\n    a(rt)\n}\n", made)
@@ -132,14 +137,14 @@ class Sources(unittest.TestCase):
     """The sources of crates/ as they stand."""
 
     def test_each_is_put_together_again(self) -> None:
-        files = [it for crate in listed() for it in sorted((ROOT / "crates" / crate.name / "src").rglob("*.rt"))]
+        files = [file for crate in listed() for file in sorted((ROOT / "crates" / crate.name / "src").rglob("*.rt"))]
         self.assertGreater(len(files), 200)
         for file in files:
             text = file.read_text()
             edits = edits_of(file.name, text)
             self.assertEqual(put_together(text, edits), text, file)
-            kept = [it.text for it in tokens(applied(text, edits)) if it.kind is Kind.WORD]
-            self.assertFalse({"ghost", "requires", "ensures", "tactic"} & set(kept), file)
+            texts = [token.text for token in tokens(applied(text, edits)) if token.kind is Kind.WORD]
+            self.assertFalse({"ghost", "requires", "ensures", "tactic"} & set(texts), file)
 
 
 def put_together(text: str, edits: list[Edit]) -> str:
