@@ -1,8 +1,8 @@
 """The program on a file, asked line by line or served, and how long an answer takes."""
-import pathlib
 import re
 import subprocess
 import time
+from pathlib import Path
 
 from tests.program import PROGRAM
 
@@ -12,29 +12,34 @@ MIB = 1 << 20
 class Asked:
     """A program on a file, which is asked line by line."""
 
-    def __init__(self, program, file):
+    def __init__(self, program: str | Path, file: str | Path) -> None:
         began = time.perf_counter()
-        self.ran = subprocess.Popen([program, "run", file], stdin=subprocess.PIPE, stdout=subprocess.PIPE)
+        self.process = subprocess.Popen([program, "run", file], stdin=subprocess.PIPE, stdout=subprocess.PIPE)
         self.first = self.ask("status")
         self.opened = time.perf_counter() - began
 
-    def ask(self, line):
-        self.ran.stdin.write(line.encode() + b"\n")
-        self.ran.stdin.flush()
-        return self.ran.stdout.readline().decode()
+    def ask(self, line: str) -> str:
+        """The answer to a line."""
+        assert self.process.stdin and self.process.stdout
+        self.process.stdin.write(line.encode() + b"\n")
+        self.process.stdin.flush()
+        return self.process.stdout.readline().decode()
 
-    def resident(self):
+    def resident(self) -> int:
         """The bytes of memory that are its own now."""
-        status = pathlib.Path(f"/proc/{self.ran.pid}/status").read_text()
-        return int(re.search(r"VmRSS:\s+(\d+)", status)[1]) * 1024
+        status = Path(f"/proc/{self.process.pid}/status").read_text()
+        return int(re.findall(r"VmRSS:\s+(\d+)", status)[0]) * 1024
 
-    def end(self):
-        self.ran.stdin.close()
-        if self.ran.wait():
-            raise SystemExit(f"the program ended with status {self.ran.returncode}")
+    def end(self) -> None:
+        """Ends the program, which has to end well."""
+        assert self.process.stdin
+        self.process.stdin.close()
+        if self.process.wait():
+            raise SystemExit(f"the program ended with status {self.process.returncode}")
 
 
-def timed(ours, line, wanted):
+def timed(ours: Asked, line: str, wanted: str | tuple[str, ...]) -> float:
+    """The seconds from a line to its answer, which begins as is wanted."""
     began = time.perf_counter()
     answer = ours.ask(line)
     if not answer.startswith(wanted):
@@ -42,6 +47,8 @@ def timed(ours, line, wanted):
     return time.perf_counter() - began
 
 
-def serve(file, count):
+def serve(file: str | Path, count: int) -> tuple[subprocess.Popen[str], int]:
+    """The program as it serves so many connections on a file, and its port."""
     server = subprocess.Popen([str(PROGRAM), "serve", file, "0", str(count)], stdout=subprocess.PIPE, text=True)
+    assert server.stdout
     return server, int(server.stdout.readline().rsplit(":", 1)[1])

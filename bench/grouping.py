@@ -1,13 +1,15 @@
-"""A group of 16 puts of 4 KiB beside 16 such puts, as calls of an open source on a file: no line is read, and no hexadecimal text.
+"""A group of 16 puts of 4 KiB beside 16 such puts, as calls of an open source on a file: no line is read, and no
+hexadecimal text.
 
-A small program in a folder of its own, which `rt run` proves and builds, makes a source on a new file, and times both in turn, with
-names and bodies made before. ROOM in the environment is the folder for the file: /dev/shm shows what is left without the disk's syncs.
+A small program in a folder of its own, which `rt run` proves and builds, makes a source on a new file, and times both
+in turn, with names and bodies made before. ROOM in the environment is the folder for the file: /dev/shm shows what is
+left without the disk's syncs.
 """
 import os
-import pathlib
 import statistics
 import subprocess
 import tempfile
+from pathlib import Path
 
 from bench import small
 
@@ -92,7 +94,7 @@ fn main(rt: HostRuntime) -> anyhow::Result<()> {
 """
 
 
-def build(root):
+def build(root: Path) -> Path:
     """The program, proved and built, by its path. It does nothing where it is given no file."""
     lines = small.standing_on(root, "rs_store", "rs_file")
     crate = root / "crates" / "grouping"
@@ -107,13 +109,15 @@ def build(root):
     return program
 
 
-def main():
+def main() -> None:
+    """Builds the program, and prints its figures."""
     with tempfile.TemporaryDirectory() as folder, tempfile.TemporaryDirectory(dir=os.environ.get("ROOM")) as room:
-        program = build(pathlib.Path(folder))
+        program = build(Path(folder))
         done = subprocess.run([str(program), f"{room}/disk"], capture_output=True, text=True, check=True)
     rows = [tuple(map(int, line.split())) for line in done.stdout.splitlines()]
-    alone, together = (statistics.median(it) / 1000 for it in zip(*rows))
-    print(f"calls: 16 puts of 4 KiB {alone:.2f} ms, a group of 16 {together:.2f} ms: {together / alone:.2f} of it, medians of {len(rows)}")
+    alone, together = (statistics.median(column) / 1000 for column in zip(*rows))
+    print(f"calls: 16 puts of 4 KiB {alone:.2f} ms, a group of 16 {together:.2f} ms: {together / alone:.2f} of it, "
+          f"medians of {len(rows)}")
 
 
 if __name__ == "__main__":

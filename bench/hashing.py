@@ -1,4 +1,4 @@
-"""A small program that hashes 16 MiB each way that is compared, which is proved and built by `rt run`, and the time of each."""
+"""A small program that hashes 16 MiB each way that is compared, proved and built by `rt run`, and the time of each."""
 import pathlib
 import shutil
 import subprocess
@@ -7,7 +7,7 @@ import time
 
 from tests.program import ROOT
 
-PROGRAM = """//! Hashes 16 MiB of zeros eight times: both digests in pieces, both of the whole, or SHA-256 of the whole alone.
+PROGRAM = """//! Hashes 16 MiB of zeros eight times: both digests in pieces, both of the whole, or SHA-256 of the whole.
 #![tactic(auto)]
 
 use md5::{Digest as _, Md5};
@@ -54,13 +54,14 @@ fn main(rt: HostRuntime) -> io::Result<()> {
 """
 
 
-def timed(command):
+def timed(command: list[str]) -> float:
+    """The seconds of a command."""
     start = time.perf_counter()
     subprocess.run(command, stdout=subprocess.DEVNULL, check=True)
     return time.perf_counter() - start
 
 
-def built(folder):
+def built(folder: str) -> str:
     """The program, proved and built in this folder."""
     root = pathlib.Path(folder)
     shutil.copytree(ROOT / "crates" / "rs_fixity", root / "crates" / "rs_fixity")
@@ -73,13 +74,14 @@ def built(folder):
     return str(crate / "out" / "hashing")
 
 
-def once(program, *words):
-    """How long 16 MiB take: both digests in pieces (`pieces`), both of the whole (no word), SHA-256 alone (`sha256`, `alone`)."""
+def once(program: str, *words: str) -> float:
+    """How long 16 MiB take: both digests in pieces (`pieces`), of the whole (no word), SHA-256 (`sha256`, `alone`)."""
     return timed([program, *words]) / 8
 
 
-def seconds():
+def seconds() -> list[float]:
     """The least of five times for each of the three."""
     with tempfile.TemporaryDirectory() as folder:
         program = built(folder)
-        return [min(once(program, *words) for _ in range(5)) for words in (["pieces"], [], ["sha256", "alone"])]
+        ways: list[list[str]] = [["pieces"], [], ["sha256", "alone"]]
+        return [min(once(program, *words) for _ in range(5)) for words in ways]

@@ -17,13 +17,14 @@ ROOM in the environment is the folder for the files.
 import argparse
 import hashlib
 import os
-import pathlib
 import random
 import subprocess
 import sys
 import tempfile
 import time
 import xml.etree.ElementTree as ElementTree
+from collections.abc import Callable
+from pathlib import Path
 
 from tests.disks.paged_disk import spelled
 from tests.program import PROGRAM
@@ -33,45 +34,49 @@ SITEMAP, RS = "http://www.sitemaps.org/schemas/sitemap/0.9", "http://www.openarc
 SECONDS = 120
 
 
-def parts(count, number):
+def parts(count: int, number: int) -> list[str]:
     """The paths of the Resource List of a publication: the list, or its index and its parts."""
     cut = [f"/resourcelist/{number}/{k}.xml" for k in range(-(-count // LIMIT))]
     return ["/resourcelist.xml", *(cut if count > LIMIT else [])]
 
 
-def asked(program, file, lines):
-    script = "".join(f"{it}\n" for it in lines).encode()
+def output_of(program: str, file: Path, lines: list[str]) -> bytes:
+    """The output of a script of these lines."""
+    script = "".join(f"{line}\n" for line in lines).encode()
     return subprocess.run([program, "run", file], input=script, capture_output=True, check=True, timeout=SECONDS).stdout
 
 
-def timed(action):
+def timed(action: Callable[[], object]) -> float:
+    """The seconds of an action."""
     start = time.perf_counter()
     action()
     return time.perf_counter() - start
 
 
-def best(action):
-    return min(timed(lambda: action(it)) for it in range(TIMES))
+def best(action: Callable[[int], object]) -> float:
+    """The least time of some runs, each with its number."""
+    return min(timed(lambda: action(number)) for number in range(TIMES))
 
 
-def number_of(program, file):
-    return int(asked(program, file, ["status"]).split()[5])
+def number_of(program: str, file: Path) -> int:
+    """The number of the last publication."""
+    return int(output_of(program, file, ["status"]).split()[5])
 
 
-def published(program, file, count):
+def published(program: str, file: Path, count: int) -> None:
     """Publishes, and shows the whole list."""
     number = number_of(program, file) + 1
-    told = asked(program, file, ["publish", *(f"show {it}" for it in parts(count, number))])
-    assert told.count(b"<url>") == count, told[:200]
+    output = output_of(program, file, ["publish", *(f"show {path}" for path in parts(count, number))])
+    assert output.count(b"<url>") == count, output[:200]
 
 
-def stand_in(folder, target, is_renamed):
+def stand_in(folder: str | Path, target: str | Path, is_renamed: bool) -> None:
     """Writes the Resource List of a folder's files."""
     ElementTree.register_namespace("", SITEMAP)
     ElementTree.register_namespace("rs", RS)
     root = ElementTree.Element(f"{{{SITEMAP}}}urlset")
     ElementTree.SubElement(root, f"{{{RS}}}md", capability="resourcelist", at="2000-02-29T00:00:00.000Z")
-    for path in sorted(pathlib.Path(folder).iterdir()):
+    for path in sorted(Path(folder).iterdir()):
         body, url = path.read_bytes(), ElementTree.SubElement(root, f"{{{SITEMAP}}}url")
         ElementTree.SubElement(url, f"{{{SITEMAP}}}loc").text = f"http://127.0.0.1:8080/resource/{path.name}"
         digests = f"md5:{hashlib.md5(body).hexdigest()} sha-256:{hashlib.sha256(body).hexdigest()}"
@@ -84,50 +89,55 @@ def stand_in(folder, target, is_renamed):
         os.replace(f"{target}.new", target)
 
 
-def fill(folder, count):
+def fill(folder: Path, count: int) -> None:
+    """Makes a folder of this many files."""
     folder.mkdir()
     for number in range(count):
         (folder / f"name{number:05d}").write_bytes(f"{number:05d}".encode() * (SIZE // 5 + 1))
 
 
-def killed(words, given, span, rng):
-    """Starts a program, and kills it within this many seconds."""
-    with subprocess.Popen(words, stdin=subprocess.PIPE, stdout=subprocess.DEVNULL, stderr=subprocess.DEVNULL) as ran:
-        ran.stdin.write(given)
-        ran.stdin.flush()
+def killed(words: list[str | Path], data: bytes, span: float, rng: random.Random) -> None:
+    """Starts a program with this input, and kills it within this many seconds."""
+    with subprocess.Popen(words, stdin=subprocess.PIPE, stdout=subprocess.DEVNULL,
+                          stderr=subprocess.DEVNULL) as process:
+        assert process.stdin
+        process.stdin.write(data)
+        process.stdin.flush()
         time.sleep(rng.random() * span)
-        ran.kill()
+        process.kill()
 
 
-def kills_of_the_program(program, file, count, span, rng):
+def kills_of_the_program(program: str, file: Path, count: int, span: float, rng: random.Random) -> str:
     """What is served after each kill: whole lists of the publication in front, or of a next one."""
     whole = new = 0
     for _ in range(KILLS):
         before = number_of(program, file)
         killed([program, "run", file], b"publish\n" * 100, span, rng)
         number = number_of(program, file)
-        told = asked(program, file, [f"show {it}" for it in parts(count, number)])
-        whole += told.count(b"<url>") == count and told.count(b"</urlset>") == max(1, len(parts(count, number)) - 1)
+        paths = parts(count, number)
+        output = output_of(program, file, [f"show {path}" for path in paths])
+        whole += output.count(b"<url>") == count and output.count(b"</urlset>") == max(1, len(paths) - 1)
         new += number > before
     return f"{whole} of {KILLS} whole, {new} of them new"
 
 
-def killed_at_its_write(words, target):
+def killed_at_its_write(words: list[str], target: Path) -> None:
     """Starts a program, and kills it once a file has another length than before, or lets it end."""
     size = os.stat(target).st_size
-    with subprocess.Popen(words) as ran:
-        while ran.poll() is None and os.stat(target).st_size == size:
+    with subprocess.Popen(words) as process:
+        while process.poll() is None and os.stat(target).st_size == size:
             time.sleep(0.0002)
-        ran.kill()
+        process.kill()
 
 
-def kills_of_the_stand_in(folder, target, count, is_renamed):
+def kills_of_the_stand_in(folder: Path, target: Path, count: int, is_renamed: bool) -> str:
     """What the file is after each kill."""
-    words, whole = [sys.executable, "-m", "bench.lists", "--stand-in", folder, target, str(int(is_renamed))], 0
+    own = ["--stand-in", str(folder), str(target), str(int(is_renamed))]
+    words, whole = [sys.executable, "-m", "bench.lists", *own], 0
     stand_in(folder, target, True)
-    old = pathlib.Path(target).read_bytes()
+    old = Path(target).read_bytes()
     for _ in range(KILLS):
-        pathlib.Path(target).write_bytes(old)
+        Path(target).write_bytes(old)
         killed_at_its_write(words, target)
         try:
             whole += len(ElementTree.parse(target).findall(f"{{{SITEMAP}}}url")) == count
@@ -136,29 +146,31 @@ def kills_of_the_stand_in(folder, target, count, is_renamed):
     return f"{whole} of {KILLS} whole"
 
 
-def measure(program, room, count, rng):
+def measure(program: str, room: Path, count: int, rng: random.Random) -> None:
+    """Measures both, with this many resources or files."""
     file, folder, target = room / f"{count}.disk", room / f"files{count}", room / f"{count}.xml"
     file.write_bytes(spelled(count, count))
     fill(folder, count)
     ours, theirs = best(lambda _: published(program, file, count)), best(lambda _: stand_in(folder, target, True))
-    told = f"the program, from its start, {ours * 1000:.0f} ms; the stand-in, once started, {theirs * 1000:.0f} ms"
-    print(f"{count:,}: {told}")
+    line = f"the program, from its start, {ours * 1000:.0f} ms; the stand-in, once started, {theirs * 1000:.0f} ms"
+    print(f"{count:,}: {line}")
     print(f"{count:,}: killed, the program: {kills_of_the_program(program, file, count, ours, rng)}", flush=True)
-    for is_renamed, told in ((False, "in place"), (True, "renamed")):
+    for is_renamed, way in ((False, "in place"), (True, "renamed")):
         found = kills_of_the_stand_in(folder, target, count, is_renamed)
-        print(f"{count:,}: killed, the stand-in that writes {told}: {found}", flush=True)
+        print(f"{count:,}: killed, the stand-in that writes {way}: {found}", flush=True)
 
 
-def main():
+def main() -> None:
+    """Measures each count, or is the stand-in."""
     if sys.argv[1:2] == ["--stand-in"]:
         return stand_in(sys.argv[2], sys.argv[3], sys.argv[4] == "1")
     words = argparse.ArgumentParser(usage="python3 -m bench.lists [PROGRAM] [--seed N]")
     words.add_argument("program", nargs="?", default=PROGRAM)
     words.add_argument("--seed", type=int, default=20261125)
-    given = words.parse_args()
+    options = words.parse_args()
     with tempfile.TemporaryDirectory(prefix="lists-", dir=os.environ.get("ROOM")) as room:
         for count in COUNTS:
-            measure(os.path.abspath(given.program), pathlib.Path(room), count, random.Random(given.seed))
+            measure(os.path.abspath(options.program), Path(room), count, random.Random(options.seed))
 
 
 if __name__ == "__main__":

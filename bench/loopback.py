@@ -1,8 +1,9 @@
-"""GETs on loopback, one connection each, beside lighttpd (one thread) on the same machine; and PUTs and GETs of 16 MiB to a client on
-a bare socket, each ten times in turn with the kit's own hashing, of which the medians are told. Beside a PUT stand the calls that it
-cannot do without: the same bytes written to a file in pieces of 4 KiB, and three syncs.
+"""GETs on loopback, one connection each, beside lighttpd (one thread) on the same machine; and PUTs and GETs of 16 MiB
+to a client on a bare socket, each ten times in turn with the kit's own hashing, of which the medians are told. Beside
+a PUT stand the calls that it cannot do without: the same bytes written to a file in pieces of 4 KiB, and three syncs.
 
-Needs Debian's wrk and lighttpd. ROOM in the environment is the folder for the source's file: /dev/shm shows what is left without the disk's syncs.
+Needs Debian's wrk and lighttpd. ROOM in the environment is the folder for the source's file: /dev/shm shows what is
+left without the disk's syncs.
 """
 import http.client
 import os
@@ -24,7 +25,8 @@ SECONDS = 5
 LARGE, PIECE, TIMES = 16 << 20, 4_096, 10
 
 
-def ask(port, method, path, body=None):
+def ask(port: int, method: str, path: str, body: bytes | None = None) -> tuple[int, bytes]:
+    """The status and the body of a response."""
     connection = http.client.HTTPConnection("127.0.0.1", port, timeout=60)
     connection.request(method, path, body)
     response = connection.getresponse()
@@ -33,22 +35,27 @@ def ask(port, method, path, body=None):
     return response.status, found
 
 
-def load(url):
-    ran = subprocess.run(["wrk", "-t1", "-c4", f"-d{SECONDS}s", "-H", "Connection: close", url], capture_output=True, text=True, check=True)
-    return float(re.search(r"Requests/sec:\s*([\d.]+)", ran.stdout)[1])
+def load(url: str) -> float:
+    """The requests a second that wrk makes of an address."""
+    words = ["wrk", "-t1", "-c4", f"-d{SECONDS}s", "-H", "Connection: close", url]
+    finished = subprocess.run(words, capture_output=True, text=True, check=True)
+    return float(re.findall(r"Requests/sec:\s*([\d.]+)", finished.stdout)[0])
 
 
-def beside(room):
+def beside(room: str) -> subprocess.Popen[bytes]:
+    """lighttpd, with a file of each length."""
     folder = f"{room}/www"
     os.makedirs(f"{folder}/resource")
     for n in LENGTHS:
         pathlib.Path(f"{folder}/resource/r{n}").write_bytes(bytes(n))
     conf = pathlib.Path(f"{room}/lighttpd.conf")
-    conf.write_text(f'server.document-root = "{folder}"\nserver.bind = "127.0.0.1"\nserver.port = 8099\nserver.max-keep-alive-requests = 0\n')
+    conf.write_text(f'server.document-root = "{folder}"\nserver.bind = "127.0.0.1"\nserver.port = 8099\n'
+                    'server.max-keep-alive-requests = 0\n')
     return subprocess.Popen(["lighttpd", "-D", "-f", str(conf)], stdout=subprocess.DEVNULL, stderr=subprocess.DEVNULL)
 
 
-def loads(room, file):
+def loads(room: str, file: str) -> None:
+    """Loads the program and lighttpd in turn."""
     server, port = serve(file, 1_000_000_000)
     other = beside(room)
     time.sleep(0.5)
@@ -64,7 +71,7 @@ def loads(room, file):
         other.wait()
 
 
-def raw(port, *pieces):
+def raw(port: int, *pieces: bytes) -> tuple[float, bytes]:
     """The seconds from a request, in pieces, to the end of its response, and the response."""
     found = bytearray(LARGE + 4_096)
     with socket.create_connection(("127.0.0.1", port)) as connection:
@@ -76,19 +83,19 @@ def raw(port, *pieces):
         return time.perf_counter() - began, bytes(found[:n])
 
 
-def calls(file, data):
+def calls(file: str, data: bytes) -> float:
     """The seconds of the writes and syncs of a put of these bytes, over what the file held before."""
-    with open(file, "r+b", buffering=0) as held:
+    with open(file, "r+b", buffering=0) as disk:
         began = time.perf_counter()
         for at in range(0, len(data), PIECE):
-            os.pwrite(held.fileno(), data[at:at + PIECE], at)
+            os.pwrite(disk.fileno(), data[at:at + PIECE], at)
         for _ in range(3):
-            os.fsync(held.fileno())
-            os.pwrite(held.fileno(), b"1", 0)
+            os.fsync(disk.fileno())
+            os.pwrite(disk.fileno(), b"1", 0)
         return time.perf_counter() - began
 
 
-def big(file, hasher):
+def big(file: str, hasher: str) -> None:
     """PUTs and GETs in turn with the hashing, so that what else the machine does meets both alike."""
     server, port = serve(file, 2 * TIMES)
     data, rows, beside_it = os.urandom(LARGE), [], f"{file}.calls"
@@ -102,17 +109,20 @@ def big(file, hasher):
         rows.append((put, hashing.once(hasher), calls(beside_it, data), get, hashing.once(hasher, "sha256", "alone")))
     server.wait()
     put, both, written, get, sha256 = (statistics.median(column) for column in zip(*rows))
-    for name, took, than, least in (("PUT", put, "MD5 and SHA-256", both), ("GET", get, "SHA-256", sha256)):
-        print(f"16 MiB: {name} {1000 * took:.0f} ms, {took / least:.2f} times the kit's {than} over it ({1000 * least:.0f} ms)")
-    print(f"16 MiB: the writes and syncs of a PUT {1000 * written:.0f} ms; it took {put / (both + written):.2f} times as long as these "
-          "and its hashing")
+    for name, seconds, than, least in (("PUT", put, "MD5 and SHA-256", both), ("GET", get, "SHA-256", sha256)):
+        print(f"16 MiB: {name} {1000 * seconds:.0f} ms, {seconds / least:.2f} times the kit's {than} over it "
+              f"({1000 * least:.0f} ms)")
+    print(f"16 MiB: the writes and syncs of a PUT {1000 * written:.0f} ms; "
+          f"it took {put / (both + written):.2f} times as long as these and its hashing")
 
 
-def main():
+def main() -> int:
+    """Measures all, and gives the status."""
     with tempfile.TemporaryDirectory(dir=os.environ.get("ROOM")) as room:
         os.chmod(room, 0o755)
         file = f"{room}/source"
-        subprocess.run([str(PROGRAM), "format", file, str(64 << 20), "http://a", "1000"], check=True, capture_output=True)
+        subprocess.run([str(PROGRAM), "format", file, str(64 << 20), "http://a", "1000"], check=True,
+                       capture_output=True)
         loads(room, file)
         os.makedirs(f"{room}/hashing")
         big(file, hashing.built(f"{room}/hashing"))

@@ -1,15 +1,18 @@
-"""Many resources on a file: puts of 4 KiB, an opening, and the memory of an open source, each against the least that the format asks for.
+"""Many resources on a file: puts of 4 KiB, an opening, and the memory of an open source, each against the least that
+the format asks for.
 
-  puts     with 100, 1,000, 10,000 and 50,000 resources held, as many changes kept and as many published, one resource is replaced
-           after the other. Beside each put the floor does the same calls on another file in the same folder: the writes of the
-           body, the page of records and the page of changes that are touched, the directory and the slots, and three syncs. To it
-           comes the time of both digests of the body and of the SHA-256 of both pages and of the directory, at the kit's rate.
-  open     50,000 held, changed and published, where the published pages are the catalogue's and where they are others: from the
-           start of the program to its first answer, without that of an empty source. The floor reads each page once, from the
-           device, and has the SHA-256 of all at the kit's rate.
+  puts     with 100, 1,000, 10,000 and 50,000 resources held, as many changes kept and as many published, one resource
+           is replaced after the other. Beside each put the floor does the same calls on another file in the same
+           folder: the writes of the body, the page of records and the page of changes that are touched, the directory
+           and the slots, and three syncs. To it comes the time of both digests of the body and of the SHA-256 of both
+           pages and of the directory, at the kit's rate.
+  open     50,000 held, changed and published, where the published pages are the catalogue's and where they are others:
+           from the start of the program to its first answer, without that of an empty source. The floor reads each
+           page once, from the device, and has the SHA-256 of all at the kit's rate.
   memory   what the open source has resident, without that of an empty one, against the bytes of its pages.
 
-usage: python3 -m bench.many [PROGRAM]     the built program, where none is given. ROOM in the environment is the folder for the files.
+usage: python3 -m bench.many [PROGRAM]     the built program, where none is given. ROOM in the environment is the
+folder for the files.
 """
 import bisect
 import hashlib
@@ -21,6 +24,7 @@ import subprocess
 import sys
 import tempfile
 import time
+from typing import Any
 
 from bench import hashing
 from bench.asked import MIB, Asked, timed
@@ -31,6 +35,8 @@ from tests.reading import page_rule
 from tests.reading.disk_formats import BLOCK
 from tests.reading.disk_reader import source_of
 
+# The seconds of a byte: of both digests, and of SHA-256 alone.
+Rates = tuple[float, float]
 PUTS = 100
 COUNTS = (100, 1_000, 10_000, 50_000)
 # A source keeps 50,000 changes at most.
@@ -38,32 +44,33 @@ MOST = 50_000
 CHANGE = len(parts_of.change(2, name(0), 1, BODY))
 
 
-def sizes(source, name, before):
-    """The lengths of the page of records, the page of changes and the directory that a put of this name writes after this many."""
+def sizes(source: Any, name: bytes, before: int) -> tuple[int, int, int]:
+    """The lengths of the page of records, the page of changes and the directory that a put of this name writes after
+    this many."""
     firsts = [page.items[0].name for page in source.catalogue]
     records = source.catalogue[bisect.bisect_right(firsts, name) - 1].entry.length
-    pages, inside = divmod(sum(len(it.items) for it in source.changes) + before, page_rule.MOST)
+    pages, inside = divmod(sum(len(page.items) for page in source.changes) + before, page_rule.MOST)
     directory = source.directory.length + 44 * (pages + 1 - len(source.changes))
     return records, 5 + (inside + 1) * CHANGE, directory
 
 
-def lengths_on(file, name):
+def lengths_on(file: str, name: bytes) -> tuple[int, int, int]:
     """The lengths of the page of this name, of the last page of changes and of the directory on a file."""
     source = source_of(pathlib.Path(file).read_bytes())
-    page = next(it for it in source.catalogue if any(record.name == name for record in it.items))
+    page = next(page for page in source.catalogue if any(record.name == name for record in page.items))
     return page.entry.length, source.changes[-1].entry.length, source.directory.length
 
 
 class Floor:
     """The least that puts do, on a file of their own: their calls, and what is hashed."""
 
-    def __init__(self, file, disk):
+    def __init__(self, file: str, disk: bytes) -> None:
         pathlib.Path(file).write_bytes(disk)
         self.file, self.end = os.open(file, os.O_RDWR), len(disk) // BLOCK
         self.source, self.puts, self.hashed = source_of(disk), 0, 0
         os.fsync(self.file)
 
-    def put(self, name, body):
+    def put(self, name: bytes, body: bytes) -> float:
         """The calls of one put, and how long they took."""
         parts = sizes(self.source, name, self.puts)
         # Each put lies where the one before it does not.
@@ -71,56 +78,59 @@ class Floor:
         self.puts, self.hashed = self.puts + 1, self.hashed + sum(parts)
         data = [body, *map(bytes, parts)]
         began = time.perf_counter()
-        for it in data:
-            os.pwrite(self.file, it, at)
-            at += (len(it) + BLOCK - 1) // BLOCK * BLOCK
+        for part in data:
+            os.pwrite(self.file, part, at)
+            at += (len(part) + BLOCK - 1) // BLOCK * BLOCK
         for offset, length in ((512, 1), (513, 53), (512, 1)):
             os.pwrite(self.file, bytes(length), offset)
             os.fsync(self.file)
         return time.perf_counter() - began
 
 
-def puts(program, room, count, rates):
+def puts(program: str, room: str, count: int, rates: Rates) -> None:
     """Replaces resources one by one, and does the floor's calls beside each."""
     file, body = f"{room}/{count}.disk", hashlib.shake_256(b"4 KiB").digest(4096)
     disk = spelled(count, min(count, MOST - PUTS))
     pathlib.Path(file).write_bytes(disk)
     floor, ours = Floor(f"{room}/floor.disk", disk), Asked(program, file)
-    rng, took, least, lines = random.Random(count), [], [], []
+    rng, times, least, lines = random.Random(count), [], [], []
     for _ in range(PUTS):
         chosen = name(rng.randrange(count))
         line = f"put {chosen.decode()} {body.hex()} text/plain"
         lines.append(timed(ours, line[:-6], "refused BadType"))
-        took.append(timed(ours, line, "updated"))
+        times.append(timed(ours, line, "updated"))
         least.append(floor.put(chosen, body))
     ours.end()
-    if (left := lengths_on(file, chosen)) != sizes(floor.source, chosen, PUTS - 1):
-        raise SystemExit(f"the last put wrote {left} bytes, and the floor {sizes(floor.source, chosen, PUTS - 1)}")
-    tell_puts(count, statistics.median(took) - statistics.median(lines), statistics.median(least), floor.hashed / PUTS, rates)
+    if (lengths := lengths_on(file, chosen)) != sizes(floor.source, chosen, PUTS - 1):
+        raise SystemExit(f"the last put wrote {lengths} bytes, and the floor {sizes(floor.source, chosen, PUTS - 1)}")
+    tell_puts(count, statistics.median(times) - statistics.median(lines), statistics.median(least),
+              floor.hashed / PUTS, rates)
 
 
-def tell_puts(count, put, calls, hashed, rates):
+def tell_puts(count: int, put: float, calls: float, hashed: float, rates: Rates) -> None:
+    """Prints the figures of puts beside the floor's."""
     both, alone = rates
     digests = 4096 * both + hashed * alone
     times = put / (calls + digests)
-    print(f"puts: {count} held: {1000 * put:.2f} ms each; the floor {1000 * (calls + digests):.2f} ms (calls {1000 * calls:.2f}, "
-          f"digests {1000 * digests:.2f} of {(hashed + 4096) / 1000:.0f} kB): {times:.2f} times", flush=True)
+    print(f"puts: {count} held: {1000 * put:.2f} ms each; the floor {1000 * (calls + digests):.2f} ms "
+          f"(calls {1000 * calls:.2f}, digests {1000 * digests:.2f} of {(hashed + 4096) / 1000:.0f} kB): "
+          f"{times:.2f} times", flush=True)
 
 
-def read_pages(file, pages):
+def read_pages(file: str, pages: list[Any]) -> float:
     """How long it takes to read these pages from the device."""
-    it = os.open(file, os.O_RDONLY)
-    os.fsync(it)
-    os.posix_fadvise(it, 0, 0, os.POSIX_FADV_DONTNEED)
+    descriptor = os.open(file, os.O_RDONLY)
+    os.fsync(descriptor)
+    os.posix_fadvise(descriptor, 0, 0, os.POSIX_FADV_DONTNEED)
     began = time.perf_counter()
     for page in pages:
-        os.pread(it, page.length, page.first * BLOCK)
-    took = time.perf_counter() - began
-    os.close(it)
-    return took
+        os.pread(descriptor, page.length, page.first * BLOCK)
+    seconds = time.perf_counter() - began
+    os.close(descriptor)
+    return seconds
 
 
-def empty(program, room):
+def empty(program: str, room: str) -> tuple[float, int]:
     """How long an empty source takes to open, and its memory."""
     file = f"{room}/empty.disk"
     subprocess.run([program, "format", file, str(MIB), "http://a", "4000"], check=True, capture_output=True)
@@ -131,26 +141,28 @@ def empty(program, room):
     return found
 
 
-def opening(program, room, shared, rates):
+def opening(program: str, room: str, shared: bool, rates: Rates) -> None:
     """Opens 50,000 of each."""
     file, disk = f"{room}/open.disk", spelled(MOST, MOST, shared)
     pathlib.Path(file).write_bytes(disk)
     source = source_of(disk)
-    pages = list(dict.fromkeys(it.entry for part in (source.catalogue, source.changes, source.published) for it in part))
+    pages = list(dict.fromkeys(page.entry for part in (source.catalogue, source.changes, source.published)
+                               for page in part))
     nothing, least = empty(program, room)
     runs = [read_and_opened(program, file, pages) for _ in range(3)]
-    took, read, resident = (min(it) for it in zip(*runs))
+    seconds, read, resident = (min(column) for column in zip(*runs))
     os.unlink(file)
-    length = sum(it.length for it in pages)
+    length = sum(page.length for page in pages)
     digests = length * rates[1]
-    print(f"open: 50,000 of each, {len(pages)} pages, the published ones {'shared' if shared else 'others'}: {1000 * (took - nothing):.0f} ms; "
-          f"the floor {1000 * (read + digests):.0f} ms (reading {1000 * read:.0f}, SHA-256 {1000 * digests:.0f}): "
-          f"{(took - nothing) / (read + digests):.2f} times")
+    print(f"open: 50,000 of each, {len(pages)} pages, the published ones {'shared' if shared else 'others'}: "
+          f"{1000 * (seconds - nothing):.0f} ms; the floor {1000 * (read + digests):.0f} ms "
+          f"(reading {1000 * read:.0f}, SHA-256 {1000 * digests:.0f}): "
+          f"{(seconds - nothing) / (read + digests):.2f} times")
     print(f"memory: {(resident - least) / MIB:.1f} MiB; the bytes of the pages {length / MIB:.1f} MiB: "
           f"{(resident - least) / length:.2f} times", flush=True)
 
 
-def read_and_opened(program, file, pages):
+def read_and_opened(program: str, file: str, pages: list[Any]) -> tuple[float, float, int]:
     """How long the program takes to open a file, how long the pages take to be read, and the program's memory."""
     read = read_pages(file, pages)
     ours = Asked(program, file)
@@ -161,9 +173,10 @@ def read_and_opened(program, file, pages):
     return ours.opened, read, resident
 
 
-def main():
-    program = os.path.abspath(sys.argv[1] if len(sys.argv) > 1 else PROGRAM)
-    _, both, alone = (it / (16 * MIB) for it in hashing.seconds())
+def main() -> int:
+    """Measures all, and gives the status."""
+    program = os.path.abspath(sys.argv[1] if len(sys.argv) > 1 else str(PROGRAM))
+    _, both, alone = (rate / (16 * MIB) for rate in hashing.seconds())
     with tempfile.TemporaryDirectory(dir=os.environ.get("ROOM")) as room:
         for count in COUNTS:
             puts(program, room, count, (both, alone))

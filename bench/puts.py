@@ -1,15 +1,15 @@
 """Puts of 4 KiB on a disk in memory, with 100, 1,000 and 10,000 resources held and as many changes kept.
 
 The disk is made here from the tables of docs/DISK.md, and opened: no command is run to fill it. A small program in a
-folder of its own, which `rt run` proves and builds, replaces one resource ten times and times itself: the whole put, and
-apart from it the parts that every put has, on the same lists: the used set, the hashing of the body, the two pages and the
-directory, and the making of the directory. The rest is copying, spelling, placing and writing the pages.
+folder of its own, which `rt run` proves and builds, replaces one resource ten times and times itself: the whole put,
+and apart from it the parts that every put has, on the same lists: the used set, the hashing of the body, the two pages
+and the directory, and the making of the directory. The rest is copying, spelling, placing and writing the pages.
 """
 import hashlib
-import pathlib
 import struct
 import subprocess
 import tempfile
+from pathlib import Path
 
 from bench import small
 
@@ -127,15 +127,17 @@ fn main(rt: HostRuntime) -> anyhow::Result<()> {
 """
 
 
-def blocks(length):
+def blocks(length: int) -> int:
+    """The blocks of so many bytes."""
     return (length + 511) // 512
 
 
-def text(value):
+def text(value: bytes) -> bytes:
+    """A text behind its length."""
     return bytes([len(value)]) + value
 
 
-def disk(count):
+def disk(count: int) -> bytes:
     """The bytes of a disk with this many resources of three bytes, put one after the other, and room for puts."""
     body = b"abc"
     md5, sha256 = hashlib.md5(body).digest(), hashlib.sha256(body).digest()
@@ -165,7 +167,7 @@ def disk(count):
     return bytes(whole)
 
 
-def build(root):
+def build(root: Path) -> Path:
     """The program, proved and built, by its path."""
     lines = small.standing_on(root, "rs_store")
     crate = root / "crates" / "puts"
@@ -180,17 +182,19 @@ def build(root):
     return program
 
 
-def main():
+def main() -> None:
+    """Builds the program, and prints its figures."""
     with tempfile.TemporaryDirectory() as folder:
-        program = build(pathlib.Path(folder))
+        program = build(Path(folder))
         for count in (100, 1_000, 10_000):
             done = subprocess.run([str(program)], input=disk(count), capture_output=True)
             if done.returncode != 0:
                 raise SystemExit(done.stdout + done.stderr)
-            took = {words[0]: int(words[1]) / 10_000 for words in map(str.split, done.stdout.decode().splitlines())}
-            rest = took["put"] - took["used"] - took["hash"] - took["directory"]
-            print(f"puts: {count} held: {took['put']:.2f} ms each; hash {took['hash']:.2f}, directory {took['directory']:.3f}, "
-                  f"used set {took['used']:.3f}, pages copied, spelled and written {rest:.2f}")
+            times = {words[0]: int(words[1]) / 10_000 for words in map(str.split, done.stdout.decode().splitlines())}
+            rest = times["put"] - times["used"] - times["hash"] - times["directory"]
+            print(f"puts: {count} held: {times['put']:.2f} ms each; hash {times['hash']:.2f}, "
+                  f"directory {times['directory']:.3f}, used set {times['used']:.3f}, "
+                  f"pages copied, spelled and written {rest:.2f}")
 
 
 if __name__ == "__main__":

@@ -1,4 +1,5 @@
-"""Measures the proved program: `make bench` builds it first. Prints one line a figure; docs/keepers/BENCH.md keeps them.
+"""Measures the proved program: `make bench` builds it first. Prints one line a figure; docs/keepers/BENCH.md keeps
+them.
 
   skip    a line of 40,000,000 bytes without an end, beside `wc -c` on the same pipe
   lists   a Resource List and a Change List of 1,000 entries, beside Python's xml.etree making the same text
@@ -8,6 +9,7 @@ import subprocess
 import sys
 import time
 import xml.etree.ElementTree as ElementTree
+from collections.abc import Callable
 
 from tests.program import PROGRAM
 
@@ -16,37 +18,44 @@ BASE = "http://127.0.0.1:8080"
 SIZE = 2_097_152
 
 
-def program(limit):
+def program(limit: int) -> list[str]:
+    """The program on a source in memory, with this item limit."""
     return [str(PROGRAM), "mem", str(SIZE), BASE, str(limit)]
 
 
-def best(times, action):
+def best(times: int, action: Callable[[], object]) -> float:
+    """The least time of so many runs."""
     return min(timed(action) for _ in range(times))
 
 
-def timed(action):
+def timed(action: Callable[[], object]) -> float:
+    """The seconds of an action."""
     start = time.perf_counter()
     action()
     return time.perf_counter() - start
 
 
-def feed(command, data):
+def feed(command: list[str], data: bytes) -> None:
+    """Runs a command with this input."""
     subprocess.run(command, input=data, stdout=subprocess.DEVNULL, check=True)
 
 
-def skip():
+def skip() -> None:
+    """Times a line that is too long, beside `wc -c`."""
     data = b"x" * 40_000_000
     ours = best(7, lambda: feed(program(2), data))
     theirs = best(7, lambda: feed(["wc", "-c"], data))
     peak = resource.getrusage(resource.RUSAGE_CHILDREN).ru_maxrss
-    print(f"skip: {ours * 1000:.0f} ms, wc -c {theirs * 1000:.0f} ms, ratio {ours / theirs:.1f}; peak of any child {peak // 1024} MiB")
+    print(f"skip: {ours * 1000:.0f} ms, wc -c {theirs * 1000:.0f} ms, ratio {ours / theirs:.1f}; "
+          f"peak of any child {peak // 1024} MiB")
 
 
-def puts(count):
+def puts(count: int) -> bytes:
+    """The lines that put so many small resources."""
     return "".join(f"put name{i:05d} {i % 256:02x} text/plain\n" for i in range(count)).encode()
 
 
-def shown(limit, front, paths, times):
+def shown(limit: int, front: bytes, paths: list[str], times: int) -> tuple[float, int]:
     """Seconds and bytes of showing these paths once, from the difference between many times and none."""
     show = b"".join(f"show {path}\n".encode() for path in paths)
     size = len(subprocess.run(program(limit), input=front + show, capture_output=True, check=True).stdout)
@@ -56,15 +65,16 @@ def shown(limit, front, paths, times):
     return (many - none) / times, size
 
 
-def rate(seconds, size):
+def rate(seconds: float, size: int) -> float:
+    """Megabytes a second."""
     return size / seconds / 1e6
 
 
-def by_etree(text):
+def by_etree(text: bytes) -> float:
     """Seconds that xml.etree takes to make and write the tree of this document again, entry by entry."""
     rows = ElementTree.fromstring(text)
 
-    def make():
+    def make() -> None:
         fresh = ElementTree.Element(rows.tag)
         for child in rows:
             entry = ElementTree.SubElement(fresh, child.tag, child.attrib)
@@ -75,17 +85,21 @@ def by_etree(text):
     return best(3, make)
 
 
-def lists():
+def lists() -> None:
+    """Times the lists of 1,000 resources, beside xml.etree."""
     front = puts(1000) + b"publish\n"
     for path in ["/resourcelist.xml", "/changelist.xml"]:
         seconds, size = shown(4000, front, [path], 2000)
-        output = subprocess.run(program(4000), input=front + f"show {path}\n".encode(), capture_output=True, check=True).stdout
+        output = subprocess.run(program(4000), input=front + f"show {path}\n".encode(), capture_output=True,
+                                check=True).stdout
         start = output.index(b"<?xml")
         theirs = by_etree(output[start:])
-        print(f"lists: {path} {size} bytes, {rate(seconds, size):.0f} MB/s; xml.etree {rate(theirs, size):.0f} MB/s, {theirs / seconds:.0f} times")
+        print(f"lists: {path} {size} bytes, {rate(seconds, size):.0f} MB/s; xml.etree {rate(theirs, size):.0f} MB/s, "
+              f"{theirs / seconds:.0f} times")
 
 
-def main():
+def main() -> None:
+    """Runs the measures that are named, or all."""
     if not PROGRAM.exists():
         sys.exit("build the program first: make build")
     chosen = sys.argv[1:] or ["skip", "lists"]

@@ -16,20 +16,20 @@ ROOM in the environment is the folder for the files.
 """
 import argparse
 import os
-import pathlib
 import random
 import shutil
 import subprocess
 import tempfile
 import time
 import xml.etree.ElementTree as ElementTree
+from pathlib import Path
 
 COUNTS, KILLS, TIMES = (1_000, 10_000), 20, 3
 LOC = "{http://www.sitemaps.org/schemas/sitemap/0.9}loc"
 BASE = "http://127.0.0.1:8080/"
 
 
-def fill(site, first, count):
+def fill(site: Path, first: int, count: int) -> None:
     """Makes the site hold the files of these numbers, and no other."""
     for old in site.glob("*.html"):
         old.unlink()
@@ -37,35 +37,40 @@ def fill(site, first, count):
         (site / f"name{number:05d}.html").write_bytes(f"{number:05d}".encode() * (4_096 // 5 + 1))
 
 
-def words(site, out):
+def words(site: Path, out: Path) -> list[str]:
+    """The words that build a site."""
     return ["jekyll", "build", "--quiet", "-s", str(site), "-d", str(out)]
 
 
-def built(site, out):
+def built(site: Path, out: Path) -> float:
+    """The seconds of a run."""
     start = time.perf_counter()
     subprocess.run(words(site, out), check=True)
     return time.perf_counter() - start
 
 
-def killed(site, out, seconds):
-    with subprocess.Popen(words(site, out), stdout=subprocess.DEVNULL, stderr=subprocess.DEVNULL) as ran:
+def killed(site: Path, out: Path, seconds: float) -> None:
+    """Begins a run, and kills it after so many seconds."""
+    with subprocess.Popen(words(site, out), stdout=subprocess.DEVNULL, stderr=subprocess.DEVNULL) as process:
         time.sleep(seconds)
-        ran.kill()
+        process.kill()
 
 
-def judged(out):
+def judged(out: Path) -> str:
     """What a mirror finds."""
     try:
-        listed = {it.text.removeprefix(BASE) for it in ElementTree.parse(out / "sitemap.xml").iter(LOC)}
+        places = [place.text or "" for place in ElementTree.parse(out / "sitemap.xml").iter(LOC)]
+        listed = {place.removeprefix(BASE) for place in places}
     except (OSError, ElementTree.ParseError):
         return "no sitemap"
-    there = {it.name for it in out.glob("*.html")}
+    there = {page.name for page in out.glob("*.html")}
     if listed == there:
         return "lists what is served"
     return "lists what is gone" if listed - there else "leaves out"
 
 
-def measure(room, count, rng):
+def measure(room: Path, count: int, rng: random.Random) -> None:
+    """Times runs with so many pages, and counts what runs that are killed leave."""
     site, out, old = room / f"site{count}", room / f"out{count}", room / f"old{count}"
     site.mkdir()
     (site / "_config.yml").write_text(f"url: {BASE[:-1]}\nplugins: [jekyll-sitemap]\n")
@@ -74,24 +79,26 @@ def measure(room, count, rng):
     print(f"{count:,}: a run, from its start, {span * 1000:.0f} ms", flush=True)
     shutil.copytree(out, old)
     fill(site, count // 2, count)
-    found = {}
+    found: dict[str, int] = {}
     for _ in range(KILLS):
         shutil.rmtree(out)
         shutil.copytree(old, out)
         killed(site, out, rng.random() * span)
-        came = judged(out)
-        found[came] = found.get(came, 0) + 1
-    print(f"{count:,}: killed: {', '.join(f'{it} {n} of {KILLS}' for it, n in sorted(found.items()))}", flush=True)
+        state = judged(out)
+        found[state] = found.get(state, 0) + 1
+    states = ", ".join(f"{state} {n} of {KILLS}" for state, n in sorted(found.items()))
+    print(f"{count:,}: killed: {states}", flush=True)
 
 
-def main():
-    given = argparse.ArgumentParser(usage="python3 -m bench.sitemaps [--seed N]")
-    given.add_argument("--seed", type=int, default=20261125)
-    seed = given.parse_args().seed
+def main() -> None:
+    """Measures each count."""
+    parser = argparse.ArgumentParser(usage="python3 -m bench.sitemaps [--seed N]")
+    parser.add_argument("--seed", type=int, default=20261125)
+    seed = parser.parse_args().seed
     print(subprocess.run(["jekyll", "--version"], capture_output=True, text=True, check=True).stdout.strip())
     with tempfile.TemporaryDirectory(prefix="sitemaps-", dir=os.environ.get("ROOM")) as room:
         for count in COUNTS:
-            measure(pathlib.Path(room), count, random.Random(seed))
+            measure(Path(room), count, random.Random(seed))
 
 
 if __name__ == "__main__":

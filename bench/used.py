@@ -1,14 +1,15 @@
 """What the set of used blocks costs a command, on a disk of 8,388,608 blocks.
 
-A small program in a folder of its own, which `rt run` proves and builds, fills the front of the set with bodies of 4 KiB and
-the pages and directories beside them, for this many resources held, changed and published, and then does with it what a put
-does: it finds and takes the lowest runs for the body, a page of records, a page of changes and the directory, and gives them
-back; and, as after the commit, takes them again and gives others back. It tells the time of one such command.
+A small program in a folder of its own, which `rt run` proves and builds, fills the front of the set with bodies of 4
+KiB and the pages and directories beside them, for this many resources held, changed and published, and then does with
+it what a put does: it finds and takes the lowest runs for the body, a page of records, a page of changes and the
+directory, and gives them back; and, as after the commit, takes them again and gives others back. It tells the time of
+one such command.
 """
-import pathlib
 import shutil
 import subprocess
 import tempfile
+from pathlib import Path
 
 from tests.program import ROOT
 
@@ -88,7 +89,7 @@ fn main(rt: HostRuntime) -> anyhow::Result<()> {
 """
 
 
-def build(root):
+def build(root: Path) -> Path:
     """The program, proved and built, by its path."""
     crate = root / "crates" / "used"
     shutil.copytree(ROOT / "crates" / "rs_extent", root / "crates" / "rs_extent", ignore=shutil.ignore_patterns("out"))
@@ -102,15 +103,16 @@ def build(root):
     return program
 
 
-def main():
+def main() -> None:
+    """Builds the program, and prints its figures."""
     with tempfile.TemporaryDirectory() as folder:
-        done = subprocess.run([str(build(pathlib.Path(folder)))], capture_output=True, text=True, check=True)
-    least = {}
+        done = subprocess.run([str(build(Path(folder)))], capture_output=True, text=True, check=True)
+    least: dict[int, int] = {}
     for line in done.stdout.splitlines():
-        held, spent = map(int, line.split())
-        least[held] = min(spent, least.get(held, spent))
-    for held, spent in least.items():
-        print(f"used: {held} held: {spent / 1_000:.2f} microseconds for the set, a put")
+        resources, spent = map(int, line.split())
+        least[resources] = min(spent, least.get(resources, spent))
+    for resources, spent in least.items():
+        print(f"used: {resources} held: {spent / 1_000:.2f} microseconds for the set, a put")
 
 
 if __name__ == "__main__":

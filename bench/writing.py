@@ -108,7 +108,8 @@ fn main(rt: HostRuntime) -> anyhow::Result<()> {
 USES = "rs_caps rs_io rs_lists rs_model rs_record rs_time"
 
 
-def main():
+def main() -> None:
+    """Builds the program, and prints its figures."""
     with tempfile.TemporaryDirectory() as folder:
         root = pathlib.Path(folder)
         lines = small.standing_on(root, *USES.split())
