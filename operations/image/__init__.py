@@ -1,1 +1,4 @@
-"""The image for containers (OCI): a small Debian with the two packages, one layer, made by Debian's own tools (`make image`)."""
+"""The image for containers (OCI): a small Debian with the two packages, in one layer.
+
+`make image` makes it by Debian's own tools.
+"""

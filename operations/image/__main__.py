@@ -39,7 +39,8 @@ def made(packages: list[Path], to: Path, base: Path | None = None) -> Path:
 
 def main() -> str | int:
     """Makes it, or says why not."""
-    words = argparse.ArgumentParser(prog="image", description="Makes the image for containers of the Debian packages.", allow_abbrev=False)
+    words = argparse.ArgumentParser(prog="image", description="Makes the image for containers of the Debian packages.",
+                                    allow_abbrev=False)
     words.add_argument("packages", nargs=2, type=Path, metavar="PACKAGE.deb")
     words.add_argument("--to", type=Path, default=ROOT / "out/image", metavar="FOLDER")
     words.add_argument("--base", type=Path, metavar="ARCHIVE", help="the Debian, where one is kept")

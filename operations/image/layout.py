@@ -15,9 +15,12 @@ def settings(version: str, user: str) -> list[str]:
     """How a container of the image runs: its user, its program, its one volume."""
     labels = {"title": "Ropepeach", "version": version, "licenses": "MIT OR Apache-2.0",
               "description": "a proved source for the ResourceSync Framework"}
-    words = ["--config.user", user, "--config.volume", "/data", "--config.workingdir", "/data", "--config.exposedports", "8080/tcp",
-             "--config.env", "PATH=/usr/bin:/bin", "--config.env", "PYTHONDONTWRITEBYTECODE=1", "--os", "linux", "--architecture", "amd64"]
-    words += [word for name, value in labels.items() for word in ("--config.label", f"org.opencontainers.image.{name}={value}")]
+    words = ["--config.user", user, "--config.volume", "/data", "--config.workingdir", "/data", "--config.exposedports",
+             "8080/tcp",
+             "--config.env", "PATH=/usr/bin:/bin", "--config.env", "PYTHONDONTWRITEBYTECODE=1", "--os", "linux",
+             "--architecture", "amd64"]
+    words += [word for name, value in labels.items()
+              for word in ("--config.label", f"org.opencontainers.image.{name}={value}")]
     words += [word for part in ENTRYPOINT for word in ("--config.entrypoint", part)]
     return words + [word for part in COMMAND for word in ("--config.cmd", part)]
 
@@ -25,7 +28,8 @@ def settings(version: str, user: str) -> list[str]:
 def layout(root: Path, to: Path, version: str, user: str, moment: int) -> Path:
     """Makes the layout of the files of an image."""
     shutil.rmtree(to, ignore_errors=True)
-    when, image = datetime.datetime.fromtimestamp(moment, datetime.timezone.utc).strftime("%Y-%m-%dT%H:%M:%SZ"), f"{to}:{version}"
+    when, image = datetime.datetime.fromtimestamp(
+        moment, datetime.timezone.utc).strftime("%Y-%m-%dT%H:%M:%SZ"), f"{to}:{version}"
     done("umoci", "init", "--layout", to)
     done("umoci", "new", "--image", image)
     done("umoci", "insert", "--image", image, "--history.created", when, "--history.created_by", "ropepeach", root, "/")
@@ -36,6 +40,7 @@ def layout(root: Path, to: Path, version: str, user: str, moment: int) -> Path:
 
 def archive(made: Path, to: Path, moment: int) -> Path:
     """Makes one file of a layout, as `podman load` takes it."""
-    done("tar", "--create", "--sort=name", f"--mtime=@{moment}", "--owner=0", "--group=0", "--numeric-owner", "--mode=u=rwX,go=rX",
+    done("tar", "--create", "--sort=name", f"--mtime=@{moment}", "--owner=0", "--group=0", "--numeric-owner",
+         "--mode=u=rwX,go=rX",
          "--format=ustar", "--file", to, "--directory", made, ".")
     return to

@@ -1,4 +1,4 @@
-"""The files of the image: a small Debian with the two packages of this repository, without what a container doesn't use."""
+"""The files of the image: a small Debian with this repository's two packages, without what a container doesn't use."""
 from __future__ import annotations
 
 import os
@@ -12,11 +12,15 @@ from operations.package.program_facts import Unfit
 
 SUITE, REGISTRY = "bookworm", "http://deb.debian.org/debian"
 # What the packages depend on (a user is made without systemd), and the first process of a container.
-INCLUDED = ("tini", "python3", "python3-defusedxml", "python3-tqdm", "python3-urllib3", "curl", "ca-certificates", "systemd-standalone-sysusers")
+INCLUDED = ("tini", "python3", "python3-defusedxml", "python3-tqdm", "python3-urllib3", "curl", "ca-certificates",
+            "systemd-standalone-sysusers")
 # What nobody reads in a container, and what differs from one making to the next.
-DROPPED = ("var/lib/apt/lists", "var/cache/apt", "var/cache/debconf", "var/cache/ldconfig", "var/log", "usr/share/doc", "usr/share/man",
-           "usr/share/info", "usr/share/locale", "usr/share/lintian", "run", "tmp", "root", "var/lib/systemd", "var/lib/dpkg/info.old")
-DROPPED_FILES = ("etc/machine-id", "etc/passwd-", "etc/group-", "etc/shadow-", "etc/gshadow-", "var/lib/dpkg/status-old",
+DROPPED = ("var/lib/apt/lists", "var/cache/apt", "var/cache/debconf", "var/cache/ldconfig", "var/log", "usr/share/doc",
+           "usr/share/man",
+           "usr/share/info", "usr/share/locale", "usr/share/lintian", "run", "tmp", "root", "var/lib/systemd",
+           "var/lib/dpkg/info.old")
+DROPPED_FILES = ("etc/machine-id", "etc/passwd-", "etc/group-", "etc/shadow-", "etc/gshadow-",
+                 "var/lib/dpkg/status-old",
                  "var/lib/dpkg/diversions-old", "etc/hostname", "etc/resolv.conf", ".dockerenv")
 # The user of the image, and its number in every release.
 USER, NUMBER = "ropepeach", 10_001
@@ -26,8 +30,10 @@ SECONDS = 600
 
 def done(*words: str | Path) -> None:
     """Runs a program, which has to end well."""
-    ended = subprocess.run([str(word) for word in words], stdin=subprocess.DEVNULL, capture_output=True, text=True, errors="replace",
-                           timeout=SECONDS, env={**os.environ, "DEBIAN_FRONTEND": "noninteractive", "LC_ALL": "C.UTF-8"})
+    ended = subprocess.run([str(word) for word in words], stdin=subprocess.DEVNULL, capture_output=True, text=True,
+                           errors="replace",
+                           timeout=SECONDS,
+                           env={**os.environ, "DEBIAN_FRONTEND": "noninteractive", "LC_ALL": "C.UTF-8"})
     if ended.returncode:
         lines = (ended.stdout + ended.stderr).strip().splitlines() or [f"status {ended.returncode}"]
         raise Unfit(f"{words[0]}: {lines[-1]}")
@@ -39,10 +45,10 @@ def debian(root: Path, registry: str = REGISTRY) -> None:
 
 
 def add_user(root: Path) -> None:
-    """Makes the user of the source before the package does: its number stays the same, as the files of volumes have it."""
+    """Makes the source's user before the package does: its number stays the same, as the files of volumes have it."""
     done("chroot", root, "groupadd", "--gid", str(NUMBER), USER)
-    done("chroot", root, "useradd", "--uid", str(NUMBER), "--gid", str(NUMBER), "--home-dir", "/data", "--no-create-home",
-         "--shell", "/usr/sbin/nologin", USER)
+    done("chroot", root, "useradd", "--uid", str(NUMBER), "--gid", str(NUMBER), "--home-dir", "/data",
+         "--no-create-home", "--shell", "/usr/sbin/nologin", USER)
 
 
 def install(root: Path, packages: Sequence[Path]) -> None:
@@ -55,7 +61,10 @@ def install(root: Path, packages: Sequence[Path]) -> None:
 
 
 def trim(root: Path, moment: int) -> None:
-    """Takes away what a container doesn't use, and dates the rest alike: two images of one set of packages have the same bytes."""
+    """Takes away what a container doesn't use, and dates the rest alike.
+
+    So two images of one set of packages have the same bytes.
+    """
     for name in DROPPED:
         folder = root / name
         if folder.is_dir():

@@ -14,13 +14,13 @@ import tempfile
 from email.utils import formatdate
 from pathlib import Path
 
-from operations.package.places import ROOT, SOURCE, TOOLS
+from operations.package.places import PLAIN_SOURCE, ROOT, SOURCE, TOOLS
 from operations.package.program_facts import Unfit
 from operations.package.rules import FOLDER
 from operations.package.stamp import Stamp, git, read
 
 # What is not of the sources where no git tells them.
-LEFT_OUT = shutil.ignore_patterns(".git", "out", "build", "made", "proved", "__pycache__", ".mypy_cache",
+LEFT_OUT = shutil.ignore_patterns(".git", "out", "build", "made", "proved", "plain", "__pycache__", ".mypy_cache",
                                   ".hypothesis", "*.egg-info")
 # A build that takes longer hangs, in seconds.
 SECONDS = 600
@@ -28,10 +28,10 @@ SECONDS = 600
 
 def moment() -> int:
     """The moment of all that is packed, in seconds since 1970."""
-    given = os.environ.get("SOURCE_DATE_EPOCH") or git("log", "-1", "--format=%ct")
-    if not given:
+    text = os.environ.get("SOURCE_DATE_EPOCH") or git("log", "-1", "--format=%ct")
+    if not text:
         raise Unfit("there is no git repository here: set SOURCE_DATE_EPOCH")
-    return int(given)
+    return int(text)
 
 
 def sources(to: Path) -> None:
@@ -59,17 +59,40 @@ def dated(folder: Path, version: str, when: int) -> None:
             entry.chmod(0o755 if is_run else 0o644)
 
 
-def ran(folder: Path, when: int) -> None:
+def run_build(folder: Path, when: int, *options: str) -> None:
     """Runs dpkg-buildpackage."""
     settings = os.environ | {FOLDER: str(ROOT), "SOURCE_DATE_EPOCH": str(when), "LC_ALL": "C.UTF-8",
                              "DEB_BUILD_OPTIONS": "nocheck parallel=1"}
-    build = subprocess.run(["dpkg-buildpackage", "-us", "-uc"], cwd=folder, env=settings, capture_output=True,
+    build = subprocess.run(["dpkg-buildpackage", "-us", "-uc", *options], cwd=folder, env=settings, capture_output=True,
                            text=True, errors="replace", timeout=SECONDS)
     if build.returncode:
         lines = (build.stdout + build.stderr).splitlines()
-        named = [line for line in lines if line.startswith("package: ")]
-        raise Unfit(named[-1].removeprefix("package: ") if named
+        messages = [line for line in lines if line.startswith("package: ")]
+        raise Unfit(messages[-1].removeprefix("package: ") if messages
                     else f"dpkg-buildpackage: {' / '.join(lines[-3:])[:600]}")
+
+
+def prepared(room: str, program: Path, place: str, stamp: Stamp, version: str, when: int) -> Path:
+    """The sources in a new folder, with a program and its stamp in their place."""
+    folder = Path(room, f"{SOURCE}-{version}")
+    sources(folder)
+    (folder / place).mkdir()
+    shutil.copyfile(program, folder / place / "rs_source")
+    stamp.write(folder / place / "rs_source")
+    dated(folder, version, when)
+    return folder
+
+
+def build_plain(program: Path, stamp: Stamp, machine: str, version: str, to: Path) -> Path:
+    """Builds the package of the plain program for another machine, and gives its path. Its stamp names the compiler."""
+    when, to = moment(), Path(to)
+    to.mkdir(parents=True, exist_ok=True)
+    with tempfile.TemporaryDirectory() as room:
+        folder = prepared(room, program, "plain", stamp, version, when)
+        # (what it is built with is this machine's, so what Debian wants of the other machine's is not looked for)
+        run_build(folder, when, f"--host-arch={machine}", "--build=any", "--no-check-builddeps")
+        name = f"{PLAIN_SOURCE}_{version}_{machine}.deb"
+        return Path(shutil.copyfile(Path(room, name), to / name))
 
 
 def build(program: Path, version: str, to: Path, stamp: Stamp | None = None) -> list[Path]:
@@ -78,13 +101,8 @@ def build(program: Path, version: str, to: Path, stamp: Stamp | None = None) -> 
     stamp = stamp or read(program)
     to.mkdir(parents=True, exist_ok=True)
     with tempfile.TemporaryDirectory() as room:
-        folder = Path(room, f"{SOURCE}-{version}")
-        sources(folder)
-        (folder / "proved").mkdir()
-        shutil.copyfile(program, folder / "proved/rs_source")
-        stamp.write(folder / "proved/rs_source")
-        dated(folder, version, when)
-        ran(folder, when)
+        folder = prepared(room, program, "proved", stamp, version, when)
+        run_build(folder, when)
         names = [f"{SOURCE}_{version}_amd64.deb", f"{TOOLS}_{version}_all.deb", f"{SOURCE}_{version}.dsc",
                  f"{SOURCE}_{version}.tar.xz"]
         made = [Path(shutil.copyfile(Path(room, name), to / name)) for name in names]

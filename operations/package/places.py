@@ -1,6 +1,7 @@
 """What is installed, and where: `make install`, `make uninstall` and the packages go by this table.
 
-usage: python3 -m operations.package.places install|uninstall PROGRAM PREFIX [DESTDIR]     (operations/docs/OPERATING.md)
+usage: python3 -m operations.package.places install|uninstall PROGRAM PREFIX [DESTDIR]
+(operations/docs/OPERATING.md)
 """
 from __future__ import annotations
 
@@ -12,8 +13,9 @@ from dataclasses import dataclass
 from pathlib import Path
 
 ROOT = Path(__file__).resolve().parents[2]
-# The two packages. What has neither is of `make install` alone.
-SOURCE, TOOLS = "ropepeach", "ropepeach-tools"
+# The two packages; a file of neither comes by `make install` only. For other machines PLAIN_SOURCE takes the place of
+# the first: its program is the plain one, which is not proved.
+SOURCE, TOOLS, PLAIN_SOURCE = "ropepeach", "ropepeach-tools", "ropepeach-plain"
 # Units that need the tools, by the word behind the dash; those of mirrors stand for no source.
 WITH_TOOLS = ("health", "heal", "publish", "mirror", "fill", "collection")
 # The files in operations/install/ have this prefix, and names of instances.
@@ -64,6 +66,7 @@ def places(program: Path, prefix: str, install: Path = ROOT / "operations/instal
 
     def of(file: Path, path: str, mode: int = 0o644, package: str = SOURCE,
            is_settings: bool = False) -> Place:
+        """The place of a file as it is here, with the prefix in its text."""
         content = file.read_bytes().replace(WRITTEN_PREFIX.encode(), f"{prefix}/".encode())
         return Place(path, content, mode, package, is_settings=is_settings)
 
@@ -81,7 +84,7 @@ def places(program: Path, prefix: str, install: Path = ROOT / "operations/instal
     yield of(install / "closed", "lib/ropepeach/closed", 0o755, TOOLS)
     yield of(install / "publish", "lib/ropepeach/publish", 0o755, TOOLS)
     yield of(install / "ropepeach.nginx", "share/ropepeach/ropepeach.nginx")
-    for file in sorted(it for it in (install / "site").rglob("*") if it.is_file()):
+    for file in sorted(path for path in (install / "site").rglob("*") if path.is_file()):
         yield of(file, f"share/ropepeach/{file.relative_to(install)}")
     yield of(install / "rs_source.8", "share/man/man8/rs_source.8")
     for file in sorted(install.glob("*.1")):

@@ -1,7 +1,9 @@
 """What debian/rules does by itself.
 
-usage: python3 -m operations.package.rules bring     brings the program that `make build` left, with its stamp, into proved/
-       python3 -m operations.package.rules stage     puts all files into debian/ropepeach and debian/ropepeach-tools
+usage: python3 -m operations.package.rules bring  brings the program that `make build` left, and its stamp, into proved/
+       python3 -m operations.package.rules stage  puts all files into debian/ropepeach and debian/ropepeach-tools
+For another machine than amd64 (DEB_HOST_ARCH) the program is the plain one, in plain/, and goes into
+debian/ropepeach-plain.
 Exit status 1 if the program or a file may not go into a package: it says why.
 """
 from __future__ import annotations
@@ -15,13 +17,18 @@ from email.utils import formatdate
 from pathlib import Path
 
 from operations.package import places, stamp
-from operations.package.places import ROOT, SOURCE, Place
-from operations.package.program_facts import Unfit, libc_version, paths_of_the_build, stripped
+from operations.package.places import PLAIN_SOURCE, ROOT, SOURCE, Place
+from operations.package.program_facts import (
+    AMD64, MACHINES, Machine, Unfit, libc_version, libraries, paths_of_the_build, stripped,
+)
 
 # Where `make build` leaves the program, and where a package has it from.
 # (`make package` builds in a copy of this folder)
 FOLDER = "ROPEPEACH_BUILT_FROM"
-BUILT, PROVED = ROOT / "crates/rs_source/out/rs_source", ROOT / "proved/rs_source"
+BUILT = ROOT / "crates/rs_source/out/rs_source"
+PROVED, PLAIN = ROOT / "proved/rs_source", ROOT / "plain/rs_source"
+# By this word the stamp of a plain program begins: its compiler in place of a prover.
+COMPILER = "rustc "
 TEXT = """Ropepeach {version}, commit {commit}{changes} of {date}.
 
 `make build` proves each function of the program, and then builds it; the package has what it built. Its prover was
@@ -33,6 +40,34 @@ SHA-256 of the program in the package:     {packed}
 They differ in what is not loaded into memory: `strip` took away names, and paths of the building machine.
 It needs {needs}.
 """
+PLAIN_TEXT = """Ropepeach {version}, commit {commit}{changes} of {date}: the plain build, for {machine}.
+
+THIS PROGRAM IS NOT PROVED. The proofs are of the sources; it was built of the same sources as plain Rust, by
+  {kit}
+It trusts the eraser, the shim, rustc, its library and the pinned crates in place of the prover's compiler and
+library. The package ropepeach, for amd64, has the proved program.
+
+SHA-256 of the program as it was built:    {built}
+SHA-256 of the program in the package:     {packed}
+It needs {needs}.
+"""
+
+
+def machine() -> Machine:
+    """The machine that packages are built for."""
+    name = os.environ.get("DEB_HOST_ARCH") or AMD64.name
+    if name not in MACHINES:
+        raise Unfit(f"there is no package for {name}")
+    return MACHINES[name]
+
+
+def read_stamp(program: Path, is_plain: bool) -> stamp.Stamp:
+    """The stamp of a program: of a proved one by a prover, of a plain one by a compiler."""
+    known = stamp.read(program)
+    if known.kit.startswith(COMPILER) != is_plain:
+        kinds = ("a plain program, which is not proved", "a proved program")
+        raise Unfit(f"{program} has the stamp of {kinds[is_plain]}: it goes into another package")
+    return known
 
 
 def bring() -> None:
@@ -40,19 +75,23 @@ def bring() -> None:
 
     What an unpacked source package has there stays.
     """
+    if machine() != AMD64:
+        read_stamp(PLAIN, True)
+        return
     if BUILT.is_file():
         stamp.read(BUILT)
         PROVED.parent.mkdir(exist_ok=True)
         for path, to in ((BUILT, PROVED), (stamp.path_of(BUILT), stamp.path_of(PROVED))):
             shutil.copyfile(path, to)
-    stamp.read(PROVED)
+    read_stamp(PROVED, False)
 
 
-def text_of_proof(packed: Path) -> str:
-    """PROVED: from which commit, by which prover."""
-    known, libc = stamp.read(PROVED), libc_version(packed)
-    return TEXT.format(
-        version=(ROOT / "VERSION").read_text().strip(), commit=known.commit
+def text_of_proof(packed: Path, target: Machine) -> str:
+    """PROVED: from which commit, by which prover, or that nothing is proved of the program itself."""
+    is_plain = target != AMD64
+    known, libc = read_stamp(PLAIN if is_plain else PROVED, is_plain), libc_version(packed, target)
+    return (PLAIN_TEXT if is_plain else TEXT).format(
+        machine=target.name, version=(ROOT / "VERSION").read_text().strip(), commit=known.commit
         or "not known, as this is no git repository",
         changes=", with changes that no commit has," if known.has_changes else "",
         date=formatdate(known.date), kit=known.kit,
@@ -64,27 +103,47 @@ def text_of_proof(packed: Path) -> str:
 def look(place: Place, path: str) -> None:
     """Looks for paths of the building machine in a file, and for ones that a package has nothing at."""
     folders = [str(ROOT), os.environ.get(FOLDER, str(ROOT))]
-    named = [folder for folder in folders if f"{folder}/".encode() in place.content]
+    paths = [folder for folder in folders if f"{folder}/".encode() in place.content]
     if path == "/usr/bin/rs_source":
-        named += paths_of_the_build(place.content, ROOT)
-    if named:
-        raise Unfit(f"{path} has paths of the build: {', '.join(named[:5])}")
+        paths += paths_of_the_build(place.content, ROOT)
+    if paths:
+        raise Unfit(f"{path} has paths of the build: {', '.join(paths[:5])}")
     if "/share/doc/" not in path and b"/usr/local/" in place.content:
         raise Unfit(f"{path} has /usr/local/, where a package has nothing")
 
 
 def stage() -> None:
     """Puts the files of both packages into the folders that debhelper packs."""
+    target = machine()
+    source, built = (SOURCE, PROVED) if target == AMD64 else (PLAIN_SOURCE, PLAIN)
     with tempfile.TemporaryDirectory() as room:
-        program = stripped(PROVED, Path(room, "rs_source"))
-        proved = text_of_proof(program).encode()
-        found = [*places.places(program, "/usr"), Place(f"share/doc/{SOURCE}/PROVED", proved)]
+        program = stripped(built, Path(room, "rs_source"), target)
+        proved = text_of_proof(program, target).encode()
+        found = [*places.places(program, "/usr"), Place(f"share/doc/{source}/PROVED", proved)]
     for place in found:
         if place.package:
             path = place.path if place.path.startswith("/") else f"/usr/{place.path}"
             look(place, path)
-            places.put(place, Path(f"{ROOT}/debian/{place.package}{path}"))
+            package = source if place.package == SOURCE else place.package
+            places.put(place, Path(f"{ROOT}/debian/{package}{path}"))
     check_modules()
+    if target != AMD64:
+        needed = needs(program_of(PLAIN_SOURCE), target)
+        Path(f"{ROOT}/debian/{PLAIN_SOURCE}.substvars").write_text(f"shlibs:Depends={needed}\n")
+
+
+def program_of(package: str) -> Path:
+    """Where a package has its program, before it is packed."""
+    return ROOT / f"debian/{package}/usr/bin/rs_source"
+
+
+def needs(program: Path, target: Machine) -> str:
+    """The packages of Debian that a program's libraries are in, as its dependencies."""
+    version = libc_version(program, target)
+    if not version:
+        return ""
+    wants_gcc = "libgcc_s.so.1" in libraries(program)
+    return f"libc6 (>= {'.'.join(map(str, version))})" + ", libgcc-s1" * wants_gcc
 
 
 def check_modules() -> None:

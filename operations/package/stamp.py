@@ -66,8 +66,8 @@ def read(program: Path) -> Stamp:
 
 def git(*words: str) -> str:
     """What git says of the repository, or nothing where there is none."""
-    ran = subprocess.run(["git", "-C", ROOT, *words], capture_output=True, text=True, timeout=SECONDS)
-    return ran.stdout.strip() if ran.returncode == 0 else ""
+    process = subprocess.run(["git", "-C", ROOT, *words], capture_output=True, text=True, timeout=SECONDS)
+    return process.stdout.strip() if process.returncode == 0 else ""
 
 
 def kit() -> str:

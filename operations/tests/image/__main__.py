@@ -1,6 +1,8 @@
-"""Makes the image for containers of the program that is given, and looks at what has to hold of it (`make image` makes the image alone).
+"""Makes the image for containers of the program that is given, and looks at what has to hold of it (`make image` makes
+the image alone).
 
-It needs root, debootstrap, umoci, runc and a registry that answers if no Debian is kept. Where one is missing it says NOT TRIED.
+It needs root, debootstrap, umoci, runc and a registry that answers if no Debian is kept. Where one is missing it says
+NOT TRIED.
 
 usage: python3 -m operations.tests.image [PROGRAM]     exit status 1 where something does not hold
 """
@@ -70,14 +72,17 @@ def two_makings_have_the_same_bytes(container: Container, layout: Path) -> str:
 
 
 def it_serves_read_only(container: Container, layout: Path) -> str:
-    """`format` makes a file in the volume, and the source is served; nothing else can be written; `ropepeach health` says OK inside."""
+    """`format` makes a file in the volume, and the source is served; nothing else can be written; `ropepeach health`
+    says OK inside.
+    """
     wanted("formatted" in container.once("format", "/data/source.disk", "1048576", BASE, "100"), "not formatted")
     container.start()
     for path in ("/x", "/usr/bin/x", "/etc/x", "/tmp/x", "/var/lib/ropepeach/x"):
         wanted(container.inside("touch", path).returncode, f"{path} was written")
     wanted(container.inside("cat", "/proc/1/comm").stdout.strip() == "tini", "the first process")
     health = container.inside("ropepeach", "health", f"http://127.0.0.1:{container.port}")
-    wanted(health.returncode == 0 and "OK" in health.stdout, f"health: {health.returncode} {health.stdout} {health.stderr}")
+    wanted(health.returncode == 0 and "OK" in health.stdout,
+           f"health: {health.returncode} {health.stdout} {health.stderr}")
     other = container.inside("ropepeach", "health", "http://127.0.0.1:1")
     wanted(other.returncode == 2, f"health of none: {other.returncode}")
     return health.stdout.strip()
@@ -85,10 +90,10 @@ def it_serves_read_only(container: Container, layout: Path) -> str:
 
 def it_ends_when_it_is_asked(container: Container, layout: Path) -> str:
     """SIGTERM ends the container, and it starts again."""
-    took = container.stop(signal.SIGTERM)
-    wanted(took < ENDING, f"{took:.1f} s")
+    seconds = container.stop(signal.SIGTERM)
+    wanted(seconds < ENDING, f"{seconds:.1f} s")
     container.start()
-    return f"after {took:.1f} s"
+    return f"after {seconds:.1f} s"
 
 
 def nothing_is_lost_when_it_is_killed(container: Container, layout: Path) -> str:
@@ -109,7 +114,8 @@ def systemd_runs_the_same_files(container: Container, layout: Path) -> str:
     container.stop()
     if not shutil.which("systemd-nspawn"):
         return "NOT TRIED: systemd-nspawn (systemd-container)"
-    words = ["systemd-nspawn", "--quiet", "--register=no", "--keep-unit", "--read-only", f"--directory={container.bundle / 'rootfs'}",
+    words = ["systemd-nspawn", "--quiet", "--register=no", "--keep-unit", "--read-only",
+             f"--directory={container.bundle / 'rootfs'}",
              f"--bind={container.data}:/data", f"--user={container.user[0]}", "--console=pipe", *container.words()]
     with open(container.room / "log", "ab") as log:
         process = subprocess.Popen(words, stdin=subprocess.DEVNULL, stdout=log, stderr=log)
@@ -122,36 +128,39 @@ def systemd_runs_the_same_files(container: Container, layout: Path) -> str:
 
 
 ROWS: list[Callable[[Container, Path], str]] = [
-    it_is_small_and_its_user_is_not_root, two_makings_have_the_same_bytes, it_serves_read_only, it_ends_when_it_is_asked,
+    it_is_small_and_its_user_is_not_root, two_makings_have_the_same_bytes, it_serves_read_only,
+    it_ends_when_it_is_asked,
     nothing_is_lost_when_it_is_killed, systemd_runs_the_same_files]
 
 
 def archive() -> Path:
     """The kept archive of the Debian of the image."""
-    return Path(debian.kept(SUITE, INCLUDED)[0])
+    return Path(debian.archive_of(SUITE, INCLUDED)[0])
 
 
 def tried(row: Callable[[Container, Path], str], container: Container, layout: Path) -> bool:
     """Looks at one thing, and says whether it holds."""
     started = time.monotonic()
     try:
-        said = row(container, layout)
+        message = row(container, layout)
     except (Differs, OSError, ValueError, LookupError, subprocess.SubprocessError) as fault:
         print(f"image: FAILS: {row.__name__}: {type(fault).__name__} {fault}", flush=True)
         return False
-    print(f"image: holds, {time.monotonic() - started:.1f} s: {row.__name__}: {said}", flush=True)
+    print(f"image: holds, {time.monotonic() - started:.1f} s: {row.__name__}: {message}", flush=True)
     return True
 
 
 def wrong_images_not_noticed(room: Path, layout: Path, version: str) -> list[str]:
     """Images that are wrong, and hold nevertheless."""
     planted = {"it runs as root": (["--config.user", "0:0"], it_is_small_and_its_user_is_not_root),
-               "no first process reaps": (["--clear", "config.entrypoint", "--config.entrypoint", "/usr/bin/rs_source"], it_serves_read_only)}
+               "no first process reaps": (["--clear", "config.entrypoint", "--config.entrypoint", "/usr/bin/rs_source"],
+                                          it_serves_read_only)}
     blind = []
     for number, (name, (words, row)) in enumerate(planted.items()):
         other = room / f"wrong{number}"
         shutil.copytree(layout, other)
-        subprocess.run(["umoci", "config", "--image", f"{other}:{version}", "--no-history", *words], check=True, capture_output=True)
+        subprocess.run(["umoci", "config", "--image", f"{other}:{version}", "--no-history", *words], check=True,
+                       capture_output=True)
         container = Container(fresh(room, f"box{number}"), other, version)
         try:
             row(container, other)
@@ -185,17 +194,19 @@ def main() -> int:
             base = archive()
         except Missing as what:
             return skipped("image", f"this machine has not {what}")
-        layout = made([Path(it) for it in build(program, version, room / "debs", stamp_of(program))], room / "image", base)
+        layout = made([Path(path) for path in build(program, version, room / "debs", stamp_of(program))],
+                      room / "image",
+                      base)
         container = Container(fresh(room, "box"), layout, version)
         try:
-            held = sum(tried(row, container, layout) for row in ROWS)
+            count = sum(tried(row, container, layout) for row in ROWS)
         finally:
             container.close()
         blind = wrong_images_not_noticed(room, layout, version)
     for name in blind:
         print(f"image: NOT NOTICED: {name}")
-    print(f"image: {held} of {len(ROWS)} rows hold, {2 - len(blind)} of 2 wrong images are noticed")
-    return 0 if held == len(ROWS) and not blind else 1
+    print(f"image: {count} of {len(ROWS)} rows hold, {2 - len(blind)} of 2 wrong images are noticed")
+    return 0 if count == len(ROWS) and not blind else 1
 
 
 if __name__ == "__main__":

@@ -1,4 +1,6 @@
-"""A container of the image: it is run by runc as the page says, or by systemd-nspawn; it is killed, and its volume stays."""
+"""A container of the image: it is run by runc as the page says, or by systemd-nspawn; it is killed, and its volume
+stays.
+"""
 from __future__ import annotations
 
 import contextlib
@@ -27,13 +29,16 @@ def free_port() -> int:
 
 
 class Container:
-    """A container of a layout, read only, as the image's user, without capabilities, with one volume and this machine's network."""
+    """A container of a layout, read only, as the image's user, without capabilities, with one volume and this machine's
+    network.
+    """
 
     def __init__(self, room: Path, layout: Path, version: str) -> None:
         self.room, self.root, self.port = room, room / "host", free_port()
         self.state, self.bundle, self.data = room / "state", room / "bundle", room / "data"
         self.process: subprocess.Popen[bytes] | None = None
-        subprocess.run(["umoci", "unpack", "--image", f"{layout}:{version}", str(self.bundle)], check=True, capture_output=True, timeout=SECONDS)
+        subprocess.run(["umoci", "unpack", "--image", f"{layout}:{version}", str(self.bundle)], check=True,
+                       capture_output=True, timeout=SECONDS)
         self.image = json.loads((self.bundle / "config.json").read_text())
         self.user = (self.image["process"]["user"]["uid"], self.image["process"]["user"]["gid"])
         self.data.mkdir()
@@ -49,17 +54,19 @@ class Container:
 
     def configure(self, *command: str) -> None:
         """Writes how the container runs."""
-        it = json.loads(json.dumps(self.image))
-        it["process"].update(args=self.words(*command), terminal=False, capabilities={}, noNewPrivileges=True)
-        it["root"]["readonly"] = True
-        volume = {"destination": "/data", "type": "bind", "source": str(self.data), "options": ["bind", "rw", "nosuid", "nodev", "noexec"]}
-        it["mounts"] = [mount for mount in it["mounts"] if mount["destination"] != "/data"] + [volume]
-        it["linux"]["namespaces"] = [space for space in it["linux"]["namespaces"] if space["type"] != "network"]
-        (self.bundle / "config.json").write_text(json.dumps(it))
+        bundle = json.loads(json.dumps(self.image))
+        bundle["process"].update(args=self.words(*command), terminal=False, capabilities={}, noNewPrivileges=True)
+        bundle["root"]["readonly"] = True
+        volume = {"destination": "/data", "type": "bind", "source": str(self.data),
+                  "options": ["bind", "rw", "nosuid", "nodev", "noexec"]}
+        bundle["mounts"] = [mount for mount in bundle["mounts"] if mount["destination"] != "/data"] + [volume]
+        bundle["linux"]["namespaces"] = [space for space in bundle["linux"]["namespaces"] if space["type"] != "network"]
+        (self.bundle / "config.json").write_text(json.dumps(bundle))
 
     def runc(self, *words: str) -> subprocess.CompletedProcess[str]:
         """Runs runc, and gives what it said."""
-        return subprocess.run(["runc", "--root", str(self.state), *words], capture_output=True, text=True, timeout=SECONDS, stdin=subprocess.DEVNULL)
+        return subprocess.run(["runc", "--root", str(self.state), *words], capture_output=True, text=True,
+                              timeout=SECONDS, stdin=subprocess.DEVNULL)
 
     def once(self, *command: str) -> str:
         """Runs the image's program with other arguments to its end; what it wrote."""
@@ -73,7 +80,8 @@ class Container:
         """Starts the source, and waits until it listens."""
         self.configure()
         with open(self.room / "log", "ab") as log:
-            self.process = subprocess.Popen(["runc", "--root", str(self.state), "run", "--bundle", str(self.bundle), f"{NAME}-{os.getpid()}"],
+            self.process = subprocess.Popen(["runc", "--root", str(self.state), "run", "--bundle", str(self.bundle),
+                                             f"{NAME}-{os.getpid()}"],
                                             stdin=subprocess.DEVNULL, stdout=log, stderr=log)
         self.until(self.listens, "the source listens")
 
@@ -119,8 +127,10 @@ class Container:
 
     def begun(self, *words: object) -> subprocess.Popen[str]:
         """A program on this machine that goes on by itself."""
-        return subprocess.Popen(self.host_words(words), stdin=subprocess.DEVNULL, stdout=subprocess.PIPE, stderr=subprocess.DEVNULL, text=True)
+        return subprocess.Popen(self.host_words(words), stdin=subprocess.DEVNULL, stdout=subprocess.PIPE,
+                                stderr=subprocess.DEVNULL, text=True)
 
-    def told(self, *words: object) -> str:
+    def output(self, *words: object) -> str:
         """What a program on this machine writes."""
-        return subprocess.run(self.host_words(words), capture_output=True, text=True, check=True, timeout=SECONDS).stdout
+        return subprocess.run(self.host_words(words), capture_output=True, text=True, check=True,
+                              timeout=SECONDS).stdout

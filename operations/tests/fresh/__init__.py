@@ -1,0 +1,1 @@
+"""The Python package and the Debian packages, built in a Debian that has nothing else."""

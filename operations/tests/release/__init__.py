@@ -1,0 +1,1 @@
+"""The check of `make release`: its short form makes no artifact of weight, its long form makes all of them twice."""
