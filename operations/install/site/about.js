@@ -1,5 +1,6 @@
 // Who runs this site: a title, a contact and a licence of the content, where its keeper has put them into a file of JSON.
 
+import { limit } from "./documents.js";
 import { linked, made, part, tell } from "./elements.js";
 import { plain } from "./names.js";
 
@@ -23,7 +24,7 @@ const KEYS = ["title", "keeper", "contact", "licence", "licence_address", "tools
  */
 export async function aboutAt(here) {
   try {
-    const signal = AbortSignal.timeout(MILLISECONDS);
+    const signal = limit(MILLISECONDS);
     const answer = await fetch(`${here}/${FILE}`, { cache: "no-cache", redirect: "error", signal });
     const text = answer.ok ? await answer.text() : "";
     return text.length <= MOST_BYTES ? aboutOf(JSON.parse(text)) : {};
@@ -32,17 +33,25 @@ export async function aboutAt(here) {
   }
 }
 
-/** The texts of a value. */
+/**
+ * The texts of a value.
+ * @param {any} value
+ * @returns {About}
+ */
 function aboutOf(value) {
   const texts = KEYS.map((key) => [key, Object.hasOwn(Object(value), key) ? value[key] : ""]);
-  const isText = ([, text]) => typeof text === "string" && text.trim() && text.length <= LONGEST;
+  const isText = (/** @type {any[]} */ [, text]) => typeof text === "string" && text.trim() && text.length <= LONGEST;
   return Object.fromEntries(texts.filter(isText).map(([key, text]) => [key, plain(text.trim())]));
 }
 
-/** Shows who runs the site in the page's foot. */
+/**
+ * Shows who runs the site in the page's foot.
+ * @param {HTMLElement} root
+ * @param {About} about
+ */
 export function showAbout(root, about) {
-  const place = (name) => part(root, name);
-  const show = (name, ...inside) => {
+  const place = (/** @type {string} */ name) => part(root, name);
+  const show = (/** @type {string} */ name, /** @type {(Node | string)[]} */ ...inside) => {
     place(name).replaceChildren(...inside);
     place(`${name}-part`).hidden = !inside.length;
   };
@@ -50,10 +59,13 @@ export function showAbout(root, about) {
   show("contact", ...(about.contact ? [contactOf(about.contact)] : []));
   const { licence, licence_address: address = "" } = about;
   show("licence", ...(licence ? [linkOr(address, licence)] : []));
-  root.hidden = !["keeper", "contact", "licence"].some((it) => about[it]);
+  root.hidden = !(about.keeper || about.contact || about.licence);
 }
 
-/** An address of mail, or of the web, as a link; anything else as text. */
+/**
+ * An address of mail, or of the web, as a link; anything else as text.
+ * @param {string} text
+ */
 function contactOf(text) {
   if (!/^[^\s@:/?&#]+@[^\s@:/?&#]+$/.test(text)) return linkOr(text, text);
   const link = made("a");
@@ -62,4 +74,5 @@ function contactOf(text) {
   return link;
 }
 
+/** @type {(address: string, text: string) => HTMLElement} */
 const linkOr = (address, text) => (/^https?:\/\//.test(address) ? linked(address, text) : made("span", "", text));

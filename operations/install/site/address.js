@@ -1,5 +1,6 @@
 // What is shown has an address: the fragment names a source, a resource, a search, an order and a range of time.
 
+/** @type {(keyof Place)[]} */
 const KEYS = ["source", "resource", "search", "sort", "range"];
 
 /**
@@ -15,7 +16,8 @@ const KEYS = ["source", "resource", "search", "sort", "range"];
 export function placeOf(fragment) {
   if (fragment.length > 1 && !fragment.includes("=")) return null;
   const fields = new URLSearchParams(fragment.slice(1));
-  return Object.fromEntries(KEYS.map((key) => [key, fields.get(key) ?? ""]));
+  const [source, resource, search, sort, range] = KEYS.map((key) => fields.get(key) ?? "");
+  return { source, resource, search, sort, range };
 }
 
 /**
@@ -23,17 +25,25 @@ export function placeOf(fragment) {
  * @param {Partial<Place>} place
  */
 export function fragmentOf(place) {
-  const fields = KEYS.filter((key) => place[key]).map((key) => `${key}=${escaped(place[key])}`);
+  const fields = KEYS.flatMap((key) => (place[key] ? [`${key}=${escaped(place[key] ?? "")}`] : []));
   return fields.length ? `#${fields.join("&")}` : "";
 }
 
+/** @type {(text: any) => string} (TypeScript does not know `toWellFormed` yet) */
 const escaped = (text) => encodeURIComponent(text.toWellFormed?.() ?? text).replaceAll("%2F", "/");
 
 /** Keeps the address at the place that is shown, and goes where the reader's back and forward lead. */
 export class Navigation {
-  /** `read` gives the place that is shown, `go` shows another one. */
+  /**
+   * `read` gives the place that is shown, `go` shows another one.
+   * @param {() => Partial<Place>} read
+   * @param {(place: Place) => void} go
+   */
   constructor(read, go) {
-    Object.assign(this, { read, go, isGoing: false, isTyping: false });
+    this.read = read;
+    this.go = go;
+    this.isGoing = false;
+    this.isTyping = false;
     addEventListener("popstate", () => this.follow());
   }
 

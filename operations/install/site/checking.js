@@ -1,6 +1,7 @@
 // Whether a body is the one that is listed: its length and its SHA-256, by the browser's own WebCrypto.
 
 import { Trouble, asked } from "./documents.js";
+import { digestsIn } from "./source.js";
 
 // How many bodies are asked for side by side: fewer than the site sends to one visitor.
 const LANES = 3;
@@ -10,13 +11,24 @@ export const canCheck = Boolean(globalThis.crypto?.subtle);
 
 const UNASKABLE = "A browser asks for another address than this name has: use a mirror.";
 
-/** The outcome of a check: `agrees`, `differs`, `unasked` (no body came), and why. */
+/** @typedef {import("./source.js").Resource} Resource */
+
+/**
+ * The outcome of a check: `agrees`, `differs` or `unasked` (no body came), and why.
+ * @typedef {{kind: "agrees" | "differs" | "unasked", why: string, when: number}} Outcome
+ */
+
+/** @type {(kind: Outcome["kind"], why: string) => Outcome} */
 const result = (kind, why) => ({ kind, why, when: Date.now() });
 
-/** Fetches a body and compares it with what the list says. */
+/**
+ * Fetches a body and compares it with what the list says.
+ * @param {Resource} resource
+ */
 export async function check(resource) {
   if (!isAskable(resource.loc)) return result("unasked", UNASKABLE);
-  if (!/^[0-9a-f]{64}$/.test(resource.sha256)) return result("unasked", "The list has no SHA-256 of it.");
+  const { sha256 } = digestsIn(resource.hash);
+  if (!/^[0-9a-f]{64}$/.test(sha256)) return result("unasked", "The list has no SHA-256 of it.");
   let body;
   try {
     body = await bodyOf(resource);
@@ -25,18 +37,22 @@ export async function check(resource) {
     const isGone = fault.kind === "dropped";
     return isGone ? result("differs", "It is listed, and the source answers 404.") : result("unasked", fault.message);
   }
-  if (body.length !== resource.length) return result("differs", `${told(body.length)} came, ${resource.length} are listed.`);
+  if (!body || body.length !== resource.length) {
+    return result("differs", `${body ? `${body.length} bytes` : "More bytes"} came, ${resource.length} are listed.`);
+  }
   const digest = new Uint8Array(await crypto.subtle.digest("SHA-256", body));
   const found = Array.from(digest, (it) => it.toString(16).padStart(2, "0")).join("");
-  return found === resource.sha256 ? result("agrees", "Length and SHA-256 are the listed ones.")
+  return found === sha256 ? result("agrees", "Length and SHA-256 are the listed ones.")
     : result("differs", `Its SHA-256 is ${found}.`);
 }
 
-const told = (length) => (length === null ? "More bytes" : `${length} bytes`);
-
-/** The bytes that come, up to one more than are listed. */
+/**
+ * The bytes that come, or nothing where more come than are listed.
+ * @param {Resource} resource
+ */
 async function bodyOf(resource) {
-  const reader = (await asked(resource.loc, "no-store")).body.getReader();
+  const reader = (await asked(resource.loc, "no-store")).body?.getReader();
+  if (!reader) return new Uint8Array(0);
   const body = new Uint8Array(resource.length);
   let length = 0;
   for (;;) {
@@ -44,14 +60,17 @@ async function bodyOf(resource) {
     if (done) return body.subarray(0, length);
     if (length + value.length > resource.length) {
       await reader.cancel();
-      return { length: null };
+      return null;
     }
     body.set(value, length);
     length += value.length;
   }
 }
 
-/** Whether a browser asks for exactly this address: it takes `%2E` for a dot. */
+/**
+ * Whether a browser asks for exactly this address: it takes `%2E` for a dot.
+ * @param {string} address
+ */
 export function isAskable(address) {
   try {
     return new URL(address).pathname === address.replace(/^https?:\/\/[^/]*/, "");
@@ -60,7 +79,11 @@ export function isAskable(address) {
   }
 }
 
-/** Some resources, each as likely as any other. */
+/**
+ * Some resources, each as likely as any other.
+ * @param {Resource[]} resources
+ * @param {number} most
+ */
 export function someOf(resources, most) {
   const left = [...resources];
   const number = Math.min(most, left.length);
@@ -71,7 +94,12 @@ export function someOf(resources, most) {
   return left.slice(0, number);
 }
 
-/** Checks some resources; `tell` gets each with its result. It ends early where `signal` says so. */
+/**
+ * Checks some resources; `tell` gets each with its result. It ends early where `signal` says so.
+ * @param {Resource[]} resources
+ * @param {(resource: Resource, outcome: Outcome) => void} tell
+ * @param {AbortSignal} signal
+ */
 export async function checkAll(resources, tell, signal) {
   let next = 0;
   const lane = async () => {

@@ -13,13 +13,36 @@ const NAMED = 20;
 // The site serves lists that are up to two seconds old (operations/install/ropepeach.nginx).
 const OLDEST = 2_500;
 
+/** @typedef {import("./checking.js").Outcome} Outcome */
+/** @typedef {import("./model.js").Holding} Holding */
+/** @typedef {import("./source.js").Resource} Resource */
+/** @typedef {Record<string, any>} Parts  elements of the page's own markup, by what they show */
+
+/** The checks of a panel. */
 export class Checks {
   /**
    * `checked` is called with each resource that was checked; `ended` after the last, and reads the lists again where
    * one differs.
+   * @param {Parts} parts
+   * @param {(text: string) => void} say
+   * @param {(resource: Resource) => void} checked
+   * @param {(isDifferent: boolean) => Promise<void>} ended
    */
   constructor(parts, say, checked, ended) {
-    Object.assign(this, { parts, say, checked, ended, outcomes: new Map(), rest: [], held: [], sample: [], first: 0 });
+    this.parts = parts;
+    this.say = say;
+    this.checked = checked;
+    this.ended = ended;
+    /** @type {Map<string, {moment: string, outcome: Outcome}>} */
+    this.outcomes = new Map();
+    /** @type {{held: Resource[], sample: Resource[], rest: Resource[]}} */
+    const none = { held: [], sample: [], rest: [] };
+    this.held = none.held;
+    this.sample = none.sample;
+    this.rest = none.rest;
+    this.first = 0;
+    /** @type {AbortController | null} */
+    this.stopping = null;
     parts["check-some"].addEventListener("click", () => this.some());
     parts.stop.addEventListener("click", () => this.stopping?.abort());
     parts["check-rest"].addEventListener("click", () => this.all(this.rest));
@@ -29,7 +52,10 @@ export class Checks {
     }
   }
 
-  /** Draws the resources of the next check, and says how many bytes it will fetch. */
+  /**
+   * Draws the resources of the next check, and says how many bytes it will fetch.
+   * @param {Resource[]} resources
+   */
   draw(resources) {
     this.held = resources;
     this.sample = someOf(resources, SOME);
@@ -39,13 +65,19 @@ export class Checks {
     tell(this.parts["check-some"], `${which} (${size(sum(this.sample.slice(0, this.first)))})`);
   }
 
-  /** The outcome of the check of this very body. */
+  /**
+   * The outcome of the check of this very body.
+   * @param {Resource} resource
+   */
   of(resource) {
     const found = this.outcomes.get(resource.name);
     return found?.moment === resource.moment ? found.outcome : undefined;
   }
 
-  /** Forgets the outcomes of bodies that are no longer held. */
+  /**
+   * Forgets the outcomes of bodies that are no longer held.
+   * @param {Holding} holding
+   */
   keep(holding) {
     for (const [name, { moment }] of this.outcomes) {
       if (holding.byName.get(name)?.moment !== moment) this.outcomes.delete(name);
@@ -58,18 +90,30 @@ export class Checks {
     return [...this.outcomes].filter(([, { outcome }]) => outcome.kind === "differs");
   }
 
+  /**
+   * Notes what came of a check.
+   * @param {Resource} resource
+   * @param {Outcome} outcome
+   */
   note(resource, outcome) {
     this.outcomes.set(resource.name, { moment: resource.moment, outcome });
     this.checked(resource);
   }
 
-  /** Whether a body differs is known once the lists were read again: a later change may explain it. */
+  /**
+   * Whether a body differs is known once the lists were read again: a later change may explain it.
+   * @param {boolean} isDifferent
+   */
   async settle(isDifferent) {
     if (isDifferent) await new Promise((go) => setTimeout(go, OLDEST));
     await this.ended(isDifferent);
     this.showDiffering();
   }
 
+  /**
+   * Checks one resource.
+   * @param {Resource} resource
+   */
   async one(resource) {
     const outcome = await check(resource);
     this.note(resource, outcome);
@@ -78,13 +122,17 @@ export class Checks {
     this.say(`${readable(resource.name).text}: ${kind}. ${why}`);
   }
 
-  /** Checks those that were drawn, leaves out those that are beyond the limit of bytes, and draws others for the next time. */
+  /** Checks those that were drawn, but for those beyond the limit of bytes, and draws others for the next time. */
   async some() {
     await this.all(this.sample.slice(0, this.first), this.sample.slice(this.first));
     if (!this.stopping) this.draw(this.held);
   }
 
-  /** Checks these; `rest` are offered afterwards. */
+  /**
+   * Checks these; `rest` are offered afterwards.
+   * @param {Resource[]} chosen
+   * @param {Resource[]} rest
+   */
   async all(chosen, rest = []) {
     const { stop, bar } = this.parts;
     if (this.stopping || !chosen.length) return;
@@ -115,7 +163,10 @@ export class Checks {
     this.say(this.parts.checked.textContent);
   }
 
-  /** Offers to check what was left out. */
+  /**
+   * Offers to check what was left out.
+   * @param {Resource[]} rest
+   */
   offer(rest) {
     const button = this.parts["check-rest"];
     this.rest = rest;
@@ -137,12 +188,19 @@ export class Checks {
   }
 }
 
-/** The bytes of these together. */
+/**
+ * The bytes of these together.
+ * @param {Resource[]} resources
+ */
 function sum(resources) {
   return resources.reduce((bytes, it) => bytes + it.length, 0);
 }
 
-/** How many of these, from the first on, have at most so many bytes together. */
+/**
+ * How many of these, from the first on, have at most so many bytes together.
+ * @param {Resource[]} resources
+ * @param {number} most
+ */
 function withinBytes(resources, most) {
   let bytes = 0;
   for (const [at, it] of resources.entries()) {
@@ -152,9 +210,14 @@ function withinBytes(resources, most) {
   return resources.length;
 }
 
-/** The outcomes of many checks in words. */
+/**
+ * The outcomes of many checks in words.
+ * @param {{agrees: number, differs: number, unasked: number, changed: number}} counts
+ */
 function summary({ agrees, differs, unasked, changed }) {
-  const more = [[unasked, "not checked"], [changed, "changed meanwhile"]].filter(([number]) => number);
+  /** @type {[number, string][]} */
+  const all = [[unasked, "not checked"], [changed, "changed meanwhile"]];
+  const more = all.filter(([number]) => number);
   const rest = more.map(([number, what]) => `${count(number)} ${what}`);
   const bad = differs ? [counted(differs, "differs", "differ")] : [];
   return [counted(agrees, "agrees", "agree"), ...bad, ...rest].join(", ");

@@ -5,47 +5,89 @@ import { NoDocument, attributesOf, read, resolved } from "./xml.js";
 
 const SITEMAP = "http://www.sitemaps.org/schemas/sitemap/0.9";
 const TERMS = "http://www.openarchives.org/rs/terms/";
-const MOMENT = /^\d{4}-\d\d-\d\dT\d\d:\d\d:\d\d\.\d{3}Z$/;
+const MOMENT = /^\d{4}-(?:0[1-9]|1[0-2])-(?:0[1-9]|[12]\d|3[01])T(?:[01]\d|2[0-3]):[0-5]\d:[0-5]\d\.\d{3}Z$/;
 // No answer is waited for longer than this, and Sitemap 0.9 allows no more entries in a document.
 const MILLISECONDS = 60_000;
 const MOST_ENTRIES = 50_000;
+// What the `rs:md` of an entry says of a resource, in the order in which sources write it.
+const SAID = ["change", "datetime", "hash", "length", "type"];
+// The names before the root was read.
+const NO_NAMES = { entry: "", loc: "", lastmod: "", md: "", plain: /(?!)/y };
+
+/**
+ * What an entry says: its address, its `lastmod`, and the attributes of its `rs:md`.
+ * @typedef {{loc: string, lastmod: string, said: Record<string, string | undefined>}} Entry
+ */
+
+/**
+ * A document: its address, whether it names parts, what its `rs:md` says, and its entries or its parts.
+ * @typedef {{address: string, isIndex: boolean, said: Record<string, string>, entries: Entry[]}} Listing
+ */
+
+/**
+ * The names of elements in a document, and the pattern of an entry there.
+ * @typedef {{entry: string, loc: string, lastmod: string, md: string, plain: RegExp}} Names
+ */
 
 /**
  * Why a source cannot be read: it is `closed`, `unreachable` or `gone`, has `dropped` a part meanwhile, calls itself
  * `elsewhere`, or its documents are `wrong`.
  */
 export class Trouble extends Error {
+  /**
+   * @param {string} kind
+   * @param {string} message
+   */
   constructor(kind, message) {
     super(plain(message));
     this.kind = kind;
   }
 }
 
-/** What an address answers to GET, where it answers with 200. */
+/**
+ * What ends a fetch after so many milliseconds.
+ * @param {number} milliseconds
+ * @returns {AbortSignal}
+ */
+export const limit = (milliseconds) => /** @type {any} */ (AbortSignal).timeout(milliseconds);
+
+/**
+ * What an address answers to GET, where it answers with 200.
+ * @param {string} address
+ * @param {RequestCache} cache
+ */
 export async function asked(address, cache = "no-cache") {
   let answer;
   try {
-    answer = await fetch(address, { cache, redirect: "error", signal: AbortSignal.timeout(MILLISECONDS) });
+    answer = await fetch(address, { cache, redirect: "error", signal: limit(MILLISECONDS) });
   } catch (fault) {
-    const isLate = fault.name === "TimeoutError";
+    const isLate = fault instanceof DOMException && fault.name === "TimeoutError";
     throw new Trouble("unreachable", isLate ? "It did not answer within a minute." : "It does not answer this browser.");
   }
   if (answer.ok) return answer;
-  await refuse(address, answer);
+  throw await refusal(address, answer);
 }
 
-/** Says what a status means. */
-async function refuse(address, answer) {
+/**
+ * What a status means.
+ * @param {string} address
+ * @param {Response} answer
+ */
+async function refusal(address, answer) {
   const isText = answer.headers.get("content-type")?.startsWith("text/plain");
   const word = isText ? (await answer.text().catch(() => "")).trim().slice(0, 60) : "";
   const told = `${answer.status}${word ? ` ${word}` : ""}`;
-  if (answer.status === 503 && word === "Closed") throw new Trouble("closed", "It answers 503 Closed.");
-  if (answer.status === 404) throw new Trouble("dropped", `${address} answers ${told}.`);
-  if (answer.status >= 500) throw new Trouble("unreachable", `It answers ${told}.`);
-  throw new Trouble("wrong", `${address} answers ${told}.`);
+  if (answer.status === 503 && word === "Closed") return new Trouble("closed", "It answers 503 Closed.");
+  if (answer.status === 404) return new Trouble("dropped", `${address} answers ${told}.`);
+  if (answer.status >= 500) return new Trouble("unreachable", `It answers ${told}.`);
+  return new Trouble("wrong", `${address} answers ${told}.`);
 }
 
-/** A document: what its `rs:md` says, and its entries or the parts that it names. */
+/**
+ * The document at an address.
+ * @param {string} address
+ * @param {RequestCache} [cache]
+ */
 export async function documentAt(address, cache) {
   const answer = await asked(address, cache);
   let text;
@@ -57,10 +99,16 @@ export async function documentAt(address, cache) {
   return documentOf(text, address);
 }
 
-/** What a text says as a document. An entry is its address, its `lastmod`, and what its `rs:md` says. */
+/**
+ * What a text says as a document.
+ * @param {string} text
+ * @param {string} address
+ */
 export function documentOf(text, address) {
+  /** @type {Listing} */
   const found = { address, isIndex: false, said: {}, entries: [] };
-  let names = null;
+  let names = NO_NAMES;
+  /** @type {Entry | null} */
   let entry = null;
   try {
     read(text, {
@@ -78,6 +126,7 @@ export function documentOf(text, address) {
           entry = null;
         }
       },
+      whole: (at) => plainEntries(text, at, names.plain, found.entries),
     });
   } catch (fault) {
     if (!(fault instanceof NoDocument)) throw fault;
@@ -87,9 +136,33 @@ export function documentOf(text, address) {
   throw new Trouble("wrong", `${address} has more than ${MOST_ENTRIES} entries.`);
 }
 
-/** The names of what is looked for, with the prefixes that the root gives to the two vocabularies. */
+/**
+ * Takes the plain entries that follow each other from a place on, and gives the place behind the last.
+ * @param {string} text
+ * @param {number} at
+ * @param {RegExp} pattern
+ * @param {Entry[]} entries
+ */
+function plainEntries(text, at, pattern, entries) {
+  let end = at;
+  pattern.lastIndex = at;
+  for (let it = pattern.exec(text); it; it = pattern.exec(text)) {
+    const said = { change: it[3], datetime: it[4], hash: it[5], length: it[6], type: it[7] };
+    entries.push({ loc: it[1], lastmod: it[2] ?? "", said });
+    end = pattern.lastIndex;
+  }
+  return end;
+}
+
+/**
+ * The names of what is looked for, with the prefixes that the root gives to the two vocabularies.
+ * @param {string} root
+ * @param {Record<string, string>} spaces
+ * @param {Listing} found
+ * @returns {Names}
+ */
 function namesOf(root, spaces, found) {
-  const prefix = (space) => {
+  const prefix = (/** @type {string} */ space) => {
     const key = Object.keys(spaces).find((it) => /^xmlns(:|$)/.test(it) && spaces[it] === space);
     if (key === undefined) throw new NoDocument(`no ${space}`);
     return key === "xmlns" ? "" : `${key.slice(6)}:`;
@@ -98,16 +171,44 @@ function namesOf(root, spaces, found) {
   if (root !== `${sitemap}urlset` && root !== `${sitemap}sitemapindex`) throw new NoDocument(root);
   found.isIndex = root === `${sitemap}sitemapindex`;
   const entry = `${sitemap}${found.isIndex ? "sitemap" : "url"}`;
-  return { entry, loc: `${sitemap}loc`, lastmod: `${sitemap}lastmod`, md: `${terms}md` };
+  const [loc, lastmod, md] = [`${sitemap}loc`, `${sitemap}lastmod`, `${terms}md`];
+  return { entry, loc, lastmod, md, plain: plainOf(entry, loc, lastmod, md) };
 }
 
-/** An attribute of an entry's `rs:md`. */
+/**
+ * The pattern of an entry as sources write it, without references: it is read in a step, and all else bit by bit.
+ * @param {string[]} names
+ */
+function plainOf(...names) {
+  const [entry, loc, lastmod, md] = names.map((it) => it.replaceAll(".", "\\."));
+  const values = SAID.map((it) => `(?: ${it}="([^"<&\\t\\n\\r]*)")?`).join("");
+  const texts = `<${loc}>([^<&]*)</${loc}>(?:<${lastmod}>([^<&]*)</${lastmod}>)?`;
+  return new RegExp(`<${entry}>${texts}<${md}${values}/></${entry}>\\s*`, "y");
+}
+
+/**
+ * An attribute of an entry's `rs:md`.
+ * @param {Entry} entry
+ * @param {string} name
+ */
 export function said(entry, name) {
   return entry.said[name] ?? "";
 }
 
-/** A moment as this source writes it, which is in the order of time as text too. */
-export function momentOf(text) {
-  if (MOMENT.test(text ?? "") && !Number.isNaN(Date.parse(text))) return text;
+/**
+ * A moment as this source writes it, which is in the order of time as text too.
+ * @param {string} text
+ */
+export function momentOf(text = "") {
+  if (MOMENT.test(text) && (text.slice(8, 10) < "29" || isDay(text))) return text;
   throw new Trouble("wrong", `“${String(text).slice(0, 60)}” is no moment.`);
+}
+
+/**
+ * Whether the day of a moment is one of its month.
+ * @param {string} text
+ */
+function isDay(text) {
+  const time = Date.parse(text);
+  return !Number.isNaN(time) && new Date(time).toISOString() === text;
 }

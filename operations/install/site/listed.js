@@ -10,12 +10,25 @@ const MARKS = { agrees: "✓ agrees", differs: "✗ differs", unasked: "not chec
 // What the columns are called where an order is said.
 const COLUMNS = { name: "name", type: "type", length: "bytes", moment: "moment" };
 
+/** @typedef {import("./model.js").Holding} Holding */
+/** @typedef {import("./model.js").Column} Column */
+/** @typedef {import("./source.js").Resource} Resource */
+
+/**
+ * A cell of a row.
+ * @param {string} kind
+ * @param {(string | Node)[]} inside
+ */
 export function cell(kind, ...inside) {
   const element = made("span", kind, ...inside);
   element.setAttribute("role", "gridcell");
   return element;
 }
 
+/**
+ * A row of cells.
+ * @param {HTMLElement[]} cells
+ */
 export function row(...cells) {
   const element = made("div", "row", ...cells);
   element.setAttribute("role", "row");
@@ -29,19 +42,42 @@ export function nameCell() {
   return cell("name", link);
 }
 
-/** Shows a name in its cell, with the address of its resource. */
+/**
+ * Shows a name in its cell, with the address of its resource.
+ * @param {any} cellOfName
+ * @param {string} name
+ * @param {string} address
+ */
 export function fillName(cellOfName, name, address) {
   const link = cellOfName.firstChild;
   showName(link.firstChild, name, cellOfName);
   link.setAttribute("href", address);
 }
 
+/** The resources of a panel, searched and sorted. */
 export class Listed {
-  /** `address` gives the address of a name's resource, `moved` hears of another search (typed, or not) or order. */
+  /**
+   * `address` gives the address of a name's resource, `moved` hears of another search (typed, or not) or order.
+   * @param {HTMLElement} root
+   * @param {{open: (resource: Resource) => void,
+   *   outcome: (resource: Resource) => import("./checking.js").Outcome | undefined,
+   *   say: (text: string) => void, isChosen: (name: string) => boolean, address: (name: string) => string,
+   *   moved: (isTyping?: boolean) => void}} acts
+   */
   constructor(root, { open, outcome, say, isChosen, address, moved }) {
-    Object.assign(this, { root, outcome, say, address, moved, resources: [], key: "name", isDown: false });
+    this.root = root;
+    this.outcome = outcome;
+    this.say = say;
+    this.address = address;
+    this.moved = moved;
+    /** @type {Resource[]} */
+    this.resources = [];
+    /** @type {Column} */
+    this.key = "name";
+    this.isDown = false;
     this.grid = part(root, "resources-grid");
     this.search = part(root, "search");
+    /** @type {Rows<Resource>} */
     this.rows = new Rows(this.grid, {
       open,
       isChosen: (resource) => isChosen(resource.name),
@@ -57,8 +93,13 @@ export class Listed {
     }
   }
 
+  /**
+   * Fills the row of a resource.
+   * @param {HTMLElement} element
+   * @param {Resource} resource
+   */
   fill(element, resource) {
-    const [name, type, length, put, mark] = element.children;
+    const [name, type, length, put, mark] = /** @type {any} */ (element.children);
     fillName(name, resource.name, this.address(resource.name));
     tell(type.firstChild, plain(resource.type));
     tell(length, count(resource.length));
@@ -68,13 +109,19 @@ export class Listed {
     mark.dataset.kind = outcome?.kind ?? "";
   }
 
-  /** Takes another reading; the reader's search, order and place stay. */
+  /**
+   * Takes another reading; the reader's search, order and place stay.
+   * @param {Holding} holding
+   */
   show(holding) {
     this.resources = holding.resources;
     this.choose(true);
   }
 
-  /** Whether the search hides a resource. */
+  /**
+   * Whether the search hides a resource.
+   * @param {{name: string, type: string}} resource
+   */
   hides(resource) {
     return !search(this.search.value)(resource);
   }
@@ -84,17 +131,24 @@ export class Listed {
     return this.key === "name" && !this.isDown ? "" : `${this.isDown ? "-" : ""}${this.key}`;
   }
 
-  /** Shows the search and the order of an address. */
+  /**
+   * Shows the search and the order of an address.
+   * @param {string} words
+   * @param {string} order
+   */
   goTo(words, order) {
     const key = order.replace(/^-/, "");
-    this.key = Object.hasOwn(COLUMNS, key) ? key : "name";
+    this.key = Object.hasOwn(COLUMNS, key) ? /** @type {Column} */ (key) : "name";
     this.isDown = order.startsWith("-");
     this.search.value = words;
     this.showOrder();
     this.choose();
   }
 
-  /** Sorts by a column, or turns its order. */
+  /**
+   * Sorts by a column, or turns its order.
+   * @param {Column} key
+   */
   sort(key) {
     this.isDown = key === this.key ? !this.isDown : key === "moment";
     this.key = key;
@@ -104,6 +158,7 @@ export class Listed {
     this.say(`Sorted by ${COLUMNS[key]}, ${this.isDown ? "descending" : "ascending"}.`);
   }
 
+  /** Marks the column by which the rows are sorted. */
   showOrder() {
     for (const button of this.grid.querySelectorAll("[data-sort]")) {
       const isThis = button.dataset.sort === this.key;
@@ -111,6 +166,7 @@ export class Listed {
     }
   }
 
+  /** Shows the resources that the search finds, in the order; the view stays where it is, or goes to the top. */
   choose(isSame = false) {
     const found = chosen(this.resources, this.search.value, this.key, this.isDown);
     this.rows.show(found, isSame);
@@ -120,7 +176,10 @@ export class Listed {
     if (!isSame) this.say(text);
   }
 
-  /** Draws the row of a resource again. */
+  /**
+   * Draws the row of a resource again.
+   * @param {Resource} resource
+   */
   mark(resource) {
     for (const [index, element] of this.rows.drawn) {
       if (this.rows.items[index].name === resource.name) this.fill(element, this.rows.items[index]);
@@ -128,13 +187,18 @@ export class Listed {
   }
 }
 
-/** The list of changes. */
+/**
+ * The list of changes.
+ * @param {HTMLElement} grid
+ * @param {{open: (change: Resource) => void, address: (name: string) => string}} acts
+ * @returns {Rows<Resource>}
+ */
 export function changeRows(grid, { open, address }) {
   return new Rows(grid, {
     open,
     make: () => row(cell("moment"), cell("change"), nameCell(), cell("number")),
     fill: (element, change) => {
-      const [at, kind, name, length] = element.children;
+      const [at, kind, name, length] = /** @type {any} */ (element.children);
       tell(at, moment(change.moment));
       tell(kind, change.change);
       kind.className = `change ${["deleted", "updated"].includes(change.change) ? change.change : "created"}`;

@@ -3,6 +3,7 @@
 
 import { Navigation } from "./address.js";
 import { aboutAt, showAbout } from "./about.js";
+import { Trouble } from "./documents.js";
 import { tell } from "./elements.js";
 import { Panel } from "./panel.js";
 import { basesOf } from "./source.js";
@@ -14,56 +15,77 @@ import { Tabs } from "./tabs.js";
 const EVERY = 30_000;
 const LEAD = "Its lists name each resource that it holds, and each change.";
 const LEADS = "Their lists name each resource that they hold, and each change.";
-const place = (id) => document.getElementById(id);
+const place = (/** @type {string} */ id) => /** @type {HTMLElement} */ (document.getElementById(id));
 const here = new URL(".", location.href).href.slice(0, -1);
-const hostOf = (base) => base.replace(/^https?:\/\//, "");
+const hostOf = (/** @type {string} */ base) => base.replace(/^https?:\/\//, "");
 const about = aboutAt(here);
 
-/** Says something to those who hear the page. */
+/**
+ * Says something to those who hear the page.
+ * @param {string} text
+ */
 function say(text) {
   place("live").textContent = text;
 }
 
 /** The page of one source, or of many in tabs. */
 class Page {
+  /** @param {string[]} bases */
   constructor(bases) {
     this.isCollection = bases.length > 1;
+    /** @type {Panel[]} */
     this.panels = bases.map((base) => this.panel(base));
     this.navigation = new Navigation(() => this.place(), (it) => this.goTo(it));
-    if (this.isCollection) this.showTabs();
+    this.tabs = new Tabs(place("tabs"), () => this.tabShown());
+    /** @type {Sums | null} */
+    this.sums = this.isCollection ? this.sumsOf() : null;
+    if (this.sums) this.showTabs(this.sums);
     else place("main").append(this.panels[0].root);
     this.showHead(bases);
     this.navigation.follow(true);
   }
 
+  /**
+   * The panel of a source.
+   * @param {string} base
+   */
   panel(base) {
     // Below the page's address a source is known by its path.
     const isBelow = `${base}/`.startsWith(`${here}/`);
     const label = isBelow && base !== here ? base.slice(here.length + 1) : hostOf(base);
-    const panel = new Panel(base, {
-      here, say,
+    return new Panel(base, {
+      here, say, label,
       key: this.isCollection ? label : "",
       // A source that is the only one is asked at its own address, and not at another one that leads to it.
       isElsewhere: !this.isCollection && !isBelow,
       changed: () => this.sums?.show(),
       moved: (isTyping) => this.navigation.note(isTyping),
     });
-    return Object.assign(panel, { label });
   }
 
-  showTabs() {
-    this.tabs = new Tabs(place("tabs"), () => this.tabShown());
-    this.sums = new Sums(this.panels, {
+  /** The sums over all sources. */
+  sumsOf() {
+    return new Sums(this.panels, {
       open: (panel, name) => this.open(panel, name),
       say,
       moved: (isTyping) => this.navigation.note(isTyping),
     });
-    const all = this.tabs.add("All", this.sums.root);
+  }
+
+  /**
+   * Shows a tab for the sums, and one for each source.
+   * @param {Sums} sums
+   */
+  showTabs(sums) {
+    const all = this.tabs.add("All", sums.root);
     place("main").append(all, ...this.panels.map((it) => this.tabs.add(it.label, it.root)));
     place("tabs").hidden = false;
   }
 
-  /** Shows the source, or the collection, in the page's head, and who runs it. */
+  /**
+   * Shows the source, or the collection, in the page's head, and who runs it.
+   * @param {string[]} bases
+   */
   showHead(bases) {
     const { isCollection } = this;
     const [host, number] = [hostOf(isCollection ? here : bases[0]), bases.length];
@@ -82,22 +104,36 @@ class Page {
     });
   }
 
-  /** The panel that is shown, or nothing where the sums are. */
+  /**
+   * The panel that is shown, or nothing where the sums are.
+   * @returns {Panel | undefined}
+   */
   get panelShown() {
     return this.isCollection ? this.panels[this.tabs.shown - 1] : this.panels[0];
   }
 
-  /** The place that is shown. */
+  /**
+   * The place that is shown.
+   * @returns {Partial<import("./address.js").Place>}
+   */
   place() {
-    return (this.panelShown ?? this.sums).place();
+    return this.panelShown?.place() ?? this.sums?.place() ?? {};
   }
 
+  /**
+   * Shows a place.
+   * @param {import("./address.js").Place} wanted
+   */
   goTo(wanted) {
     if (this.isCollection) this.tabs.show(this.panels.findIndex((it) => it.key === wanted.source) + 1);
-    (this.panelShown ?? this.sums).goTo(wanted);
+    (this.panelShown ?? this.sums)?.goTo(wanted);
   }
 
-  /** The reader opens a source, or a resource of it, in its tab. */
+  /**
+   * The reader opens a source, or a resource of it, in its tab.
+   * @param {Panel} panel
+   * @param {string} [name]
+   */
   async open(panel, name) {
     this.tabs.show(this.panels.indexOf(panel) + 1);
     if (name !== undefined) panel.open(name);
@@ -125,7 +161,7 @@ async function find() {
       place("notice").hidden = true;
       return bases;
     } catch (fault) {
-      const trouble = fault.kind ? fault : { kind: "wrong", message: `This page failed: ${fault}` };
+      const trouble = fault instanceof Trouble ? fault : { kind: "wrong", message: `This page failed: ${fault}` };
       const text = `${troubleWord(trouble)}. ${troubleText(trouble)}`;
       tell(place("title"), hostOf(here));
       Object.assign(place("notice"), { hidden: false, textContent: text });

@@ -52,12 +52,18 @@ export function searchable(text) {
   return text.normalize("NFC").toLowerCase();
 }
 
-/** The escapes of a text's bytes. */
+/**
+ * The escapes of a text's bytes.
+ * @param {string} text
+ */
 function escapesOf(text) {
   return Array.from(bytes.encode(text), (it) => `%${it.toString(16).toUpperCase().padStart(2, "0")}`).join("");
 }
 
-/** A name decoded, or null where its escapes are not UTF-8. */
+/**
+ * A name decoded, or null where its escapes are not UTF-8.
+ * @param {string} name
+ */
 function decoded(name) {
   try {
     return name.replace(ESCAPES, textOf);
@@ -66,10 +72,14 @@ function decoded(name) {
   }
 }
 
-/** The text of escapes that follow each other. */
+/**
+ * The text of escapes that follow each other.
+ * @param {string} escapes
+ */
 function textOf(escapes) {
-  const text = utf8.decode(Uint8Array.from(escapes.slice(1).split("%"), (it) => Number.parseInt(it, 16)));
-  let [shown, at] = ["", 0];
+  const text = utf8.decode(Uint8Array.from(escapes.slice(1).split("%").map((it) => Number.parseInt(it, 16))));
+  let shown = "";
+  let at = 0;
   for (const character of text) {
     const end = at + 3 * bytes.encode(character).length;
     shown += STAYS.test(character) ? escapes.slice(at, end) : character;

@@ -3,7 +3,7 @@
 import { fragmentOf } from "./address.js";
 import { Checks } from "./checks.js";
 import { Trouble } from "./documents.js";
-import { made, tell } from "./elements.js";
+import { copied, made, tell } from "./elements.js";
 import { NEVER, age, count, counted, moment, size } from "./formats.js";
 import { Listed, changeRows } from "./listed.js";
 import { Holding } from "./model.js";
@@ -15,29 +15,49 @@ import { Timeline } from "./timeline.js";
 const ELSEWHERE = "This source calls itself by another address, at which it can be looked at:";
 const HINT = "Choose a resource to see its facts and its history, and to check it.";
 
+/** @typedef {import("./address.js").Place} Place */
+/** @typedef {import("./source.js").Resource} Resource */
+
+/** The panel of one source. */
 export class Panel {
   /**
-   * `here` is the page's address, `key` the source's name in addresses; `say` says something to those who hear the
-   * page; `changed` is called when something may be another one, `moved` when the reader has gone elsewhere.
+   * `here` is the page's address, `key` the source's name in addresses and `label` that on its tab; `say` says
+   * something to those who hear the page; `changed` is called when something may be another one, `moved` when the
+   * reader has gone elsewhere.
+   * @param {string} base
+   * @param {{here: string, key: string, label: string, isElsewhere: boolean, say: (text: string) => void,
+   *   changed: () => void, moved: (isTyping?: boolean) => void}} acts
    */
-  constructor(base, { here, key, isElsewhere, say, changed, moved }) {
-    Object.assign(this, { base, here, key, isElsewhere, say, changed, moved, source: new Source(base) });
-    Object.assign(this, { holding: null, trouble: null, readAt: 0, chosen: null, wanted: null, isBegun: false });
-    this.root = document.getElementById("source").content.cloneNode(true).firstElementChild;
-    this.parts = Object.fromEntries([...this.root.querySelectorAll("[data-part]")].map((it) => [it.dataset.part, it]));
-    for (const element of this.root.querySelectorAll("[data-name]")) {
-      element.setAttribute("aria-label", element.dataset.name);
-    }
-    this.makeLists();
-    this.parts.again.addEventListener("click", () => this.read());
-    this.showMirror();
-    this.showEmptyCard();
-    this.state = stateOf(null, null, [], true);
-    showState(this.root, this.parts, this.state, 0, false);
-  }
-
-  makeLists() {
-    const address = (name) => fragmentOf({ source: this.key, resource: name });
+  constructor(base, { here, key, label, isElsewhere, say, changed, moved }) {
+    this.base = base;
+    this.here = here;
+    this.key = key;
+    this.label = label;
+    this.isElsewhere = isElsewhere;
+    this.say = say;
+    this.changed = changed;
+    this.moved = moved;
+    this.source = new Source(base);
+    /** @type {Holding | null} */
+    this.holding = null;
+    /** @type {Trouble | null} */
+    this.trouble = null;
+    this.readAt = 0;
+    /** @type {string | null} the name of the chosen resource */
+    this.chosen = null;
+    /** @type {Place | null} what the reader wants to see once the lists came */
+    this.wanted = null;
+    /** @type {import("./rows.js").Rows<Resource> | null} where the reader chose it */
+    this.cameFrom = null;
+    this.isBegun = false;
+    this.isReading = false;
+    /** @type {HTMLElement} */
+    this.root = copied("source").firstElementChild;
+    /** @type {Record<string, any>} */
+    this.parts = {};
+    for (const it of this.elements("[data-part]")) this.parts[it.dataset.part ?? ""] = it;
+    for (const it of this.elements("[data-name]")) it.setAttribute("aria-label", it.dataset.name ?? "");
+    const address = (/** @type {string} */ name) => fragmentOf({ source: this.key, resource: name });
     this.checks = new Checks(this.parts, this.say, (it) => this.checked(it), (isDifferent) => this.settle(isDifferent));
     this.listed = new Listed(this.root, {
       open: (it) => this.open(it.name),
@@ -52,8 +72,27 @@ export class Panel {
       chosen: (...range) => this.inView(...range),
       moved: () => this.moved(),
     });
+    this.hear();
+    this.parts.again.addEventListener("click", () => this.read());
+    this.showMirror();
+    this.showEmptyCard();
+    this.state = stateOf(null, null, [], true);
+    showState(this.root, this.parts, this.state, 0, false);
+  }
+
+  /**
+   * The elements of a selector.
+   * @param {string} selector
+   * @returns {NodeListOf<HTMLElement>}
+   */
+  elements(selector) {
+    return this.root.querySelectorAll(selector);
+  }
+
+  /** Hears the keys in the card, and where the focus goes. */
+  hear() {
     const { card } = this.parts;
-    card.addEventListener("keydown", (event) => {
+    card.addEventListener("keydown", (/** @type {KeyboardEvent} */ event) => {
       if (event.key === "Escape") this.back();
     });
     document.addEventListener("focusin", () => this.uncover());
@@ -68,6 +107,7 @@ export class Panel {
     });
   }
 
+  /** Shows how the source is mirrored, and how it is filled. */
   showMirror() {
     const { command, copy, description, capabilities, filling } = this.parts;
     command.textContent = `ropepeach mirror ${this.base} mirror`;
@@ -82,9 +122,14 @@ export class Panel {
     if (/^https?:\/\//.test(address)) this.parts.tools.href = address;
   }
 
-  /** Copies a text, or says that the browser does not let a page copy. */
+  /**
+   * Copies a text, or says that the browser does not let a page copy.
+   * @param {string} text
+   * @param {HTMLElement} button
+   * @param {string} message
+   */
   async copy(text, button, message) {
-    const label = button.dataset.label ?? button.textContent;
+    const label = button.dataset.label ?? button.textContent ?? "";
     button.dataset.label = label;
     try {
       await navigator.clipboard.writeText(text);
@@ -111,7 +156,9 @@ export class Panel {
     }
   }
 
+  /** Reads the lists once, and shows what came. */
   async readOnce() {
+    /** @type {Trouble | null} */
     let trouble = null;
     try {
       if (this.isElsewhere) throw new Trouble("elsewhere", ELSEWHERE);
@@ -127,6 +174,11 @@ export class Panel {
     this.showTrouble();
   }
 
+  /**
+   * Shows how many parts came.
+   * @param {number} done
+   * @param {number} all
+   */
   progress(done, all) {
     if (!this.holding) tell(this.parts["state-more"], `: part ${count(done)} of ${count(all)}`);
   }
@@ -143,7 +195,10 @@ export class Panel {
     this.changed();
   }
 
-  /** Shows another reading, and the place that the reader wanted before it came. */
+  /**
+   * Shows another reading, and the place that the reader wanted before it came.
+   * @param {Holding} holding
+   */
   show(holding) {
     this.holding = holding;
     this.root.dataset.holds = holding.resources.length ? "resources" : holding.changes.length ? "changes" : "nothing";
@@ -160,6 +215,7 @@ export class Panel {
     performance.mark("shown");
   }
 
+  /** @param {Holding} holding */
   showFigures(holding) {
     const { parts } = this;
     tell(parts.resources, count(holding.resources.length));
@@ -177,16 +233,22 @@ export class Panel {
 
   /** How long ago things were, again with each reading. */
   showAges() {
+    if (!this.holding) return;
     const { at, changed, publication } = this.holding;
     tell(this.parts["changed-age"], changed === NEVER ? "" : age(changed));
     const number = publication && `number ${publication}`;
     tell(this.parts["published-age"], [number, at === NEVER ? "" : age(at)].filter(Boolean).join(", "));
   }
 
-  /** Shows the changes that the time line has in view. */
+  /**
+   * Shows the changes that the time line has in view.
+   * @param {number} first
+   * @param {number} last
+   * @param {boolean} isSamePlace
+   */
   inView(first, last, isSamePlace) {
     this.parts["changes-grid"].hidden = first === last;
-    this.changes.show(this.holding.changes.slice(first, last).reverse(), isSamePlace);
+    this.changes.show((this.holding?.changes ?? []).slice(first, last).reverse(), isSamePlace);
   }
 
   /** The place that is shown. */
@@ -198,7 +260,10 @@ export class Panel {
     return { source: this.key, resource: this.chosen ?? "", search, sort: listed.order(), range };
   }
 
-  /** Shows a place, now or once the lists came. */
+  /**
+   * Shows a place, now or once the lists came.
+   * @param {Place} place
+   */
   goTo(place) {
     if (!this.holding) {
       this.wanted = place;
@@ -212,7 +277,10 @@ export class Panel {
     else this.close();
   }
 
-  /** A resource is chosen by the reader; `rows` is where the reader came from. */
+  /**
+   * A resource is chosen by the reader; `rows` is where the reader came from.
+   * @param {string} name
+   */
   open(name, rows = this.listed.rows) {
     this.cameFrom = rows;
     this.choose(name);
@@ -221,11 +289,14 @@ export class Panel {
     this.parts.card.scrollIntoView({ block: "nearest" });
   }
 
-  /** Shows the card of a resource, and marks its row. */
+  /**
+   * Shows the card of a resource, and marks its row.
+   * @param {string} name
+   */
   choose(name) {
     this.chosen = name;
     this.showCard(name);
-    const held = this.holding.byName.get(name);
+    const held = this.holding?.byName.get(name);
     if (held) this.listed.rows.reveal(held);
     else this.listed.rows.redraw();
   }
@@ -243,25 +314,31 @@ export class Panel {
   searched(isTyping = false) {
     const { chosen: name, listed, wanted } = this;
     if (wanted) this.wanted = { ...wanted, search: listed.search.value.trim(), sort: listed.order() };
-    const isHidden = name !== null && listed.hides(this.holding.byName.get(name) ?? { name, type: "" });
+    const isHidden = name !== null && listed.hides(this.holding?.byName.get(name) ?? { name, type: "" });
     if (isHidden) this.close();
     this.moved(isTyping);
   }
 
+  /**
+   * Shows the facts of a resource in the card.
+   * @param {string} name
+   */
   showCard(name) {
+    if (!this.holding) return;
     const held = this.holding.byName.get(name);
     const { card } = this.parts;
-    const focused = card.contains(document.activeElement) ? document.activeElement.dataset.part : undefined;
+    const active = /** @type {HTMLElement | null} */ (document.activeElement);
+    const focused = card.contains(active) ? active?.dataset.part : undefined;
     card.dataset.isOpen = true;
     showResource(card, {
       name, held, history: this.holding.history(name), from: this.holding.from,
       outcome: held && this.checks.of(held),
-      check: () => this.checks.one(held),
-      copy: (event) => this.copy(name, event.currentTarget, "The name is copied."),
+      check: () => held && this.checks.one(held),
+      copy: (event) => this.copy(name, /** @type {HTMLElement} */ (event.currentTarget), "The name is copied."),
       back: () => this.back(),
       close: () => this.back(),
     });
-    if (focused) this.root.querySelector(`.card [data-part="${focused}"]`)?.focus();
+    if (focused) this.elements(`.card [data-part="${focused}"]`)[0]?.focus();
   }
 
   /** Goes back to the row from which a resource was chosen, and closes its card. */
@@ -271,25 +348,36 @@ export class Panel {
     rows.goTo(rows.active);
   }
 
+  /** Shows that no resource is chosen. */
   showEmptyCard() {
     this.parts.card.dataset.isOpen = false;
     this.parts.card.replaceChildren(made("p", "hint", HINT));
   }
 
-  /** A resource was checked. */
+  /**
+   * A resource was checked.
+   * @param {Resource} resource
+   */
   checked(resource) {
     if (this.chosen === resource.name) showOutcome(this.parts.card, this.checks.of(resource));
     this.listed.mark(resource);
   }
 
-  /** Checks have ended: where a body differs, the lists may be older than it. */
+  /**
+   * Checks have ended: where a body differs, the lists may be older than it.
+   * @param {boolean} isDifferent
+   */
   async settle(isDifferent) {
     if (isDifferent) await this.read();
     this.showTrouble();
   }
 }
 
-/** Shows a moment as its day, and its time of day below. */
+/**
+ * Shows a moment as its day, and its time of day below.
+ * @param {HTMLElement} element
+ * @param {string} text
+ */
 export function showMoment(element, text) {
   if (text === NEVER) tell(element, moment(text));
   else element.replaceChildren(made("span", "day", text.slice(0, 10)), " ", made("span", "time", text.slice(11, 19)));

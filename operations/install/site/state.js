@@ -5,6 +5,7 @@ import { clock, count, counted } from "./formats.js";
 import { readable } from "./names.js";
 
 // For each state its word, and whether it is good (nothing needs to be said), a thing to wait for, or bad.
+/** @type {Record<string, [string, string]>} */
 const STATES = {
   reading: ["Reading", "wait"],
   unread: ["Not read yet", "wait"],
@@ -23,13 +24,30 @@ const AGAIN = "This page asks again every half minute.";
 // This many of the names that no mirror takes are shown.
 const NAMED = 3;
 
-/** The state: of the last reading's trouble, of the lists that were read, and of the bodies that differ from them. */
+/** @typedef {{kind: string, message: string}} Told  a trouble */
+/** @typedef {import("./model.js").Holding} Holding */
+/** @typedef {{kind: string, word: string, tone: string, why: string}} State */
+
+/**
+ * The state: of the last reading's trouble, of the lists that were read, and of the bodies that differ from them.
+ * @param {Told | null} trouble
+ * @param {Holding | null} holding
+ * @param {unknown[]} differing
+ * @returns {State}
+ */
 export function stateOf(trouble, holding, differing, isUnread = false) {
   const kind = kindOf(trouble, holding, differing, isUnread);
   const [word, tone] = STATES[kind];
-  return { kind, word, tone, why: why(kind, trouble, holding, differing) };
+  const why = trouble ? troubleWhy(kind, trouble, holding) : holdingWhy(kind, holding, differing);
+  return { kind, word, tone, why };
 }
 
+/**
+ * @param {Told | null} trouble
+ * @param {Holding | null} holding
+ * @param {unknown[]} differing
+ * @param {boolean} isUnread
+ */
 function kindOf(trouble, holding, differing, isUnread) {
   if (trouble) return trouble.kind in STATES ? trouble.kind : "wrong";
   if (!holding) return isUnread ? "unread" : "reading";
@@ -38,7 +56,10 @@ function kindOf(trouble, holding, differing, isUnread) {
   return holding.resources.length ? "open" : "empty";
 }
 
-/** What a reader should know where a source, or its Source Description, cannot be read. */
+/**
+ * What a reader should know where a source, or its Source Description, cannot be read.
+ * @param {Told} trouble
+ */
 export function troubleText(trouble) {
   if (trouble.kind === "closed") return CLOSED;
   if (trouble.kind === "unreachable" || trouble.kind === "gone") return `${trouble.message} ${AGAIN}`;
@@ -46,41 +67,47 @@ export function troubleText(trouble) {
 }
 
 /** The word of a trouble. */
-export const troubleWord = (trouble) => (STATES[trouble.kind] ?? STATES.wrong)[0];
+export const troubleWord = (/** @type {Told} */ trouble) => (STATES[trouble.kind] ?? STATES.wrong)[0];
 
-/** What a reader should know of a state. */
-function why(kind, trouble, holding, differing) {
-  switch (kind) {
-    case "closed":
-    case "unreachable":
-    case "gone":
-    case "wrong":
-      return `${troubleText(trouble)} ${holding ? "The figures below are from the last reading." : "Nothing was read yet."}`;
-    case "elsewhere":
-      return trouble.message;
-    case "disagrees":
-      return [contradictionText(holding), bodiesText(differing)].filter(Boolean).join(" ");
-    case "refused":
-      return unlawfulText(holding.unlawful);
-    case "empty":
-      return "It holds nothing now.";
-    default:
-      return "";
-  }
+/**
+ * What a reader should know of a trouble.
+ * @param {string} kind
+ * @param {Told} trouble
+ * @param {Holding | null} holding
+ */
+function troubleWhy(kind, trouble, holding) {
+  if (kind === "elsewhere") return trouble.message;
+  return `${troubleText(trouble)} ${holding ? "The figures below are from the last reading." : "Nothing was read yet."}`;
 }
 
+/**
+ * What a reader should know of lists that were read.
+ * @param {string} kind
+ * @param {Holding | null} holding
+ * @param {unknown[]} differing
+ */
+function holdingWhy(kind, holding, differing) {
+  if (!holding) return "";
+  if (kind === "disagrees") return [contradictionText(holding), bodiesText(differing)].filter(Boolean).join(" ");
+  if (kind === "refused") return unlawfulText(holding.unlawful);
+  return kind === "empty" ? "It holds nothing now." : "";
+}
+
+/** @param {Holding} holding */
 function contradictionText({ contradictions, told }) {
   if (!contradictions) return "";
   const more = contradictions > told.length ? ` And ${contradictions - told.length} more.` : "";
   return `Its lists disagree with each other. ${told.map((it) => `${it}.`).join(" ")}${more}`;
 }
 
+/** @param {unknown[]} differing */
 function bodiesText(differing) {
   if (!differing.length) return "";
   const them = differing.length === 1 ? "it" : "them";
   return `${counted(differing.length, "body is", "bodies are")} not as listed; “Check it” names ${them}.`;
 }
 
+/** @param {string[]} names */
 function unlawfulText(names) {
   const shown = names.slice(0, NAMED).map((name) => `“${readable(name).text.slice(0, 80)}”`).join(", ");
   const more = names.length > NAMED ? `, and ${count(names.length - NAMED)} more` : "";
@@ -88,10 +115,17 @@ function unlawfulText(names) {
   return `A mirror refuses these lists, as it takes no file of ${noun} ${shown}${more}.`;
 }
 
-/** Shows a state in its places of a panel. Figures of an earlier reading are dimmed. */
+/**
+ * Shows a state in its places of a panel. Figures of an earlier reading are dimmed.
+ * @param {HTMLElement} root
+ * @param {Record<string, any>} parts
+ * @param {State} state
+ * @param {number} readAt
+ * @param {boolean} isOld
+ */
 export function showState(root, parts, state, readAt, isOld) {
   root.dataset.state = state.kind;
-  root.dataset.isOld = isOld;
+  root.dataset.isOld = String(isOld);
   parts.state.dataset.tone = state.tone;
   parts["state-word"].textContent = state.word;
   parts["state-more"].textContent = readAt ? `, ${isOld ? "last " : ""}read at ${clock(readAt)} UTC` : "";
@@ -101,7 +135,11 @@ export function showState(root, parts, state, readAt, isOld) {
   if (parts.why.textContent !== state.why) parts.why.textContent = state.why;
 }
 
-/** Shows where a source is that calls itself by another address. */
+/**
+ * Shows where a source is that calls itself by another address.
+ * @param {Record<string, any>} parts
+ * @param {string} base
+ */
 export function showElsewhere(parts, base) {
   parts.why.append(" ", linked(`${base}/`, base));
 }

@@ -1,7 +1,7 @@
 // The first tab of a collection: the sums over the sources that were read, each source in a row, and a search over all.
 
 import { fragmentOf } from "./address.js";
-import { given, made, part, tell } from "./elements.js";
+import { copied, given, made, part, tell } from "./elements.js";
 import { age, count, counted, moment, size } from "./formats.js";
 import { cell, fillName, nameCell, row } from "./listed.js";
 import { search, sums } from "./model.js";
@@ -9,17 +9,34 @@ import { plain } from "./names.js";
 import { showMoment } from "./panel.js";
 import { Rows } from "./rows.js";
 
+/** @typedef {import("./panel.js").Panel} Panel */
+/** @typedef {{panel: Panel, resource: import("./source.js").Resource}} Found */
+
+/** The first tab of a collection. */
 export class Sums {
-  /** `open` shows the tab of a panel, and a resource there; `moved` hears of another search. */
+  /**
+   * `open` shows the tab of a panel, and a resource there; `moved` hears of another search.
+   * @param {Panel[]} panels
+   * @param {{open: (panel: Panel, name?: string) => void, say: (text: string) => void,
+   *   moved: (isTyping: boolean) => void}} acts
+   */
   constructor(panels, { open, say, moved }) {
-    Object.assign(this, { panels, open, say, moved });
-    this.root = document.getElementById("sums").content.cloneNode(true).firstElementChild;
+    this.panels = panels;
+    this.open = open;
+    this.say = say;
+    this.moved = moved;
+    this.isReading = false;
+    this.words = "";
+    this.read = 0;
+    /** @type {HTMLElement} */
+    this.root = copied("sums").firstElementChild;
     this.search = part(this.root, "search-all");
     this.search.addEventListener("input", () => {
       this.find();
       this.moved(true);
     });
     part(this.root, "read-all").addEventListener("click", () => this.readAll());
+    /** @type {Rows<Found>} */
     this.rows = new Rows(part(this.root, "found-grid"), {
       open: ({ panel, resource }) => this.open(panel, resource.name),
       make: () => row(nameCell(), cell("source", given("")), cell("type", given("")), cell("number"), cell("moment")),
@@ -47,6 +64,10 @@ export class Sums {
     return { search: this.search.value.trim() };
   }
 
+  /**
+   * Shows a place.
+   * @param {{search: string}} place
+   */
   goTo(place) {
     if (this.search.value.trim() === place.search) return;
     this.search.value = place.search;
@@ -62,6 +83,10 @@ export class Sums {
     this.showFound(words);
   }
 
+  /**
+   * Shows what some words find.
+   * @param {string} words
+   */
   showFound(words) {
     const isFound = search(words);
     const items = this.panels.flatMap((panel) =>
@@ -75,16 +100,17 @@ export class Sums {
     this.say(text);
   }
 
+  /** Shows the sums, and each source in its row. */
   show() {
     const all = sums(this.panels.map((it) => it.holding));
-    const put = (name, text) => tell(part(this.root, name), text);
+    const put = (/** @type {string} */ name, /** @type {string} */ text) => tell(part(this.root, name), text);
     put("resources", all.read ? count(all.resources) : "–");
     const sources = counted(this.panels.length, "source");
     put("read", all.read === this.panels.length ? `in ${sources}` : `in ${count(all.read)} of ${sources} that were read`);
     put("size", all.read ? size(all.bytes) : "–");
     put("bytes", all.bytes >= 1_000 ? `${count(all.bytes)} bytes` : "");
     put("changes", all.read ? count(all.changes) : "–");
-    for (const name of ["changed", "published"]) {
+    for (const name of /** @type {const} */ (["changed", "published"])) {
       if (all[name]) showMoment(part(this.root, name), all[name]);
       put(`${name}-age`, all[name] ? age(all[name]) : "");
     }
@@ -96,6 +122,10 @@ export class Sums {
     if (this.search.value.trim()) this.showFound(this.search.value.trim());
   }
 
+  /**
+   * The row of a source.
+   * @param {Panel} panel
+   */
   row(panel) {
     const { holding, state, base } = panel;
     const button = made("button", "quiet", given(base));
@@ -105,14 +135,19 @@ export class Sums {
     head.scope = "row";
     const word = made("td", "tone", state.word);
     word.dataset.tone = state.tone;
-    const { resources, bytes, changed } = holding ?? {};
-    const figures = holding ? [count(resources.length), count(bytes), moment(changed)] : ["–", "–", "–"];
+    const figures = holding
+      ? [count(holding.resources.length), count(holding.bytes), moment(holding.changed)] : ["–", "–", "–"];
     return made("tr", "", head, word, ...figures.map((it) => made("td", "", it)));
   }
 }
 
+/**
+ * Fills the row of what a search found.
+ * @param {HTMLElement} element
+ * @param {Found} found
+ */
 function fill(element, { panel, resource }) {
-  const [name, source, type, length, put] = element.children;
+  const [name, source, type, length, put] = /** @type {any} */ (element.children);
   fillName(name, resource.name, fragmentOf({ source: panel.key, resource: resource.name }));
   tell(source.firstChild, panel.label);
   tell(type.firstChild, plain(resource.type));

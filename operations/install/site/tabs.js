@@ -2,14 +2,27 @@
 
 import { given, made } from "./elements.js";
 
+/** A row of tabs. */
 export class Tabs {
-  /** `shown` hears which tab is shown by the reader. */
+  /**
+   * `shown` hears which tab is shown by the reader.
+   * @param {HTMLElement} bar
+   * @param {(number: number) => void} shown
+   */
   constructor(bar, shown) {
-    Object.assign(this, { bar, tabs: [], shown: 0, hear: shown });
+    this.bar = bar;
+    this.hear = shown;
+    this.shown = 0;
+    /** @type {{tab: HTMLElement, panel: HTMLElement}[]} */
+    this.tabs = [];
     bar.addEventListener("keydown", (event) => this.move(event));
   }
 
-  /** A tab with a label, and what it shows. */
+  /**
+   * A tab with a label, and what it shows.
+   * @param {string} label
+   * @param {HTMLElement} content
+   */
   add(label, content) {
     const number = this.tabs.length;
     const tab = made("button", "tab", given(label));
@@ -26,21 +39,31 @@ export class Tabs {
     return panel;
   }
 
+  /**
+   * Shows a tab.
+   * @param {number} number
+   */
   show(number) {
     this.shown = number;
     this.tabs.forEach(({ tab, panel }, at) => {
-      tab.setAttribute("aria-selected", at === number);
+      tab.setAttribute("aria-selected", String(at === number));
       tab.tabIndex = at === number ? 0 : -1;
       panel.hidden = at !== number;
     });
     this.hear(number);
   }
 
+  /**
+   * What a key does on the tabs.
+   * @param {KeyboardEvent} event
+   */
   move(event) {
     const last = this.tabs.length - 1;
     const after = this.shown < last ? this.shown + 1 : 0;
     const before = this.shown ? this.shown - 1 : last;
-    const to = { ArrowRight: after, ArrowLeft: before, Home: 0, End: last }[event.key];
+    /** @type {Record<string, number | undefined>} */
+    const keys = { ArrowRight: after, ArrowLeft: before, Home: 0, End: last };
+    const to = keys[event.key];
     if (to === undefined) return;
     event.preventDefault();
     this.show(to);

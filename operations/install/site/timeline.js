@@ -19,36 +19,73 @@ const ROWS = 24;
 const RANGE = /^(\d{4}-\d\d-\d\dT[\d:.]+Z)\.\.(\d{4}-\d\d-\d\dT[\d:.]+Z)$/;
 
 // What the keys do.
+/** @type {Record<string, string>} */
 const KEYS = { "+": "in", "=": "in", "-": "out", ArrowLeft: "earlier", ArrowRight: "later", Home: "whole", 0: "whole" };
 
-const isSame = (one, other) => one[0] === other[0] && one[1] === other[1];
+/** @typedef {import("./bins.js").Span} Span */
+/** @typedef {import("./bins.js").Bin} Bin */
 
+const isSame = (/** @type {Span} */ one, /** @type {Span} */ other) => one[0] === other[0] && one[1] === other[1];
+
+/**
+ * An element of a drawing.
+ * @param {string} name
+ * @param {Record<string, string | number>} attributes
+ * @param {string[]} inside
+ */
 function drawn(name, attributes, ...inside) {
   const it = document.createElementNS(SVG, name);
-  for (const [key, value] of Object.entries(attributes)) it.setAttribute(key, value);
+  for (const [key, value] of Object.entries(attributes)) it.setAttribute(key, String(value));
   it.append(...inside);
   return it;
 }
 
+/** The time line of a panel. */
 export class Timeline {
-  /** `chosen` gets the span in view as it changes; `moved` hears that the reader changed it. */
+  /**
+   * `chosen` gets the span in view as it changes; `moved` hears that the reader changed it.
+   * @param {HTMLElement} root
+   * @param {{chosen: (first: number, last: number, isSamePlace: boolean) => void, moved: () => void}} acts
+   */
   constructor(root, { chosen, moved }) {
-    Object.assign(this, { root, chosen, moved, counted: new Counted([]), at: null, wide: 0, bins: [] });
+    this.root = root;
+    this.chosen = chosen;
+    this.moved = moved;
+    this.counted = new Counted([]);
+    /** @type {number | null} the moment of the latest publication */
+    this.at = null;
+    this.wide = 0;
+    /** @type {Bin[]} */
+    this.bins = [];
+    /** @type {Span} the span in view, once changes came */
+    this.span = /** @type {any} */ (null);
+    /** @type {Span} */
+    this.whole = [0, 0];
+    /** @type {Span} */
+    this.recent = [0, 0];
+    /** @type {number | undefined} where a drag began, from 0 to 1 */
+    this.start = undefined;
+    /** @type {Element | null} */
+    this.brush = null;
     this.field = part(root, "field");
-    for (const button of root.querySelectorAll("[data-zoom]")) {
+    for (const button of this.buttons()) {
       button.addEventListener("click", () => this.act(button.dataset.zoom));
     }
-    this.field.addEventListener("keydown", (it) => this.pressed(it));
-    this.field.addEventListener("wheel", (it) => this.wheeled(it), { passive: false });
-    this.field.addEventListener("pointerdown", (it) => this.begin(it));
-    this.field.addEventListener("pointermove", (it) => this.point(it));
-    this.field.addEventListener("pointerup", (it) => this.end(it));
+    this.field.addEventListener("keydown", (/** @type {KeyboardEvent} */ it) => this.pressed(it));
+    this.field.addEventListener("wheel", (/** @type {WheelEvent} */ it) => this.wheeled(it), { passive: false });
+    this.field.addEventListener("pointerdown", (/** @type {PointerEvent} */ it) => this.begin(it));
+    this.field.addEventListener("pointermove", (/** @type {PointerEvent} */ it) => this.point(it));
+    this.field.addEventListener("pointerup", (/** @type {PointerEvent} */ it) => this.end(it));
     this.field.addEventListener("pointercancel", () => this.mark(null));
     part(root, "table").addEventListener("toggle", () => this.list());
     new ResizeObserver(() => this.resized()).observe(this.field);
   }
 
-  /** Takes changes, in their order, and the moment of the latest publication. */
+  /**
+   * Takes changes, in their order, and the moment of the latest publication.
+   * @param {import("./source.js").Resource[]} changes
+   * @param {string} at
+   */
   show(changes, at) {
     this.counted = new Counted(changes);
     this.at = at === NEVER ? null : Date.parse(at);
@@ -65,6 +102,12 @@ export class Timeline {
     this.changed(true);
   }
 
+  /** @returns {NodeListOf<HTMLElement>} */
+  buttons() {
+    return this.root.querySelectorAll("[data-zoom]");
+  }
+
+  /** Whether all changes are in view. */
   isWhole() {
     return isSame(this.span, this.whole);
   }
@@ -75,24 +118,33 @@ export class Timeline {
     return this.isWhole() ? "all" : this.span.map((it) => new Date(it).toISOString()).join("..");
   }
 
-  /** The span of an address. */
+  /**
+   * The span of an address.
+   * @param {string} range
+   * @returns {Span}
+   */
   spanOf(range) {
     if (range === "all") return this.whole;
     const [from, until] = (RANGE.exec(range) ?? []).slice(1).map((it) => Date.parse(it));
     return from < until ? this.within(from, until) : this.recent;
   }
 
-  /** Shows the span of an address. */
+  /**
+   * Shows the span of an address.
+   * @param {string} range
+   */
   goTo(range) {
     this.span = this.spanOf(range);
     this.changed();
   }
 
+  /** Draws again where the width is another one. */
   resized() {
     if (!this.span || this.field.clientWidth === this.wide) return;
     this.draw();
   }
 
+  /** Shows the span in view, and says that it is another one. */
   changed(isSamePlace = false) {
     this.draw();
     this.list();
@@ -100,33 +152,53 @@ export class Timeline {
     this.chosen(first, last, isSamePlace);
   }
 
-  /** A span within the whole one. */
+  /**
+   * A span within the whole one.
+   * @param {number} from
+   * @param {number} until
+   * @returns {Span}
+   */
   within(from, until) {
     const length = Math.min(Math.max(until - from, SHORTEST), this.whole[1] - this.whole[0]);
     const start = Math.min(Math.max((from + until - length) / 2, this.whole[0]), this.whole[1] - length);
     return [Math.round(start), Math.round(start + length)];
   }
 
-  /** The reader goes to another span. */
+  /**
+   * The reader goes to another span.
+   * @param {number} from
+   * @param {number} until
+   */
   go(from, until) {
     this.span = this.within(from, until);
     this.changed();
     this.moved();
   }
 
-  /** Makes the span longer or shorter around a place of it, from 0 to 1. */
+  /**
+   * Makes the span longer or shorter around a place of it, from 0 to 1.
+   * @param {number} by
+   */
   zoom(by, place = 0.5) {
     const [from, until] = this.span;
     const centre = from + place * (until - from);
     this.go(centre - (centre - from) * by, centre + (until - centre) * by);
   }
 
+  /**
+   * Moves the span by a part of its length.
+   * @param {number} by
+   */
   move(by) {
     const [from, until] = this.span;
     const way = Math.min(Math.max(by * (until - from), this.whole[0] - from), this.whole[1] - until);
     this.go(from + way, until + way);
   }
 
+  /**
+   * What a button or a key does.
+   * @param {string | undefined} what
+   */
   act(what) {
     if (!this.counted.times.length) return;
     if (what === "whole") this.go(...this.whole);
@@ -135,6 +207,7 @@ export class Timeline {
     else this.move(what === "earlier" ? -0.4 : 0.4);
   }
 
+  /** @param {KeyboardEvent} event */
   pressed(event) {
     const what = KEYS[event.key];
     if (!what || event.ctrlKey || event.metaKey || event.altKey) return;
@@ -142,23 +215,30 @@ export class Timeline {
     this.act(what);
   }
 
+  /** @param {WheelEvent} event */
   wheeled(event) {
     if (!event.ctrlKey || !this.counted.times.length) return;
     event.preventDefault();
     this.zoom(event.deltaY > 0 ? 1.25 : 0.8, this.placeOf(event));
   }
 
+  /**
+   * Where a pointer is on the field, from 0 to 1.
+   * @param {MouseEvent} event
+   */
   placeOf(event) {
     const box = this.field.getBoundingClientRect();
     return Math.min(Math.max((event.clientX - box.left) / box.width, 0), 1);
   }
 
+  /** @param {PointerEvent} event */
   begin(event) {
     if (event.button !== 0 || !this.counted.times.length) return;
     this.start = this.placeOf(event);
     this.field.setPointerCapture(event.pointerId);
   }
 
+  /** @param {PointerEvent} event */
   point(event) {
     if (!this.span) return;
     const place = this.placeOf(event);
@@ -168,6 +248,7 @@ export class Timeline {
     tell(part(this.root, "readout"), bin ? `${spanText(bin.from, bin.until)} UTC: ${words(bin.counts)}` : "");
   }
 
+  /** @param {PointerEvent} event */
   end(event) {
     const [start, place] = [this.start, this.placeOf(event)];
     this.mark(null);
@@ -176,13 +257,17 @@ export class Timeline {
     this.go(from + Math.min(start, place) * (until - from), from + Math.max(start, place) * (until - from));
   }
 
-  /** Marks what a drag has chosen so far. */
+  /**
+   * Marks what a drag has chosen so far.
+   * @param {Span | null} range
+   */
   mark(range) {
     if (!range) this.start = undefined;
-    this.brush?.setAttribute("x", range ? range[0] * this.wide : 0);
-    this.brush?.setAttribute("width", range ? (range[1] - range[0]) * this.wide : 0);
+    this.brush?.setAttribute("x", String(range ? range[0] * this.wide : 0));
+    this.brush?.setAttribute("width", String(range ? (range[1] - range[0]) * this.wide : 0));
   }
 
+  /** Draws the span in view. */
   draw() {
     this.wide = this.field.clientWidth;
     const most = Math.max(8, Math.floor(this.wide / BAR));
@@ -201,11 +286,20 @@ export class Timeline {
     this.describe();
   }
 
+  /**
+   * Where a time is drawn.
+   * @param {number} time
+   */
   x(time) {
     return ((time - this.span[0]) / (this.span[1] - this.span[0])) * this.wide;
   }
 
-  /** What one bin has: created and updated above the line, deleted below it. */
+  /**
+   * What one bin has: created and updated above the line, deleted below it.
+   * @param {Bin} bin
+   * @param {number} base
+   * @param {number} scale
+   */
   bars(bin, base, scale) {
     const left = this.x(bin.from) + 0.5;
     const wide = Math.max(1, this.x(bin.until) - left - 0.5);
@@ -221,6 +315,7 @@ export class Timeline {
     });
   }
 
+  /** The marks of the axis. */
   axis() {
     if (!this.counted.times.length) return [];
     return marks(this.span, Math.max(2, Math.floor(this.wide / 90))).flatMap(({ at, text }) => {
@@ -231,6 +326,7 @@ export class Timeline {
     });
   }
 
+  /** The mark of the latest publication. */
   published() {
     const x = this.at === null ? -1 : this.x(this.at);
     return x < 0 || x > this.wide ? [] : [drawn("line", { class: "published", x1: x, x2: x, y1: 0, y2: HIGH })];
@@ -261,14 +357,16 @@ export class Timeline {
   /** Buttons that would do nothing are off; the one whose span is in view is pressed. */
   showButtons() {
     const [from, until] = this.span;
+    /** @type {Record<string, boolean>} */
     const isOff = {
       earlier: from <= this.whole[0], later: until >= this.whole[1], out: this.isWhole(), in: until - from <= SHORTEST,
     };
+    /** @type {Record<string, boolean>} */
     const isPressed = { recent: isSame(this.span, this.recent), whole: this.isWhole() };
-    for (const button of this.root.querySelectorAll("[data-zoom]")) {
-      const { zoom } = button.dataset;
-      if (zoom in isOff) button.setAttribute("aria-disabled", isOff[zoom]);
-      else button.setAttribute("aria-pressed", isPressed[zoom]);
+    for (const button of this.buttons()) {
+      const { zoom = "" } = button.dataset;
+      if (zoom in isOff) button.setAttribute("aria-disabled", String(isOff[zoom]));
+      else button.setAttribute("aria-pressed", String(isPressed[zoom]));
     }
   }
 
@@ -287,7 +385,10 @@ export class Timeline {
   }
 }
 
-/** Counts of each kind in words. */
+/**
+ * Counts of each kind in words.
+ * @param {number[]} counts
+ */
 function words(counts) {
   return counts.map((it, kind) => `${count(it)} ${KINDS[kind]}`).join(", ");
 }

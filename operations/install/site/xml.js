@@ -14,18 +14,26 @@ const NAMED = { amp: "&", lt: "<", gt: ">", quot: '"', apos: "'" };
 /** Why a text is no document. */
 export class NoDocument extends Error {}
 
-/** A text with its references resolved. */
+/**
+ * A text with its references resolved.
+ * @param {string} text
+ * @returns {string}
+ */
 export function resolved(text) {
   if (!text.includes("&")) return text;
   return text.replace(REFERENCE, (all, hexadecimal, decimal, name) => {
-    if (name) return NAMED[name];
+    if (name) return NAMED[/** @type {keyof typeof NAMED} */ (name)];
     const point = hexadecimal ? Number.parseInt(hexadecimal, 16) : Number(decimal);
     if (!point || Number.isNaN(point) || point > 0x10ffff) throw new NoDocument(`no reference: ${all}`);
     return String.fromCodePoint(point);
   });
 }
 
-/** The attributes of a tag by their names. */
+/**
+ * The attributes of a tag by their names.
+ * @param {string} text
+ * @returns {Record<string, string>}
+ */
 export function attributesOf(text) {
   const found = Object.create(null);
   ATTRIBUTE.lastIndex = 0;
@@ -36,12 +44,23 @@ export function attributesOf(text) {
   return found;
 }
 
-/** Reads a text, and tells each element's beginning (its name, its depth from 1, its attributes as they stand), its own text, and its end. */
-export function read(text, { begin, end }) {
+/**
+ * Reads a text, and tells each element's beginning (its name, its depth from 1, its attributes as they stand), its own
+ * text, and its end. Within the root `whole` is asked first: it may take elements, and gives the place behind them.
+ * @param {string} text
+ * @param {{begin: (name: string, depth: number, attributes: string) => void,
+ *   end: (name: string, depth: number, inside: string) => void, whole: (at: number) => number}} heard
+ */
+export function read(text, { begin, end, whole }) {
+  /** @type {string[]} */
   const open = [];
   let [inside, hasRoot] = ["", false];
-  TOKEN.lastIndex = DECLARATION.exec(text)[0].length;
+  TOKEN.lastIndex = DECLARATION.exec(text)?.[0].length ?? 0;
   for (let at = TOKEN.lastIndex; at < text.length; at = TOKEN.lastIndex) {
+    if (open.length === 1) {
+      at = TOKEN.lastIndex = whole(at);
+      if (at === text.length) break;
+    }
     const found = TOKEN.exec(text);
     if (!found) throw new NoDocument(`at ${at}`);
     const [, isEnd, name, attributes, isEmpty, words] = found;

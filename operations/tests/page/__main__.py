@@ -5,9 +5,10 @@ The looks are functions of looks_*.py; the first line of each says what has to h
 settings that are wrong are made up (wrong.py), and each has to be noticed. All runs in a process of its own,
 which is ended after LIMIT seconds. Selenium is Debian's, so that process is Debian's Python where this one has it not.
 
-usage: python3 -m operations.tests.page [PROGRAM] [--short] [NAME..]     names of looks (all, where none is given); --short
-                                                        tries a few of the wrong pages
-       python3 -m operations.tests.page --pictures             draws the pictures of docs/pictures anew
+usage: python3 -m operations.tests.page [PROGRAM] [--short] [NAME..]
+    names of looks (all, where none is given); --short tries a few of the wrong pages
+usage: python3 -m operations.tests.page --pictures
+    draws the pictures of docs/pictures anew
 Exit status 1 where one does not hold.
 """
 import os
@@ -26,23 +27,23 @@ INSIDE = "--inside"
 
 def python_with(modules: str) -> str:
     """A Python that has these modules, or nothing."""
-    for it in filter(os.path.exists, PYTHONS):
-        words = [it, "-c", f"import {modules}"]
+    for path in filter(os.path.exists, PYTHONS):
+        words = [path, "-c", f"import {modules}"]
         if not subprocess.run(words, cwd=ROOT, capture_output=True, timeout=SECONDS).returncode:
-            return it
+            return path
     return ""
 
 
-def outside(given: list[str]) -> int:
+def outside(arguments: list[str]) -> int:
     """Runs the looks in a process of its own, with a limit."""
     os.environ["PATH"] += ":/usr/sbin:/sbin"
-    is_drawn = "--pictures" in given
+    is_drawn = "--pictures" in arguments
     python = python_with("tests, selenium.webdriver, urllib3" + ", PIL" * is_drawn)
-    missing = [it for it in ("chromium", "chromedriver", "firefox-esr", "nginx")
-               if not shutil.which(it)] + [f"python3-selenium{' or python3-pil' * is_drawn}"] * (not python)
+    missing = [tool for tool in ("chromium", "chromedriver", "firefox-esr", "nginx")
+               if not shutil.which(tool)] + [f"python3-selenium{' or python3-pil' * is_drawn}"] * (not python)
     if missing:
         return skipped("page", f"there is no {', '.join(missing)} here")
-    words = [python, "-m", "operations.tests.page", INSIDE, *given]
+    words = [python, "-m", "operations.tests.page", INSIDE, *arguments]
     with subprocess.Popen(words, cwd=ROOT, start_new_session=True) as run:
         try:
             return run.wait(LIMIT)
@@ -56,13 +57,14 @@ def outside(given: list[str]) -> int:
                 pass
 
 
-def inside(given: list[str]) -> int:
+def inside(arguments: list[str]) -> int:
     """The looks, or the pictures."""
-    from operations.tests.page import pictures, running
-    program = os.path.abspath(given.pop(0) if given and os.path.isfile(given[0]) else str(PROGRAM))
-    if given == ["--pictures"]:
+    program = os.path.abspath(arguments.pop(0) if arguments and os.path.isfile(arguments[0]) else str(PROGRAM))
+    if arguments == ["--pictures"]:
+        from operations.tests.page import pictures
         return pictures.draw(program)
-    return running.look(program, [name for name in given if name != "--short"], "--short" in given)
+    from operations.tests.page import running
+    return running.look(program, [name for name in arguments if name != "--short"], "--short" in arguments)
 
 
 if __name__ == "__main__":

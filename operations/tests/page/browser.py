@@ -20,8 +20,8 @@ WIDE, NARROW = (1280, 900), (375, 812)
 # What each page notes from its beginning: what its policy refused, its faults, and whether anything of a
 # source's ran.
 NOTES = """
-const look = (now) => {
-  if (document.querySelector(".resources .row bdi")?.textContent) window.firstRow = now;
+const look = () => {
+  if (document.querySelector(".resources .row bdi")?.textContent) window.firstRow = performance.now();
   else requestAnimationFrame(look);
 };
 requestAnimationFrame(look);
@@ -41,7 +41,9 @@ OPTIONS = ["--headless=new", "--no-sandbox", "--disable-gpu", "--disable-dev-shm
 class Asking:
     """What is asked of a page in whatever browser, by scripts that run in it."""
 
-    patience = SECONDS
+    patience: float = SECONDS
+    # The longest wait for a page since it was set to nothing.
+    longest = 0.0
 
     def run(self, script: str, *arguments: Any) -> Any:
         """What a function's body gives in the page."""
@@ -49,6 +51,11 @@ class Asking:
 
     def open(self, address: str, size: tuple[int, int] = WIDE, scheme: str = "light") -> None:
         """Opens a page in a window of so many CSS pixels, in light or dark."""
+        raise NotImplementedError
+
+    def forget(self) -> None:
+        """Leaves the page, and keeps none of the history: a browser keeps 50 entries, and drops first those
+        that no gesture of a reader made, as the steps of these looks are."""
         raise NotImplementedError
 
     def press(self, key: str, text: str = "", code: int = 0, shift: bool = False) -> None:
@@ -75,12 +82,14 @@ class Asking:
 
     def until(self, script: str, what: str, *arguments: Any) -> Any:
         """Waits until a function's body gives something true in the page."""
-        end = time.monotonic() + self.patience
+        begun = time.monotonic()
         while not (found := self.run(script, *arguments)):
-            if time.monotonic() > end:
+            if time.monotonic() > begun + self.patience:
                 shown = self.run("return document.body.innerText")[:400]
-                raise Differs(f"{what}: not within {self.patience} seconds; the page says {shown!r}, {self.faults()}")
+                raise Differs(f"{what}: not within {self.patience:.0f} seconds; the page says {shown!r}, "
+                              f"{self.faults()}")
             time.sleep(0.02)
+        self.longest = max(self.longest, time.monotonic() - begun)
         return found
 
     def equals(self, wanted: Any, script: str, *arguments: Any) -> None:
@@ -111,8 +120,8 @@ class Browser(Asking):
     def __init__(self, room: str, *more: str) -> None:
         options = webdriver.ChromeOptions()
         options.binary_location = shutil.which("chromium") or ""
-        for it in [*OPTIONS, f"--user-data-dir={room}/chromium", *more]:
-            options.add_argument(it)
+        for option in [*OPTIONS, f"--user-data-dir={room}/chromium", *more]:
+            options.add_argument(option)
         options.set_capability("goog:loggingPrefs", {"browser": "ALL"})
         RemoteConnection.set_timeout(SECONDS)
         self.driver = webdriver.Chrome(service=Service(shutil.which("chromedriver") or ""), options=options)
@@ -138,6 +147,11 @@ class Browser(Asking):
         self.size(*size, scheme)
         self.driver.get(address)
 
+    def forget(self) -> None:
+        """Leaves the page, and keeps none of the history."""
+        self.driver.get("about:blank")
+        self.tell("Page.resetNavigationHistory")
+
     def run(self, script: str, *arguments: Any) -> Any:
         """What a function's body gives in the page."""
         return self.driver.execute_script(script, *arguments)
@@ -157,7 +171,7 @@ class Browser(Asking):
 
     def metric(self, name: str) -> float:
         """What the browser has measured of the page by this name."""
-        return float(next(it["value"] for it in self.tell("Performance.getMetrics")["metrics"] if it["name"]
+        return float(next(metric["value"] for metric in self.tell("Performance.getMetrics")["metrics"] if metric["name"]
                           == name))
 
     def press(self, key: str, text: str = "", code: int = 0, shift: bool = False) -> None:
@@ -176,8 +190,8 @@ class Browser(Asking):
         """Of each element of a selector that is seen its tag, and the role and the name that the browser
         gives it."""
         every = self.driver.find_elements("css selector", selector)
-        found = [it for it in every if self.run("return arguments[0].checkVisibility()", it)]
-        return [(it.tag_name, it.aria_role, it.accessible_name) for it in found]
+        found = [element for element in every if self.run("return arguments[0].checkVisibility()", element)]
+        return [(element.tag_name, element.aria_role, element.accessible_name) for element in found]
 
     def picture(self) -> bytes:
         """What is in view as a PNG."""

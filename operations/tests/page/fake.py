@@ -34,10 +34,11 @@ class Entry:
     def text(self, base: str) -> str:
         """The entry in a list of a source at a base."""
         gone = self.change == "deleted"
-        said = f" change={quoteattr(self.change)} datetime={quoteattr(moment_text(self.moment))}" if self.change else ""
+        change = (f" change={quoteattr(self.change)} datetime={quoteattr(moment_text(self.moment))}"
+                  if self.change else "")
         facts = "" if gone else f' hash="{self.hash}" length="{self.length}" type={quoteattr(self.kind)}'
         lastmod = "" if gone else f"<lastmod>{moment_text(self.moment)}</lastmod>"
-        return f"<url><loc>{escape(f'{base}/resource/{self.name}')}</loc>{lastmod}<rs:md{said}{facts}/></url>\n"
+        return f"<url><loc>{escape(f'{base}/resource/{self.name}')}</loc>{lastmod}<rs:md{change}{facts}/></url>\n"
 
 
 def entry_of(name: str, body: bytes, moment: int, change: str = "", kind: str = "text/plain") -> Entry:
@@ -65,26 +66,26 @@ class Fake:
 
     def documents(self) -> dict[str, bytes]:
         """Each document by its path."""
-        lists = "".join(f'<url><loc>{self.base}/{it}.xml</loc><rs:md capability="{it}"/></url>\n'
-                        for it in ("resourcelist", "changelist"))
-        named = self.text("urlset", 'capability="capabilitylist"', lists)
-        found = {"/.well-known/resourcesync": description(self.base), "/capabilitylist.xml": named}
+        lists = "".join(f'<url><loc>{self.base}/{name}.xml</loc><rs:md capability="{name}"/></url>\n'
+                        for name in ("resourcelist", "changelist"))
+        capabilities = self.text("urlset", 'capability="capabilitylist"', lists)
+        found = {"/.well-known/resourcesync": description(self.base), "/capabilitylist.xml": capabilities}
         at = f'at="{moment_text(self.at)}"'
         self.add(found, "resourcelist", f"/resourcelist/{self.publication}/", at,
-                 [(it, at) for it in chunks(self.listed, self.limit)])
-        ends = [FORMATTED] + [it[-1].moment for it in chunks(self.changes, self.limit)]
+                 [(chunk, at) for chunk in chunks(self.listed, self.limit)])
+        ends = [FORMATTED] + [chunk[-1].moment for chunk in chunks(self.changes, self.limit)]
         bounds = [f'from="{moment_text(start)}"'
-                  + (f' until="{moment_text(it[-1].moment)}"' if len(it) == self.limit else "")
-                  for start, it in zip(ends, chunks(self.changes, self.limit))]
+                  + (f' until="{moment_text(chunk[-1].moment)}"' if len(chunk) == self.limit else "")
+                  for start, chunk in zip(ends, chunks(self.changes, self.limit))]
         self.add(found, "changelist", "/changelist/", f'from="{moment_text(FORMATTED)}"',
                  list(zip(chunks(self.changes, self.limit), bounds)))
         return {path: text.encode() for path, text in found.items()}
 
-    def add(self, found: dict[str, str], name: str, place: str, said: str,
+    def add(self, found: dict[str, str], name: str, place: str, facts: str,
             parts: list[tuple[list[Entry], str]]) -> None:
         """A list of one document, or an index with its parts."""
         texts = [(self.entries(items), bounds) for items, bounds in parts]
-        head = f'capability="{name}" {said}'
+        head = f'capability="{name}" {facts}'
         if len(texts) < 2:
             found[f"/{name}.xml"] = self.text("urlset", head, texts[0][0] if texts else "")
             return
@@ -96,11 +97,11 @@ class Fake:
 
     def entries(self, items: list[Entry]) -> str:
         """The entries of a list."""
-        return "".join(it.text(self.base) for it in items)
+        return "".join(item.text(self.base) for item in items)
 
-    def text(self, root: str, said: str, children: str) -> str:
+    def text(self, root: str, facts: str, children: str) -> str:
         """A document."""
-        return f"{HEAD}<{root} {SPACES}>\n<rs:md {said}/>\n{children}</{root}>\n"
+        return f"{HEAD}<{root} {SPACES}>\n<rs:md {facts}/>\n{children}</{root}>\n"
 
     def answer(self) -> Callable[[str], Answer]:
         """What answers for a path."""
@@ -119,9 +120,9 @@ class Fake:
 
 def description(*bases: str) -> str:
     """A Source Description that names the Capability Lists of these bases."""
-    named = "".join(f'<url><loc>{it}/capabilitylist.xml</loc><rs:md capability="capabilitylist"/></url>\n'
-                    for it in bases)
-    return f'{HEAD}<urlset {SPACES}>\n<rs:md capability="description"/>\n{named}</urlset>\n'
+    links = "".join(f'<url><loc>{base}/capabilitylist.xml</loc><rs:md capability="capabilitylist"/></url>\n'
+                    for base in bases)
+    return f'{HEAD}<urlset {SPACES}>\n<rs:md capability="description"/>\n{links}</urlset>\n'
 
 
 def chunks(items: list[Entry], limit: int) -> list[list[Entry]]:
@@ -131,12 +132,12 @@ def chunks(items: list[Entry], limit: int) -> list[list[Entry]]:
 
 def published(fake: Fake, moment: int) -> Fake:
     """Publishes what the changes make: the Resource List in the order of the names' bytes."""
-    held: dict[str, Entry] = {}
-    for it in fake.changes:
-        held.pop(it.name, None)
-        if it.change != "deleted":
-            held[it.name] = dataclasses.replace(it, change="")
-    fake.listed, fake.at = [held[it] for it in sorted(held, key=str.encode)], moment
+    current: dict[str, Entry] = {}
+    for change in fake.changes:
+        current.pop(change.name, None)
+        if change.change != "deleted":
+            current[change.name] = dataclasses.replace(change, change="")
+    fake.listed, fake.at = [current[name] for name in sorted(current, key=str.encode)], moment
     return fake
 
 
@@ -144,21 +145,21 @@ def archive(base: str, number: int, seed: int = 1, begun: int = BEGUN) -> Fake:
     """A source as an archive may be: some hundred resources, put in the busy hours of weeks, some anew,
     some deleted."""
     chance, fake, moment = random.Random(seed), Fake(base, publication=7, limit=1_000), begun
-    held: dict[str, str] = {}
-    while len(held) < number:
+    kinds: dict[str, str] = {}
+    while len(kinds) < number:
         moment += int(chance.expovariate(1 / (HOUR * (0.15 if chance.random() < 0.9 else 60)))) + 1
         ending, kind = chance.choice(KINDS)
         folder, year, word = chance.choice(WORDS), chance.randrange(1880, 2026), chance.choice(WORDS)
         name = f"{folder}/{year}/{word}-{chance.randrange(1, 100):02}.{ending}"
-        if held and chance.random() < 0.2:
-            name = chance.choice(list(held))
-        is_gone = name in held and chance.random() < 0.25
-        change = "deleted" if is_gone else "updated" if name in held else "created"
+        if kinds and chance.random() < 0.2:
+            name = chance.choice(list(kinds))
+        is_gone = name in kinds and chance.random() < 0.25
+        change = "deleted" if is_gone else "updated" if name in kinds else "created"
         body = chance.randbytes(int(chance.lognormvariate(7.5, 1.2)))
         fake.changes.append(Entry(name, moment, "deleted") if is_gone
-                            else entry_of(name, body, moment, change, held.get(name, kind)))
-        held.pop(name, None) if is_gone else held.setdefault(name, kind)
-        fake.bodies[name] = (held.get(name, kind), None if is_gone else body)
+                            else entry_of(name, body, moment, change, kinds.get(name, kind)))
+        kinds.pop(name, None) if is_gone else kinds.setdefault(name, kind)
+        fake.bodies[name] = (kinds.get(name, kind), None if is_gone else body)
         if len(fake.changes) % (number // 3) == 0:
             moment += 1
             published(fake, moment)
@@ -170,11 +171,13 @@ def large(base: str) -> Fake:
     after the publication."""
     digest = hash_of(b"")
 
-    def name(it: int) -> str:
-        return f"{WORDS[it % len(WORDS)]}/{it * 7919 % LARGE:05}/{WORDS[it // 7 % len(WORDS)]}.{KINDS[it % 5][0]}"
+    def name(number: int) -> str:
+        folder, word = WORDS[number % len(WORDS)], WORDS[number // 7 % len(WORDS)]
+        return f"{folder}/{number * 7919 % LARGE:05}/{word}.{KINDS[number % 5][0]}"
 
-    changes = [Entry(name(it), BEGUN + it * 47_000, "created", KINDS[it % 5][1], it * 31 % 900_000, digest)
-               for it in range(LARGE)]
+    changes = [Entry(name(number), BEGUN + number * 47_000, "created", KINDS[number % 5][1],
+                     number * 31 % 900_000, digest)
+               for number in range(LARGE)]
     fake = published(Fake(base, changes=changes[: LARGE * 9 // 10], publication=3), BEGUN
                      + LARGE * 9 // 10 * 47_000 - 1)
     fake.changes = changes

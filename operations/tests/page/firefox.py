@@ -50,7 +50,7 @@ class Firefox(Asking):
         profile.joinpath("user.js").write_text(lines)
         words = [shutil.which("firefox-esr"), "--marionette", "--remote-allow-system-access", "--headless",
                  "--no-remote", "--profile", str(profile), "about:blank"]
-        self.process = subprocess.Popen([str(it) for it in words], stdout=subprocess.DEVNULL,
+        self.process = subprocess.Popen([str(word) for word in words], stdout=subprocess.DEVNULL,
                                         stderr=subprocess.DEVNULL)
         try:
             self.connection = self.connected()
@@ -131,6 +131,11 @@ class Firefox(Asking):
         self.until("return Math.abs(innerWidth / arguments[0] - 1) < 0.05", f"a window of {size[0]} pixels",
                    size[0])
 
+    def forget(self) -> None:
+        """Leaves the page, and keeps none of the history."""
+        self.tell("WebDriver:Navigate", url="about:blank")
+        self.privileged("gBrowser.selectedBrowser.purgeSessionHistory()")
+
     def run(self, script: str, *arguments: Any) -> Any:
         """What a function's body gives in the page."""
         return self.tell("WebDriver:ExecuteScript", script=script, args=list(arguments), sandbox=None)
@@ -146,11 +151,11 @@ class Firefox(Asking):
         """Of each element of a selector that is seen its tag, and the role and the name that the browser
         gives it."""
         found = []
-        for it in self.tell("WebDriver:FindElements", using="css selector", value=selector):
-            if self.run("return arguments[0].checkVisibility()", it):
-                tag = self.tell("WebDriver:GetElementTagName", id=it[ELEMENT])
-                role = self.tell("WebDriver:GetComputedRole", id=it[ELEMENT])
-                found.append((tag, role, self.tell("WebDriver:GetComputedLabel", id=it[ELEMENT])))
+        for element in self.tell("WebDriver:FindElements", using="css selector", value=selector):
+            if self.run("return arguments[0].checkVisibility()", element):
+                tag = self.tell("WebDriver:GetElementTagName", id=element[ELEMENT])
+                role = self.tell("WebDriver:GetComputedRole", id=element[ELEMENT])
+                found.append((tag, role, self.tell("WebDriver:GetComputedLabel", id=element[ELEMENT])))
         return found
 
     def close(self) -> None:

@@ -70,11 +70,13 @@ class Looked:
     """The room of all looks. `change` makes other settings of nginx, `edit` another page: a look has to
     notice where they are wrong."""
 
-    def __init__(self, program: str, room: str, browser: Asking) -> None:
+    def __init__(self, program: str, room: str, browser: Asking, is_long: bool = False) -> None:
         self.program, self.room, self.browser = program, pathlib.Path(room), browser
         self.change: Change = unchanged
         self.edit: Callable[[pathlib.Path], None] = lambda page: None
         self.numbers = itertools.count()
+        # Whether this is the long form, which measures by the clock.
+        self.is_long = is_long
 
     @property
     def chromium(self) -> Browser:
@@ -136,11 +138,11 @@ class Looked:
 
     def status(self, disk: pathlib.Path) -> tuple[str, ...]:
         """What `status` tells of a file, once its server has ended."""
-        told = subprocess.run([self.program, "run", disk], input=b"status\n", capture_output=True, check=True,
-                              timeout=SECONDS).stdout.decode()
-        found = re.fullmatch(r"resources (\d+) changes (\d+) publication (\d+) last (\S+)\n", told)
+        status = subprocess.run([self.program, "run", disk], input=b"status\n", capture_output=True, check=True,
+                                timeout=SECONDS).stdout.decode()
+        found = re.fullmatch(r"resources (\d+) changes (\d+) publication (\d+) last (\S+)\n", status)
         if not found:
-            raise Differs(f"the status: {told[:200]!r}")
+            raise Differs(f"the status: {status[:200]!r}")
         return found.groups()
 
     def is_well(self) -> None:

@@ -4,11 +4,11 @@ import contextlib
 import itertools
 import shutil
 
-from operations.tests.collection.host import Host, asked as asked_source
+from operations.tests.collection.host import Host, request as request_source
 from operations.tests.page import fake as fakes
 from operations.tests.page.browser import Asking
 from operations.tests.page.looked import Looked, same
-from operations.tests.page.looks_program import asked, put
+from operations.tests.page.looks_program import put, request
 from operations.tests.page.site import PAGE
 from operations.tests.tools.lists_server import serving
 
@@ -43,16 +43,16 @@ def deposited_pages_change_nothing(look: Looked) -> None:
     room = look.room / f"doors-{next(look.numbers)}"
     room.mkdir()
     with contextlib.chdir(room), Host(look.program, room, ["s1", "s2"]) as host:
-        page = ASKS % ", ".join(DELETE % it for it in ("/s1", "/s2"))
-        for name, it in host.sources.items():
-            asked_source(it.url, "/resource/treasure", "PUT", name.encode())
+        page = ASKS % ", ".join(DELETE % base for base in ("/s1", "/s2"))
+        for name, server in host.sources.items():
+            request_source(server.url, "/resource/treasure", "PUT", name.encode())
         put(host.sources["s1"].port, "paper.html", page.encode(), "text/html")
         look.chromium.driver.get(f"{host.address}/s1/resource/paper.html")
         title = ended(look.chromium)
-        for name, it in host.sources.items():
+        for name, server in host.sources.items():
             same("the page has not run", "begun", title)
             same(f"the treasure of {name}", (200, name.encode()),
-                 asked(it.port, "GET", "/resource/treasure")[::2])
+                 request(server.port, "GET", "/resource/treasure")[::2])
 
 
 def pages_of_other_hosts_change_nothing(look: Looked) -> None:
@@ -64,8 +64,8 @@ def pages_of_other_hosts_change_nothing(look: Looked) -> None:
                 look.chromium.driver.get(f"{address}/evil.html")
                 same("the page has run", "ended", ended(look.chromium)[:5])
                 port = int(base.rpartition(":")[2])
-                same("the treasure", (200, b"here"), asked(port, "GET", "/resource/treasure")[::2])
-                same("what was put", 404, asked(port, "GET", "/resource/csrf")[0])
+                same("the treasure", (200, b"here"), request(port, "GET", "/resource/treasure")[::2])
+                same("what was put", 404, request(port, "GET", "/resource/csrf")[0])
 
 
 def names_that_are_led_here_get_nothing(look: Looked) -> None:
@@ -78,7 +78,7 @@ def names_that_are_led_here_get_nothing(look: Looked) -> None:
             const status = (more) => fetch("/resource/treasure", more).then((it) => it.status, () => "failed");
             Promise.all([status({}), status({method: "DELETE"}), status({method: "PUT", body: "x"})]).then(done);""")
         same(f"what a page of that name gets, {found}", True, set(found) <= {421, "failed"})
-        same("the treasure", (200, b"here"), asked(port, "GET", "/resource/treasure")[::2])
+        same("the treasure", (200, b"here"), request(port, "GET", "/resource/treasure")[::2])
 
 
 def depositors_scripts_are_none_of_the_page(look: Looked) -> None:
@@ -100,7 +100,7 @@ def depositors_scripts_are_none_of_the_page(look: Looked) -> None:
                 it[where] = address;
                 document.head.append(it);""", element, where, f"{base}/resource/evil.{ending}")
         found = look.chromium.faults()
-        refused = sorted(it.partition(" ")[0] for it in found["refused"])
+        refused = sorted(line.partition(" ")[0] for line in found["refused"])
         same("what is refused, and what ran", (["script-src-elem", "style-src-elem"], []),
              (refused, found["ran"]))
 
@@ -121,7 +121,7 @@ def a_check_fetches_so_many_bytes_alone(look: Looked) -> None:
         look.chromium.state("Open")
         look.chromium.click("check-some")
         look.chromium.until(ENDED, "the end of the checks")
-        same("what is fetched", FETCHED, sum("/resource/" in it for it in shown.server.asked))
+        same("what is fetched", FETCHED, sum("/resource/" in path for path in shown.server.requests))
         same("what is offered", f"Check the other {MANY - FETCHED} (50.3 MB)",
              look.chromium.text("check-rest"))
         same("what is told", f"{FETCHED} agree; 67.1 MB", look.chromium.text("checked").partition(" in ")[0])
@@ -132,20 +132,24 @@ def a_check_fetches_so_many_bytes_alone(look: Looked) -> None:
         same("the offer is gone once it is taken", True, is_hidden)
         others = f"return /^{MANY - FETCHED} agree;/.test(document.querySelector(`[data-part='checked']`).textContent)"
         look.chromium.until(others, "the end of the others")
-        found = sorted(it for it in shown.server.asked if "/resource/" in it)
-        same("each once", [f"/resource/{it}" for it in range(MANY)], found)
+        found = sorted(path for path in shown.server.requests if "/resource/" in path)
+        same("each once", [f"/resource/{number}" for number in range(MANY)], found)
         is_hidden = look.chromium.run("return document.querySelector(`[data-part='check-rest']`).hidden")
         same("no more is offered", True, is_hidden)
         look.is_well()
 
 
 def opens_a_tab(browser: Asking, address: str) -> None:
-    """The address of a source of a collection, and of a search there, opens its tab."""
+    """The address of a source of a collection, and of a search there, opens its tab; so does its base."""
+    tab = "return document.querySelector('.tab[aria-selected=true]')?.textContent"
+    browser.open(f"{address}/s2/")
+    browser.equals("s2", tab)
+    browser.equals("1.txt", "return document.querySelector('#panel-2 .resources .row')?.firstChild.textContent")
     browser.open("about:blank")
     browser.open(f"{address}/#source=s2&search=1.txt")
     found = "return [...document.querySelectorAll('#panel-2 .resources .row')].map((it) => it.firstChild.textContent)"
     browser.equals(["1.txt"], found)
-    same("its tab", "s2", browser.run("return document.querySelector('.tab[aria-selected=true]').textContent"))
+    same("its tab", "s2", browser.run(tab))
 
 
 def a_collection_below_one_host_is_shown(look: Looked) -> None:
@@ -156,9 +160,9 @@ def a_collection_below_one_host_is_shown(look: Looked) -> None:
         shutil.copytree(PAGE, room / "page")
         look.edit(room / "page")
         with contextlib.chdir(room), Host(look.program, room, names, page=room / "page") as host:
-            for number, it in enumerate(itertools.chain.from_iterable(host.sources.values()
-                                                                      for _ in range(3))):
-                put(it.port, f"{number}.txt", b"a body")
+            thrice = itertools.chain.from_iterable(host.sources.values() for _ in range(3))
+            for number, server in enumerate(thrice):
+                put(server.port, f"{number}.txt", b"a body")
             look.chromium.open(f"{host.address}/")
             if len(names) == 1:
                 look.chromium.state("Open")

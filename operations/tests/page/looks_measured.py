@@ -72,9 +72,9 @@ def contrast_is_enough(look: Looked) -> None:
             browser.click("check")
             browser.state("Disagrees")
             found = browser.run(scripts.CONTRAST)
-            same(f"too little contrast in {scheme}", [], [it for it in found if it["ratio"] < it["least"]])
+            same(f"too little contrast in {scheme}", [], [text for text in found if text["ratio"] < text["least"]])
             same(f"pairs of colours in {scheme}", True, len(found) > 15)
-            lowest = min(lowest, *(it["ratio"] for it in found if it["kind"] == "text"))
+            lowest = min(lowest, *(text["ratio"] for text in found if text["kind"] == "text"))
         print(f"contrast: the lowest of a text is {lowest:.2f}", flush=True)
 
 
@@ -84,13 +84,13 @@ def names_and_roles_are_told(look: Looked) -> None:
     with look.fake(lambda base: fakes.archive(base, 60)) as shown:
         opened(look, shown.base)
         found = look.browser.labels(USED)
-        same("things without a name", [], [it for it in found if not it[2].strip()])
-        same("things of another role", [], [it for it in found if it[1] not in ROLES[it[0]]])
+        same("things without a name", [], [control for control in found if not control[2].strip()])
+        same("things of another role", [], [control for control in found if control[1] not in ROLES[control[0]]])
         same("things that can be used", True, len(found) > 30)
         for selector, role in ROLED.items():
             labels = look.browser.labels(selector)
-            same(f"roles of {selector}", {role}, {it[1] for it in labels})
-            same(f"names of {selector}", True, role in ("gridcell",) or all(it[2].strip() for it in labels))
+            same(f"roles of {selector}", {role}, {label[1] for label in labels})
+            same(f"names of {selector}", True, role in ("gridcell",) or all(label[2].strip() for label in labels))
         levels = look.browser.run(scripts.LEVELS)
         goes_down = all(then <= before + 1 for before, then in zip(levels, levels[1:]))
         same("headings go down a level at a time", True, levels[0] == 1 and goes_down)
@@ -110,11 +110,11 @@ def the_focus_goes_in_order(look: Looked) -> None:
             same(f"{found[-1]} has a mark", True, browser.run(MARK) >= 2)
         at = -1
         for word in ORDER:
-            after = [place for place, it in enumerate(found) if place > at and it.startswith(word)]
+            after = [place for place, stop in enumerate(found) if place > at and stop.startswith(word)]
             if not after:
                 raise Differs(f"{word} does not come in its order: {found}")
             at = after[0]
-        rows = sum(it.startswith("row ") for it in found)
+        rows = sum(stop.startswith("row ") for stop in found)
         same("rows that the tab key reaches, one of each list", 2, rows)
 
 
@@ -159,7 +159,7 @@ def what_is_shown_is_the_same_here(look: Looked) -> None:
         browser.open("about:blank")
         browser.open(f"{shown.base}/")
         browser.state("Open")
-        same("the names", NAMES, [it[0] for it in browser.run(scripts.ROWS, "resources")])
+        same("the names", NAMES, [row[0] for row in browser.run(scripts.ROWS, "resources")])
         browser.run(scripts.TYPED, "search", "müll")
         browser.run("document.querySelector('.resources .row').click()")
         browser.equals("Müller.txt", "return document.querySelector('.card h3').textContent")

@@ -62,14 +62,14 @@ def drawn(base: str, rng: random.Random) -> fakes.Fake:
     return source
 
 
-def held(source: fakes.Fake) -> dict[str, tuple[str, bytes]]:
+def resources_of(source: fakes.Fake) -> dict[str, tuple[str, bytes]]:
     """What a source holds: types and bodies by name."""
     return {name: (kind, body) for name, (kind, body) in source.bodies.items() if body is not None}
 
 
 def lying(source: fakes.Fake, rng: random.Random) -> set[str]:
     """Lets a source serve other bodies than it lists, by some names, and gives these."""
-    names = sorted(held(source))
+    names = sorted(resources_of(source))
     chosen = set(rng.sample(names, rng.randrange(min(3, len(names)) + 1)))
     for name in sorted(chosen):
         kind, body = source.bodies[name]
@@ -88,7 +88,7 @@ def shown_rows(look: Looked) -> list[list[str]]:
 
 def figures_are_right(look: Looked, source: fakes.Fake) -> None:
     """The figures and the rows are those of what is held."""
-    own, browser = held(source), look.browser
+    own, browser = resources_of(source), look.browser
     for part, figure in (("resources", len(own)), ("changes", len(source.changes))):
         browser.until(FIGURE, f"{part}: {figure}", part, str(figure))
     size = sum(len(body) for _, body in own.values())
@@ -99,7 +99,7 @@ def figures_are_right(look: Looked, source: fakes.Fake) -> None:
 
 def marks_are_right(look: Looked, source: fakes.Fake, wrong: set[str]) -> None:
     """After a check of all, the counts, the marks, the names above them and the state are right."""
-    browser, names = look.browser, held(source).keys() | wrong
+    browser, names = look.browser, resources_of(source).keys() | wrong
     browser.run(UNCHECKED)
     browser.click("check-some")
     browser.until(CHECKED, "the end of the checks")
@@ -160,6 +160,24 @@ def an_open_part_that_grows_is_read_again(look: Looked) -> None:
             same("the rows", [f"{number}" for number in range(count)], [row[0] for row in shown_rows(look)])
 
 
+def lists_that_were_kept_are_compared_anew(look: Looked) -> None:
+    """A part of the Resource List that stays is compared with each reading of the Change List, and not with an earlier
+    one.
+    """
+    listed = [fakes.entry_of(f"{number}", b"body", fakes.BEGUN + number) for number in range(4)]
+    changes = [dataclasses.replace(entry, change="created") for entry in listed]
+    wrong = [dataclasses.replace(changes[0], length=1), *changes[1:]]
+    at = fakes.BEGUN + 100
+    with look.fake(lambda base: fakes.Fake(base, listed, wrong, at, limit=2)) as shown:
+        look.browser.open(f"{shown.base}/")
+        look.browser.state("Disagrees")
+        # (its first change has left the Change List, as the source keeps so many)
+        shown.is_now(dataclasses.replace(shown.fake, changes=changes[1:]))
+        look.browser.run(AGAIN)
+        look.browser.state("Open")
+        look.is_well()
+
+
 def is_told(look: Looked, what: str, shown: Shown, answer: Answering, words: str = "") -> None:
     """Looks whether a page that is opened is neither `Open` nor `Closed`, and says why by some words."""
     shown.server.answer = answer
@@ -189,7 +207,7 @@ def answers_that_are_not_right_are_told(look: Looked) -> None:
         base, lists = shown.base, right("/resourcelist.xml")
 
         def instead(path: str, answer: Answer) -> Answering:
-            return lambda asked: answer if asked == path else right(asked)
+            return lambda requested: answer if requested == path else right(requested)
 
         def exchanged(path: str, old: str, new: str) -> Answering:
             status, kind, body = right(path)
@@ -197,13 +215,16 @@ def answers_that_are_not_right_are_told(look: Looked) -> None:
             return instead(path, (status, kind, body.replace(old.encode(), new.encode(), 1)))
 
         moved = instead("/resourcelist.xml", (302, f"text/plain\r\nLocation: {base}/other.xml", b""))
-        is_told(look, "a redirect", shown, lambda asked: lists if asked == "/other.xml" else moved(asked))
+        is_told(look, "a redirect", shown, lambda requested: lists if requested == "/other.xml" else moved(requested))
         beside = exchanged("/capabilitylist.xml", f"{base}/resourcelist.xml", f"{base}1/resourcelist.xml")
         is_told(look, "beside the base", shown, beside, "is not below its base")
         is_told(look, "lists apart", shown, apart(shown.fake))
         first = shown.fake.listed[0]
         other = exchanged("/resourcelist.xml", first.hash.split()[0], f"md5:{'0' * 32}")
         is_told(look, "another MD5", shown, other, first.name)
+        for moment in ("2026-02-29", "2026-13-01", "2026-04-31"):
+            fault = exchanged("/resourcelist.xml", moment_text(first.moment)[:10], moment)
+            is_told(look, f"no day: {moment}", shown, fault, "is no moment")
         is_told(look, "no memory", shown, instead("/changelist.xml", (503, "text/plain", b"NoMemory\n")))
 
 
@@ -245,15 +266,15 @@ def many_are_checked_at_random(look: Looked) -> None:
         look.browser.state("Open")
         sets = []
         for _ in range(2):
-            shown.server.asked.clear()
+            shown.server.requests.clear()
             look.browser.run(UNCHECKED)
             look.browser.click("check-some")
             look.browser.until(CHECKED, "the end of the checks")
-            sets.append({path for path in shown.server.asked if path.startswith("/resource/")})
+            sets.append({path for path in shown.server.requests if path.startswith("/resource/")})
         same("bodies that were asked for", [100, 100], [len(found) for found in sets])
         same("the same ones", False, sets[0] == sets[1])
 
 
-LOOKS = [what_is_shown_is_what_a_model_says, an_open_part_that_grows_is_read_again,
-         answers_that_are_not_right_are_told, a_check_of_an_old_body_is_no_news_of_the_new_one,
-         many_are_checked_at_random]
+LOOKS = [what_is_shown_is_what_a_model_says, lists_that_were_kept_are_compared_anew,
+         an_open_part_that_grows_is_read_again, answers_that_are_not_right_are_told,
+         a_check_of_an_old_body_is_no_news_of_the_new_one, many_are_checked_at_random]

@@ -58,8 +58,8 @@ def names_are_read_decoded(look: Looked) -> None:
                               ("c3%bc", "M%C3%BCller.txt"),
                               ("要旨", NAMES[0][0]), ("%E8%A6", NAMES[0][0]), ("<B>", "%3Cb%3Ebold%3C/b%3E")]:
             browser.run(scripts.TYPED, "search", words)
-            text = next(text for it, text, _ in NAMES if it == lawful)
-            same(f"a search for {words}", [text], [it[0] for it in browser.run(scripts.ROWS, "resources")])
+            text = next(text for name, text, _ in NAMES if name == lawful)
+            same(f"a search for {words}", [text], [row[0] for row in browser.run(scripts.ROWS, "resources")])
             browser.run("document.querySelector('.resources .row').click()")
             same("the card", [text, lawful], browser.run(CARD))
         browser.run(KEPT)
@@ -74,7 +74,7 @@ def archive(base: str) -> fakes.Fake:
     fake = fakes.archive(base, 60)
     last = fake.changes[-1].moment
     names = ["M%C3%BCller%20&%20Co/a+b=1;c.txt", "zz%23%3F"]
-    fake.changes += [fakes.entry_of(it, b"body", last + at, "created") for at, it in enumerate(names, 1)]
+    fake.changes += [fakes.entry_of(name, b"body", last + at, "created") for at, name in enumerate(names, 1)]
     return fakes.published(fake, last + 10)
 
 
@@ -183,7 +183,7 @@ def the_chosen_row_is_marked(look: Looked) -> None:
     with look.fake(lambda base: fakes.archive(base, 60)) as shown:
         browser.open(f"{shown.base}/")
         browser.state("Open")
-        names = [it[0] for it in browser.run(scripts.ROWS, "resources")]
+        names = [row[0] for row in browser.run(scripts.ROWS, "resources")]
         for number in (1, 3):
             browser.run("document.querySelectorAll('.resources .row')[arguments[0]].click()", number)
             same("the chosen row", [names[number], [names[number]]], browser.run(PLACE)[:2])

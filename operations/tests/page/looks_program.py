@@ -27,8 +27,8 @@ LIKE_THE_PAGE = ["a%2F..%2F..%2Fsite%2Fmain.js", "a%2F..%2F..%2F", "a%2F..%2F..%
                  "a%2F..%2F..%2Findex.html", "site/main.js"]
 
 
-def asked(port: int, method: str, path: str, body: bytes | None = None, **fields: str) -> tuple[int, Message,
-                                                                                                bytes]:
+def request(port: int, method: str, path: str, body: bytes | None = None,
+            **fields: str) -> tuple[int, Message, bytes]:
     """The status of an answer, its fields, and its body."""
     connection = http.client.HTTPConnection("127.0.0.1", port, timeout=SECONDS)
     try:
@@ -42,17 +42,17 @@ def asked(port: int, method: str, path: str, body: bytes | None = None, **fields
 def put(port: int, name: str, body: bytes, kind: str = "text/plain") -> None:
     """Puts a resource."""
     same(f"put {name}", True,
-         asked(port, "PUT", f"/resource/{name}", body, **{"Content-Type": kind})[0] in (201, 204))
+         request(port, "PUT", f"/resource/{name}", body, **{"Content-Type": kind})[0] in (201, 204))
 
 
 def filled(port: int) -> None:
     """Ten resources in parts, a publication, and changes after it of each kind."""
     for number in range(10):
         put(port, f"papers/{number}.txt", f"paper {number}".encode() * (number + 1))
-    same("publish", 200, asked(port, "POST", "/publish")[0])
+    same("publish", 200, request(port, "POST", "/publish")[0])
     put(port, "papers/3.txt", b"anew")
     put(port, "papers/new.csv", b"a,b\n1,2\n", "text/csv")
-    same("delete", 204, asked(port, "DELETE", "/resource/papers/0.txt")[0])
+    same("delete", 204, request(port, "DELETE", "/resource/papers/0.txt")[0])
 
 
 def figures(browser: Asking) -> tuple[str, str, str, str, str]:
@@ -80,12 +80,12 @@ def the_figures_are_those_of_status(look: Looked) -> None:
         server.kill()
         server.wait(SECONDS)
         resources, changes, publication, last = look.status(disk)
-        held = sum(len(f"paper {it}") * (it + 1) for it in range(1, 10)
-                   if it != 3) + len("anew") + len("a,b\n1,2\n")
-        wanted = resources, str(held), changes, f"number {publication}, just now", last[:19].replace("T", " ")
+        size = sum(len(f"paper {number}") * (number + 1) for number in range(1, 10)
+                   if number != 3) + len("anew") + len("a,b\n1,2\n")
+        wanted = resources, str(size), changes, f"number {publication}, just now", last[:19].replace("T", " ")
         same("the figures", wanted, found[:3] + (found[3].partition(", ")[0] + ", just now", found[4]))
-        same("the names", [f"papers/{it}.txt" for it in range(1, 10)] + ["papers/new.csv"],
-             [it[0] for it in rows])
+        same("the names", [f"papers/{number}.txt" for number in range(1, 10)] + ["papers/new.csv"],
+             [row[0] for row in rows])
 
 
 def an_empty_source_is_shown(look: Looked) -> None:
@@ -94,15 +94,15 @@ def an_empty_source_is_shown(look: Looked) -> None:
     with look.source(lambda port: None) as (base, _, _):
         browser.open(f"{base}/")
         browser.state("Empty")
-        found = [browser.text(it) for it in ("resources", "size", "changes", "changed", "published")]
+        found = [browser.text(part) for part in ("resources", "size", "changes", "changed", "published")]
         same("the figures", ["0", "0 bytes", "0", "never", "never"], found)
         same("what to do first", f"ropepeach fill FOLDER {base}", browser.text("filling"))
         for kind, is_shown in (("filling", True), ("checking", False), ("timeline", False),
                                ("holdings", False)):
             same(f"{kind} is shown", is_shown,
                  browser.run("return document.querySelector(`.${arguments[0]}`).checkVisibility()", kind))
-        for it in ("check-some", "again"):
-            browser.click(it)
+        for button in ("check-some", "again"):
+            browser.click(button)
         browser.state("Empty")
         put(int(base.rpartition(":")[2]), "first", b"a body")
         browser.click("again")
@@ -135,16 +135,16 @@ def bodies_are_kept_still(look: Looked) -> None:
     with look.source(fill) as (base, _, _):
         port = int(base.rpartition(":")[2])
         for name in BODIES:
-            status, fields, _ = asked(port, "GET", f"/resource/{name}")
+            status, fields, _ = request(port, "GET", f"/resource/{name}")
             same(f"{name}", (200, "sandbox", "nosniff"),
                  (status, fields["Content-Security-Policy"], fields["X-Content-Type-Options"]))
             look.chromium.driver.get(f"{base}/resource/{name}")
             same(f"{name} ran", "", look.chromium.run("return document.documentElement.id"))
         for path in ("/resource/paper.pdf", "/changelist.xml", "/.well-known/resourcesync"):
-            status, fields, _ = asked(port, "GET", path)
+            status, fields, _ = request(port, "GET", path)
             same(path, (200, None, "nosniff"),
                  (status, fields["Content-Security-Policy"], fields["X-Content-Type-Options"]))
-        page = asked(port, "GET", "/")[1]
+        page = request(port, "GET", "/")[1]
         own = f"default-src 'none'; script-src {base}/site/; style-src {base}/site/;"
         for words in (own, "base-uri 'none'", "form-action 'none'", "frame-ancestors 'none'"):
             same(f"the page's policy has {words}", True, words in (page["Content-Security-Policy"] or ""))
@@ -162,14 +162,14 @@ def names_are_no_files_of_the_page(look: Looked) -> None:
     with look.source(fill) as (base, _, _):
         port = int(base.rpartition(":")[2])
         for number, name in enumerate(LIKE_THE_PAGE):
-            status, fields, body = asked(port, "GET", f"/resource/{name}")
+            status, fields, body = request(port, "GET", f"/resource/{name}")
             same(name, (200, b"%d" % number, "sandbox"), (status, body, fields["Content-Security-Policy"]))
         for path, kind in FILES.items():
-            status, fields, _ = asked(port, "GET", path)
+            status, fields, _ = request(port, "GET", path)
             same(path, (200, kind), (status, fields["Content-Type"].partition(";")[0]))
         for path in ("/site/", "/site/none.js", "/site/..%2Findex.html", "/@page", "/index.html"):
-            same(path, 404, asked(port, "GET", path)[0])
-        same("POST to the page", 405, asked(port, "POST", "/")[0])
+            same(path, 404, request(port, "GET", path)[0])
+        same("POST to the page", 405, request(port, "POST", "/")[0])
 
 
 def changes_and_an_end_are_told(look: Looked) -> None:

@@ -2,7 +2,7 @@
 from operations.tests.page import fake as fakes, scripts
 from operations.tests.page.browser import NARROW
 from operations.tests.page.looked import Looked, has, same
-from operations.tests.page.looks_states import held
+from operations.tests.page.looks_states import current
 from operations.tests.tools.lists_server import Handler
 
 DAY = 86_400_000
@@ -32,7 +32,7 @@ def the_time_line_begins_with_30_days(look: Looked) -> None:
         browser.state("Open")
         same("the range", ["The last 30 days", "recent", "later"], browser.run(RANGE))
         has("the words", "2 changes, 2 created, 0 updated, 0 deleted.", browser.text("summary"))
-        same("the list", ["1-days", "29-days"], [it[2] for it in browser.run(scripts.ROWS, "changes")])
+        same("the list", ["1-days", "29-days"], [row[2] for row in browser.run(scripts.ROWS, "changes")])
         browser.run("document.querySelector('[data-zoom=whole]').click()")
         found = browser.run(RANGE)
         has("all", "All changes that are kept: ", found[0])
@@ -42,7 +42,7 @@ def the_time_line_begins_with_30_days(look: Looked) -> None:
         browser.run("document.querySelector('[data-zoom=earlier]').click()")
         same("earlier", ["", ""], browser.run(RANGE)[1:])
         same("the list earlier", ["29-days", "40-days"],
-             [it[2] for it in browser.run(scripts.ROWS, "changes")])
+             [row[2] for row in browser.run(scripts.ROWS, "changes")])
         look.is_well()
     with look.fake(lambda base: aged(base, now - 90 * DAY)) as shown:
         browser.open(f"{shown.base}/")
@@ -112,11 +112,11 @@ def a_check_says_what_it_will_fetch(look: Looked) -> None:
                       "the end of the checks")
         same("the bytes", label.partition("(")[2].rstrip(")"),
              browser.text("checked").partition("; ")[2].partition(" in ")[0])
-        same("how many were asked", 100, sum("/resource/" in it for it in shown.server.asked))
+        same("how many were asked", 100, sum("/resource/" in path for path in shown.server.requests))
     with look.fake(lambda base: fakes.archive(base, 30)) as shown:
         browser.open(f"{shown.base}/")
         browser.state("Open")
-        size = sum(it.length for it in held(shown.fake))
+        size = sum(entry.length for entry in current(shown.fake))
         same("all of them", f"Check all 30 ({size / 1_000:.0f} kB)", browser.text("check-some"))
 
 
@@ -127,7 +127,7 @@ def parts_are_asked_for_by_their_tag(look: Looked) -> None:
     original = Handler.do_GET
 
     def tagged(handler) -> None:  # type: ignore[no-untyped-def]
-        handler.server.asked.append(handler.path)
+        handler.server.requests.append(handler.path)
         status, kind, body = handler.server.answer(handler.path)
         tag = f'"{abs(hash(body))}"'
         is_same = handler.headers.get("If-None-Match", "").removeprefix("W/") == tag

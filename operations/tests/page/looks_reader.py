@@ -47,7 +47,7 @@ def keys_reach_everything(look: Looked) -> None:
                   "button check-some", "button Zoom in",
                   "group Time line", "summary The time line", "row ", "input search", "button Name",
                   "row annals"]
-        order = [next((at for at, it in enumerate(found) if it.startswith(word)), -1) for word in wanted]
+        order = [next((at for at, node in enumerate(found) if node.startswith(word)), -1) for word in wanted]
         if -1 in order or order != sorted(order):
             raise Differs(f"the order of the tab key: {dict(zip(wanted, order))} of {found}")
         moved(browser, shown)
@@ -57,7 +57,7 @@ def keys_reach_everything(look: Looked) -> None:
 def moved(browser: Asking, shown: Shown) -> None:
     """Keys in the list, in the search, and on the time line."""
     browser.run("document.querySelector('.resources .row[tabindex=\"0\"]').focus()")
-    names = sorted(it for it, (_, body) in shown.fake.bodies.items() if body is not None)
+    names = sorted(name for name, (_, body) in shown.fake.bodies.items() if body is not None)
     for key, place in [("ArrowDown", 1), ("ArrowDown", 2), ("ArrowUp", 1), ("End", len(names) - 1),
                        ("Home", 0), ("PageDown", None)]:
         browser.press(key)
@@ -99,9 +99,9 @@ def the_time_line_counts_right(look: Looked) -> None:
         opened(look, shown)
         for zoom in ("whole", "in", "in", "later"):
             browser.run("document.querySelector(`[data-zoom='${arguments[0]}']`).click()", zoom)
-            told = browser.text("summary")
-            number, *kinds = (int(it.replace(",", ""))
-                              for it in re.findall(r"([\d,]+) (?:changes?|created|updated|deleted)", told))
+            summary = browser.text("summary")
+            number, *kinds = (int(number_text.replace(",", ""))
+                              for number_text in re.findall(r"([\d,]+) (?:changes?|created|updated|deleted)", summary))
             table = browser.run(scripts.TABLE)
             same(f"{zoom}: rows of the list", str(number + 1),
                  browser.run("return document.querySelector('.changes').getAttribute('aria-rowcount')"))
@@ -109,10 +109,10 @@ def the_time_line_counts_right(look: Looked) -> None:
             same(f"{zoom}: the table has at least these", True,
                  all(sum(column) >= kind for column, kind in zip(zip(*table), kinds)))
             if zoom == "whole":
-                every = [sum(it.change == kind for it in shown.fake.changes)
+                every = [sum(change.change == kind for change in shown.fake.changes)
                          for kind in ("created", "updated", "deleted")]
                 same("the whole", (len(shown.fake.changes), every, every),
-                     (number, kinds, [sum(it) for it in zip(*table)]))
+                     (number, kinds, [sum(row) for row in zip(*table)]))
 
 
 def role(node: dict[str, Any]) -> str:
@@ -131,14 +131,14 @@ def names_and_roles_are_there(look: Looked) -> None:
     browser = look.chromium
     with look.fake(lambda base: fakes.archive(base, 60)) as shown:
         opened(look, shown)
-        nodes = [it for it in browser.tell("Accessibility.getFullAXTree")["nodes"] if not it.get("ignored")]
-        bare = [role(it) for it in nodes if role(it) in NAMED and not name(it).strip()]
+        nodes = [node for node in browser.tell("Accessibility.getFullAXTree")["nodes"] if not node.get("ignored")]
+        bare = [role(node) for node in nodes if role(node) in NAMED and not name(node).strip()]
         same("things without a name", [], bare)
-        found = {role(it) for it in nodes}
-        same("roles that are missing", [], [it for it in THERE if it not in found])
-        names = [name(it) for it in nodes if role(it) == "row"]
+        found = {role(node) for node in nodes}
+        same("roles that are missing", [], [role_wanted for role_wanted in THERE if role_wanted not in found])
+        names = [name(node) for node in nodes if role(node) == "row"]
         same("a row's name tells the resource", True,
-             any("annals/" in it or "archive/" in it for it in names))
+             any("annals/" in name_read or "archive/" in name_read for name_read in names))
         levels = browser.run(scripts.LEVELS)
         same("headings go down a level at a time", True, levels[0] == 1
              and all(then <= before + 1 for before, then in zip(levels, levels[1:])))

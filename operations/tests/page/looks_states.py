@@ -1,25 +1,17 @@
-"""Looks at the page before sources that are made up: large ones, hostile ones, ones that lie, that are
-closed, gone, or many."""
+"""Looks at the page before sources that are made up: hostile ones, ones that lie, that are closed, gone, or many."""
 import dataclasses
 import shutil
-import statistics
 from collections.abc import Callable
 
 from operations.tests.page import fake as fakes, scripts
 from operations.tests.page.browser import Asking
 from operations.tests.page.looked import Looked, Shown, exchanged, has, same
-from operations.tests.system import install_looks
+from operations.tests.system import install_shared
 from operations.tests.tools.lists_server import always, serving
-from tests.program import Differs
 from tests.served_source import free_port
 
-# What is wanted, in milliseconds. A machine that is slow, or busy beside, is allowed three times as much, and
-# where the clock says more, the processor's time of the page decides.
-SHOWN, WHOLE, FRAME, SLACK = 500, 1_500, 50, 3
-# What the scripts of a page with 50,000 resources may hold, in MiB.
-HEAP = 60
 # The texts of two parts of a panel.
-WHY, CHECKED = (f"document.querySelector(`[data-part='{it}']`).textContent" for it in ("why", "checked"))
+WHY, CHECKED = (f"document.querySelector(`[data-part='{part}']`).textContent" for part in ("why", "checked"))
 # No list is kept here by the site, so none has to be waited for.
 SOON = "checks.js", "OLDEST = 2_500", "OLDEST = 100"
 # Names and types that are markup, or long, or turn the text around them. A source of the program has only the
@@ -41,6 +33,7 @@ TURNING = {"\u202egpj.exe": "%E2%80%AEgpj.exe", "text/\u202eplain": "text/%E2%80
 
 
 def hostile(base: str) -> fakes.Fake:
+    """A source whose names and types are HTML, quotes and letters that turn a text around."""
     fake = fakes.Fake(base)
     for number, (name, kind) in enumerate(HOSTILE):
         fake.changes.append(fakes.entry_of(name, b"body", fakes.BEGUN + number, "created", kind))
@@ -51,13 +44,13 @@ def names_and_types_stay_text(look: Looked) -> None:
     """Markup in names and types is shown as it was written, letter by letter, nothing of it runs, and
     nothing is wider than the page."""
     browser = look.chromium
-    wanted = [tuple(TURNING.get(it, it) for it in pair) for pair in HOSTILE]
+    wanted = [tuple(TURNING.get(word, word) for word in pair) for pair in HOSTILE]
     with look.fake(hostile) as shown:
         browser.open(f"{shown.base}/", (1280, 2_000))
         browser.state("Not mirrorable")
         has("the names that a mirror refuses", "../../up", browser.text("why"))
         same("names and types", sorted(wanted),
-             sorted(tuple(it[:2]) for it in browser.run(scripts.ROWS, "resources")))
+             sorted(tuple(row[:2]) for row in browser.run(scripts.ROWS, "resources")))
         for number, name in enumerate(browser.run(scripts.ROWS, "resources")):
             browser.run("document.querySelectorAll('.resources .row')[arguments[0]].click()", number)
             same("the card's name", name[0], browser.text("name"))
@@ -83,6 +76,15 @@ BROKEN = [("</url>", ""), ("</loc>", "</lac>"), ("<url>", "<url><url>"), ("</url
           ("<?xml", "<?xml?>\n<?xml")]
 
 
+def referring(base: str) -> list[bytes]:
+    """Documents of a source whose names and types have references, one here and one there."""
+    fake = fakes.Fake(base)
+    pairs = [("a&b", "a/b"), ("<c", "a/b"), ("d", "a/b;c=&<"), ("e", "a/b;c='d'"), ("f", 'a/b;c="d"')]
+    fake.changes = [fakes.entry_of(name, b"body", fakes.BEGUN + at, "created", kind)
+                    for at, (name, kind) in enumerate(pairs)]
+    return [*fakes.published(fake, fakes.BEGUN + 100).documents().values()]
+
+
 def documents_are_read_as_the_browser_reads_them(look: Looked) -> None:
     """The page's own reader gives of each text what the browser's parser of XML gives, and refuses what
     that one refuses."""
@@ -90,7 +92,7 @@ def documents_are_read_as_the_browser_reads_them(look: Looked) -> None:
         look.chromium.open(f"{shown.base}/")
         look.chromium.state("Not mirrorable")
         archive = dataclasses.replace(fakes.archive(shown.base, 30), limit=10).documents().values()
-        texts = [it.decode() for it in [*shown.fake.documents().values(), *archive]]
+        texts = [text.decode() for text in [*shown.fake.documents().values(), *archive, *referring(shown.base)]]
         right = shown.fake.documents()["/changelist.xml"].decode()
         texts += [right.replace(old, new, 1) for old, new in BROKEN] + [right[: len(right) // 2], "", "<a",
                                                                         "a"]
@@ -102,9 +104,9 @@ def documents_are_read_as_the_browser_reads_them(look: Looked) -> None:
 def lying(base: str) -> fakes.Fake:
     """A source two of whose bodies are other ones: one in a byte, one in its length."""
     fake = fakes.archive(base, 60)
-    for it, change in zip(fake.listed[:2],
-                          (lambda body: body[:-1] + bytes([body[-1] ^ 1]), lambda body: body + b"x")):
-        fake.bodies[it.name] = (it.kind, change(fake.bodies[it.name][1]))
+    for entry, change in zip(fake.listed[:2],
+                             (lambda body: body[:-1] + bytes([body[-1] ^ 1]), lambda body: body + b"x")):
+        fake.bodies[entry.name] = (entry.kind, change(fake.bodies[entry.name][1]))
     return fake
 
 
@@ -124,9 +126,9 @@ def damaged_bodies_are_told(look: Looked) -> None:
                       "the end of the checks")
         has("what came of all", "58 agree, 2 differ;", browser.text("checked"))
         has("above all", "2 bodies are not as listed", browser.text("why"))
-        same("the names", {it.name for it in shown.fake.listed[:2]}, set(browser.run(scripts.DIFFERING)))
+        same("the names", {entry.name for entry in shown.fake.listed[:2]}, set(browser.run(scripts.DIFFERING)))
         same("the rows", ["✗ differs", "✗ differs", "✓ agrees"],
-             [it[4] for it in browser.run(scripts.ROWS, "resources")[:3]])
+             [row[4] for row in browser.run(scripts.ROWS, "resources")[:3]])
         healed(browser, shown)
         look.is_well()
 
@@ -137,10 +139,10 @@ def healed(browser: Asking, shown: Shown) -> None:
     fake = shown.fake
     first, second, third = fake.listed[:3]
     last = fake.changes[-1].moment
-    anew = [fakes.entry_of(it.name, b"anew", last + number, "updated", it.kind) for number,
-            it in enumerate((first, second), 1)]
+    anew = [fakes.entry_of(entry.name, b"anew", last + number, "updated", entry.kind) for number,
+            entry in enumerate((first, second), 1)]
     shown.is_now(dataclasses.replace(fake, changes=fake.changes + anew,
-                                     bodies=fake.bodies | {it.name: (it.kind, b"anew") for it in anew}))
+                                     bodies=fake.bodies | {entry.name: (entry.kind, b"anew") for entry in anew}))
     browser.click("again")
     browser.state("Open")
     later = fakes.entry_of(third.name, b"later", last + 3, "updated", third.kind)
@@ -223,7 +225,7 @@ def it_works_over_tls(look: Looked) -> None:
     if not shutil.which("openssl"):
         print("it_works_over_tls: NOT TRIED, as there is no openssl here")
         return
-    certificate = install_looks.certified(str(look.room), "server")
+    certificate = install_shared.certified(str(look.room), "server")
     with look.fake(lambda base: fakes.archive(base, 30), certificate=certificate) as shown:
         look.chromium.open(f"{shown.base}/")
         look.chromium.state("Open")
@@ -256,57 +258,6 @@ def nothing_fails_before_lists_come(look: Looked) -> None:
         look.is_well()
 
 
-def many_are_shown_without_a_pause(look: Looked) -> None:
-    """50,000 resources and 50,000 changes are shown soon after their lists came, and scrolling draws each
-    frame in time."""
-    browser = look.chromium
-    with look.fake(fakes.large) as shown:
-        browser.open(f"{shown.base}/")
-        browser.state("Open")
-        same("the figures", ("50,000", "50,000"), (browser.text("resources"), browser.text("changes")))
-        browser.until("return window.firstRow", "the first row")
-        found, before = browser.run(scripts.SHOWN), browser.busy()
-        heap = browser.heap() / 1_048_576
-        if heap > HEAP:
-            raise Differs(f"the page's scripts hold {heap:.0f} MiB, and {HEAP} are wanted")
-        scrolled = browser.run_slowly(scripts.SCROLLED)
-        work = (browser.busy() - before) / len(scrolled["frames"])
-        late, frames = found["shown"] - found["came"], sorted(scrolled["frames"])
-        frame = frames[len(frames) * 95 // 100]
-        print(f"many: {found['lists']} lists; shown {late:.0f} ms after the last came, all {found['shown']:.0f} ms "
-              f"after the page began, by {before:.0f} ms of a processor, in {heap:.0f} MiB", flush=True)
-        print(f"many: {len(frames)} frames while scrolling: half in {statistics.median(frames):.1f} ms, 95 % in "
-              f"{frame:.1f}, by {work:.1f} ms of a processor each", flush=True)
-        limits = ("shown", late, before, SHOWN), ("all", found["shown"], before,
-                                                  WHOLE), ("95 % of the frames", frame, work, FRAME)
-        for what, took, worked, most in limits:
-            if min(took, worked) > SLACK * most:
-                raise Differs(f"{what}: {took:.0f} ms, {worked:.0f} of a processor, and {most} are wanted")
-        same("rows are few", True, scrolled["rows"] < 80)
-        same("frames without rows", 0, len(frames) + 1 - scrolled["drawn"])
-        searched(browser, shown.fake.changes)
-        look.is_well()
-
-
-def searched(browser: Asking, every: list[fakes.Entry]) -> None:
-    """A search and an order give the right rows, of resources of which each was put once."""
-    took = browser.run("""
-        const search = document.querySelector("[data-part='search']");
-        const begun = performance.now();
-        search.value = "ATLAS csv";
-        search.dispatchEvent(new Event("input"));
-        return performance.now() - begun;""")
-    wanted = sorted((it for it in every if "atlas" in it.name and "csv" in f"{it.name} {it.kind}"),
-                    key=lambda it: it.name)
-    same("what is found", f"{len(wanted):,} of 50,000 resources", browser.text("found"))
-    same("the first rows", [it.name for it in wanted[:3]],
-         [it[0] for it in browser.run(scripts.ROWS, "resources")[:3]])
-    for _ in range(2):
-        browser.run("document.querySelector('[data-sort=length]').click()")
-    same("the largest", f"{max(it.length for it in wanted):,}", browser.run(scripts.ROWS, "resources")[0][2])
-    print(f"many: a search took {took:.0f} ms", flush=True)
-
-
 def a_collection_has_tabs_and_sums(look: Looked) -> None:
     """Two sources on hosts of their own: a tab for each, the sums over both, and a word for one that is
     gone."""
@@ -319,15 +270,16 @@ def a_collection_has_tabs_and_sums(look: Looked) -> None:
     port = free_port()
     base = f"http://127.0.0.1:{port}"
     allowing = setting("collection", base)
-    with look.fake(lambda base: fakes.archive(base, 40),
-                   allowing) as one, look.fake(lambda base: fakes.archive(base, 25, 2), allowing) as other:
-        text = fakes.description(one.base, other.base).encode()
-        with serving(only_described(text)) as server, look.site(int(server.url.rpartition(":")[2]), port,
-                                                                setting("sources",
-                                                                        f"{one.base} {other.base}")):
+    with (look.fake(lambda base: fakes.archive(base, 40), allowing) as one,
+          look.fake(lambda base: fakes.archive(base, 25, 2), allowing) as other):
+        text, sources = fakes.description(one.base, other.base).encode(), setting("sources", f"{one.base} {other.base}")
+        with serving(only_described(text)) as server, look.site(int(server.url.rpartition(":")[2]), port, sources):
             browser.open(f"{base}/")
             browser.until("return document.querySelector('.sums')", "the sums")
-            same("what is asked before it is looked at", [], one.server.asked + other.server.asked)
+            same("what is asked before it is looked at", [], one.server.requests + other.server.requests)
+            same("the sums of none", ("–", "in 0 of 2 sources that were read"),
+                 (browser.text("resources"), browser.text("read")))
+            one_is_gone(browser, base, one, other)
             both = "return document.querySelectorAll('.sums .tone[data-tone=good]').length === 2"
             browser.run(scripts.TYPED, "search-all", "atlas")
             browser.until(both, "a search reads both")
@@ -337,21 +289,40 @@ def a_collection_has_tabs_and_sums(look: Looked) -> None:
             browser.click("read-all")
             browser.until(both, "both are open")
             tabs = browser.run("return [...document.querySelectorAll('[role=tab]')].map((it) => it.textContent)")
-            same("the tabs", ["All", *(it.base.removeprefix("http://") for it in (one, other))], tabs)
-            size = sum(it.length for shown in (one, other) for it in held(shown.fake))
+            same("the tabs", ["All", *(shown.base.removeprefix("http://") for shown in (one, other))], tabs)
+            size = sum(entry.length for shown in (one, other) for entry in current(shown.fake))
             same("the sums", ("65", f"{size:,} bytes"), (browser.text("resources"), browser.text("bytes")))
             searched_all(browser, one, other)
             other.server.answer = always(502, b"x", "text/html")
-            browser.run("document.querySelectorAll('[data-part=again]')[1].click()")
-            browser.until("return document.querySelectorAll('.sums .tone[data-tone=bad]').length === 1",
-                          "one is gone")
-            same("the sums stay", "65", browser.text("resources"))
-            browser.run("document.querySelectorAll('[role=tab]')[1].click()")
-            browser.until("return document.querySelectorAll('#panel-1 .resources .row').length > 5",
-                          "the rows of a tab")
-            same("its time line", True,
-                 browser.run("return document.querySelector('#panel-1 svg').getBoundingClientRect().width > 500"))
+            sums_stay(browser)
             look.is_well()
+
+
+def sums_stay(browser: Asking) -> None:
+    """The sums are what they were when one of the sources is gone, and the other one's tab is as it was."""
+    browser.run("document.querySelectorAll('[data-part=again]')[1].click()")
+    browser.until("return document.querySelectorAll('.sums .tone[data-tone=bad]').length === 1", "one is gone")
+    same("the sums stay", "65", browser.text("resources"))
+    browser.run("document.querySelectorAll('[role=tab]')[1].click()")
+    browser.until("return document.querySelectorAll('#panel-1 .resources .row').length > 5", "the rows of a tab")
+    same("its time line", True,
+         browser.run("return document.querySelector('#panel-1 svg').getBoundingClientRect().width > 500"))
+
+
+def one_is_gone(browser: Asking, base: str, one: Shown, other: Shown) -> None:
+    """A source that is gone from the beginning is counted neither as read nor as searched."""
+    right, other.server.answer = other.server.answer, always(404, b"x", "text/html")
+    browser.click("read-all")
+    browser.until("return document.querySelectorAll('.sums .tone[data-tone=bad]').length === 1", "one is gone")
+    same("the sums of one", (f"{len(current(one.fake))}", "in 1 of 2 sources that were read"),
+         (browser.text("resources"), browser.text("read")))
+    browser.run(scripts.TYPED, "search-all", "atlas")
+    browser.until("return /in 1 of 2 sources$/.test(document.querySelector('[data-part=found-all]').textContent)",
+                  "a search in one of two")
+    other.server.answer = right
+    browser.open("about:blank")
+    browser.open(f"{base}/")
+    browser.until("return document.querySelector('.sums')", "the sums")
 
 
 def only_described(text: bytes) -> Callable[[str], fakes.Answer]:
@@ -362,11 +333,11 @@ def only_described(text: bytes) -> Callable[[str], fakes.Answer]:
 
 def searched_all(browser: Asking, one: Shown, other: Shown) -> None:
     """A search over all sources has the names of both, and a name opens the tab of its source."""
-    wanted = sorted(it.name for shown in (one, other) for it in held(shown.fake) if "atlas" in it.name)
+    wanted = sorted(entry.name for shown in (one, other) for entry in current(shown.fake) if "atlas" in entry.name)
     browser.run(scripts.TYPED, "search-all", "atlas")
     number = "return document.querySelector('[data-part=found-all]').textContent"
     browser.until(f"{number}.endsWith('in 2 of 2 sources')", "the search")
-    same("what is found in all", wanted, sorted(it[0] for it in browser.run(scripts.ROWS, "found")))
+    same("what is found in all", wanted, sorted(row[0] for row in browser.run(scripts.ROWS, "found")))
     row = browser.run("""
         const row = [...document.querySelectorAll(".found .row")].at(-1);
         const texts = [...row.children].map((it) => it.textContent);
@@ -378,16 +349,15 @@ def searched_all(browser: Asking, one: Shown, other: Shown) -> None:
     browser.run("history.back(); document.querySelectorAll('[role=tab]')[0].click()")
 
 
-def held(fake: fakes.Fake) -> list[fakes.Entry]:
+def current(fake: fakes.Fake) -> list[fakes.Entry]:
     """What a source holds, name by name."""
     found = {}
-    for it in fake.changes:
-        found[it.name] = it
-    return [it for it in found.values() if it.change != "deleted"]
+    for change in fake.changes:
+        found[change.name] = change
+    return [entry for entry in found.values() if entry.change != "deleted"]
 
 
 LOOKS = [documents_are_read_as_the_browser_reads_them, names_and_types_stay_text, damaged_bodies_are_told,
          lists_that_disagree_are_told,
          a_source_that_is_closed_or_gone_is_told, it_works_over_tls, nothing_fails_before_lists_come,
-         many_are_shown_without_a_pause,
          a_collection_has_tabs_and_sums]

@@ -55,7 +55,7 @@ def damaged(fake: fakes.Fake) -> fakes.Fake:
     return dataclasses.replace(fake, bodies=fake.bodies | bad)
 
 
-def named(settings: str) -> str:
+def with_host_name(settings: str) -> str:
     """Settings of nginx for the host's name."""
     return exchanged(settings, "server_name 127.0.0.1;", f"server_name {BASE.removeprefix('http://')};")
 
@@ -143,10 +143,10 @@ def draw(program: str) -> int:
         browser = Browser(room, place, f"--unsafely-treat-insecure-origin-as-secure={BASE}")
         try:
             look = Looked(program, room, browser)
-            with look.hurried(*SOON), look.fake(archive, named, BASE, port) as shown:
+            with look.hurried(*SOON), look.fake(archive, with_host_name, BASE, port) as shown:
                 fake = shown.fake
-                for it in PICTURES:
-                    drawn(browser, shown, fake, it)
+                for picture in PICTURES:
+                    drawn(browser, shown, fake, picture)
         finally:
             browser.close()
     return 0

@@ -10,7 +10,8 @@ import urllib3
 from selenium.common.exceptions import WebDriverException
 
 from operations.tests.page import (
-    looks_doors, looks_measured, looks_model, looks_names, looks_program, looks_range, looks_reader,
+    looks_doors, looks_edges, looks_large, looks_measured, looks_model, looks_names, looks_program,
+    looks_range, looks_reader,
 )
 from operations.tests.page import looks_states, wrong
 from operations.tests.page.browser import Asking, Browser
@@ -22,8 +23,10 @@ from tests.skipped import skipped
 Look = Callable[[Looked], None]
 # Those that are looked at in Chromium, and those that are measured in each browser.
 CHROMIUM: list[Look] = [
-    *looks_program.LOOKS, *looks_doors.LOOKS, *looks_states.LOOKS, *looks_model.LOOKS, *looks_names.LOOKS, *looks_range.LOOKS,
-    *looks_reader.LOOKS,
+    *looks_program.LOOKS, *looks_doors.LOOKS, *looks_states.LOOKS,
+    *looks_model.LOOKS, *looks_names.LOOKS, *looks_range.LOOKS,
+    *looks_reader.LOOKS, *looks_edges.LOOKS,
+    *looks_large.LOOKS,
 ]
 LOOKS = [*CHROMIUM, *looks_measured.LOOKS]
 FAULTS = (Differs, OSError, ValueError, LookupError, subprocess.SubprocessError, http.client.HTTPException,
@@ -36,6 +39,7 @@ DRAWN = 12
 def fault_of(check: Look, look: Looked) -> str:
     """Why a look does not hold, or nothing."""
     try:
+        look.browser.forget()
         check(look)
     except FAULTS as fault:
         return f"{type(fault).__name__} {str(fault)[:900]}"
@@ -44,11 +48,15 @@ def fault_of(check: Look, look: Looked) -> str:
 
 def look(program: str, names: list[str], is_short: bool = False) -> int:
     """Looks at all, or at those of some names; gives the exit status."""
-    chosen = [it for it in LOOKS if not names or it.__name__ in names]
+    chosen = [check for check in LOOKS if not names or check.__name__ in names]
+    wrong.fit()
     pages = drawn() if is_short else wrong.WRONG
     with room_in_memory("page-") as room, contextlib.ExitStack() as ending:
         browsers, why = begun(room, ending)
-        status = skipped("page", why) if why else looked_at(Looked(program, room, browsers[0]), chosen, browsers, pages)
+        if why:
+            status = skipped("page", why)
+        else:
+            status = looked_at(Looked(program, room, browsers[0], not is_short), chosen, browsers, pages)
     return status
 
 
@@ -68,25 +76,30 @@ def drawn() -> list[wrong.Wrong]:
     """A few of the wrong pages, drawn by the commit."""
     words = ["git", "rev-parse", "HEAD"]
     commit = subprocess.run(words, cwd=ROOT, capture_output=True, text=True).stdout.strip()
-    print(f"page: {DRAWN} of {len(wrong.WRONG)} wrong pages are tried, drawn by the commit {commit[:12] or 'of none'}", flush=True)
+    print(f"page: {DRAWN} of {len(wrong.WRONG)} wrong pages are tried, drawn by the commit {commit[:12] or 'of none'}",
+          flush=True)
     return random.Random(commit).sample(wrong.WRONG, DRAWN)
 
 
 def looked_at(looked: Looked, chosen: list[Look], browsers: list[Asking], pages: list[wrong.Wrong]) -> int:
-    """Looks in the browsers, and then at the wrong pages of those that hold."""
-    tried = [(check, it) for check in chosen
-             for it in (browsers if check in looks_measured.LOOKS else browsers[:1])]
-    held = [(check, it) for check, it in tried if holds(check, looked, it)]
-    made = [(it, browser) for it in pages for check, browser in held if it[0] is check]
-    blind = sum(not is_noticed(looked, it, browser) for it, browser in made)
-    print(f"page: {len(held)} of {len(tried)} looks hold, {len(made) - blind} of {len(made)} wrong pages are noticed")
-    return 1 if len(held) < len(tried) or blind or not chosen else 0
+    """Looks in the browsers, and behind each look that holds at its wrong pages: that the looks behind it
+    hold shows that these were noticed for themselves. Gives the exit status."""
+    results: list[bool] = []
+    noticed: list[bool] = []
+    for check in chosen:
+        for browser in browsers if check in looks_measured.LOOKS else browsers[:1]:
+            looked.browser = browser
+            results.append(holds(check, looked))
+            noticed += [is_noticed(looked, page) for page in pages if results[-1] and page[0] is check]
+    print(f"page: {sum(results)} of {len(results)} looks hold, "
+          f"{sum(noticed)} of {len(noticed)} wrong pages are noticed")
+    return 0 if chosen and all(results) and all(noticed) else 1
 
 
-def holds(check: Look, looked: Looked, browser: Asking) -> bool:
+def holds(check: Look, looked: Looked) -> bool:
     """Whether a look holds, said in a line."""
-    started = time.monotonic()
-    looked.browser = browser
+    started, browser = time.monotonic(), looked.browser
+    browser.longest = 0.0
     why = fault_of(check, looked)
     where = f"{check.__name__} in {type(browser).__name__}"
     word = "FAILS" if why else "holds"
@@ -94,12 +107,11 @@ def holds(check: Look, looked: Looked, browser: Asking) -> bool:
     return not why
 
 
-def is_noticed(looked: Looked, made: wrong.Wrong, browser: Asking) -> bool:
+def is_noticed(looked: Looked, made: wrong.Wrong) -> bool:
     """Whether a look notices a wrong page, said in a line where it does not."""
-    looked.browser = browser
     found = wrong.is_noticed(looked, fault_of, made)
     if not found:
         check, file, _, new = made
-        where = f"{check.__name__} in {type(browser).__name__}"
+        where = f"{check.__name__} in {type(looked.browser).__name__}"
         print(f"made up, {where}: {file} with {new!r}: not noticed, and this look is blind", flush=True)
     return found

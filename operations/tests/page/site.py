@@ -8,7 +8,7 @@ import shutil
 import subprocess
 from collections.abc import Callable, Iterator
 
-from operations.tests.system import install_looks
+from operations.tests.system import install_looks, install_shared
 from tests.program import ROOT
 from tests.served_source import free_port
 
@@ -40,7 +40,7 @@ def configured(room: str, port: int, behind: int, change: Callable[[str], str], 
     site = site.replace(SETTINGS, f"root {room}/settings;")
     # (what a source serves changes within a look, so nothing is kept here)
     site = re.sub(r"proxy_cache_valid\s[^;]*;", "", change(site.replace(INSTALLED, f"{room}/page")))
-    places = "".join(f"{it.replace('-', '_')}_temp_path {room}/{it};\n" for it in folders)
+    places = "".join(f"{name.replace('-', '_')}_temp_path {room}/{name};\n" for name in folders)
     main = f"daemon off; worker_processes 1; {user} pid {room}/pid; error_log {room}/errors;\nevents {{}}\n"
     return f"{main}http {{\naccess_log off;\n{places}{site}}}\n"
 
@@ -61,7 +61,7 @@ def site(folder: pathlib.Path, behind: int, port: int = 0,
     config.write_text(configured(str(room), port, behind, change, certificate))
     with subprocess.Popen(["nginx", "-p", room, "-e", room / "errors", "-c", config]) as nginx:
         try:
-            install_looks.wait_for(port, nginx)
+            install_shared.wait_for(port, nginx)
             yield port
         finally:
             nginx.terminate()

@@ -5,12 +5,14 @@ import io
 from collections.abc import Callable
 
 from operations.tests.page import (
-    looks_doors as doors, looks_names as names, looks_program as program, looks_range as ranges,
+    looks_doors as doors, looks_edges as edges, looks_large as large, looks_names as names,
+    looks_program as program, looks_range as ranges,
 )
 from operations.tests.page import (
     looks_measured as measured, looks_model as model, looks_reader as reader, looks_states as states,
 )
 from operations.tests.page.looked import Looked, exchanged, replaced
+from operations.tests.page.site import PAGE
 
 SITE, NAMED = "ropepeach.nginx", "    if ($host != $server_name) {\n        return 421;\n    }\n"
 Wrong = tuple[Callable[[Looked], None], str, str, str]
@@ -22,16 +24,19 @@ WRONG: list[Wrong] = [
      "return text;"),
     (states.documents_are_read_as_the_browser_reads_them, "xml.js", "open.pop() !== name ||",
      "!open.pop() ||"),
-    (states.damaged_bodies_are_told, "checking.js", "return found === resource.sha256 ?", "return found ?"),
-    (states.damaged_bodies_are_told, "checking.js", "if (body.length !== resource.length)",
-     "if (body.length > resource.length)"),
+    (states.damaged_bodies_are_told, "checking.js", "return found === sha256 ?", "return found ?"),
+    (states.damaged_bodies_are_told, "checking.js", "length + value.length > resource.length",
+     "length + value.length >= resource.length"),
     (states.damaged_bodies_are_told, "panel.js", "if (isDifferent) await this.read();", ""),
     (states.lists_that_disagree_are_told, "model.js", "    this.compareListed(held);\n", ""),
-    (states.a_source_that_is_closed_or_gone_is_told, "documents.js", 'throw new Trouble("closed"',
-     'throw new Trouble("gone"'),
+    (states.a_source_that_is_closed_or_gone_is_told, "documents.js", 'return new Trouble("closed"',
+     'return new Trouble("gone"'),
     (states.nothing_fails_before_lists_come, "timeline.js", "    if (!this.span) return;\n", ""),
-    (states.a_collection_has_tabs_and_sums, "model.js", "holdings.filter(Boolean);",
-     "holdings.slice(0, 1).filter(Boolean);"),
+    (states.a_collection_has_tabs_and_sums, "model.js", "(holdings.filter(Boolean));",
+     "(holdings.slice(0, 1).filter(Boolean));"),
+    (states.a_collection_has_tabs_and_sums, "model.js", "    read: read.length,", "    read: holdings.length,"),
+    (states.a_collection_has_tabs_and_sums, "sums.js", "filter((it) => it.holding).length",
+     "filter((it) => it.isBegun).length"),
     (states.a_collection_has_tabs_and_sums, SITE, "connect-src 'self' $rp_source_sources",
      "connect-src 'self'"),
     (program.the_figures_are_those_of_status, "model.js", "    this.since = this.follow(held);\n",
@@ -61,13 +66,40 @@ WRONG: list[Wrong] = [
     (reader.the_time_line_counts_right, "bins.js", '["created", "updated", "deleted"]',
      '["created", "deleted", "updated"]'),
     (model.what_is_shown_is_what_a_model_says, "xml.js", """apos: "'" }""", """apos: "&apos;" }"""),
-    (model.a_check_of_an_old_body_is_no_news_of_the_new_one, "checks.js", "found?.moment === resource.moment ?", "found ?"),
-    (model.an_open_part_that_grows_is_read_again, "source.js", '(pointer) => said(pointer, "until"))', "() => true)"),
+    (model.a_check_of_an_old_body_is_no_news_of_the_new_one, "checks.js", "found?.moment === resource.moment ?",
+     "found ?"),
+    (model.an_open_part_that_grows_is_read_again, "source.js", '(it) => Boolean(said(it, "until"))', "() => true"),
     (model.answers_that_are_not_right_are_told, "documents.js", 'redirect: "error", ', ""),
-    (model.answers_that_are_not_right_are_told, "source.js", "address.startsWith(`${this.base}/`)", "address.startsWith(this.base)"),
-    (model.answers_that_are_not_right_are_told, "source.js", "if (from > at) throw", "if (from < at && from > at) throw"),
-    (model.answers_that_are_not_right_are_told, "model.js", '"sha256", "md5", "type"', '"sha256", "type"'),
-    (model.answers_that_are_not_right_are_told, "documents.js", 'answer.status === 503 && word === "Closed"', "answer.status === 503"),
+    (model.answers_that_are_not_right_are_told, "source.js", "address.startsWith(`${this.base}/`)",
+     "address.startsWith(this.base)"),
+    (model.answers_that_are_not_right_are_told, "source.js", "if (from > at) throw",
+     "if (from < at && from > at) throw"),
+    (model.answers_that_are_not_right_are_told, "model.js", " && its.md5 === others.md5", ""),
+    (model.answers_that_are_not_right_are_told, "documents.js", 'answer.status === 503 && word === "Closed"',
+     "answer.status === 503"),
+    (model.answers_that_are_not_right_are_told, "documents.js", '< "29" || isDay(text)', '< "29" || true'),
+    (model.answers_that_are_not_right_are_told, "documents.js", "(?:0[1-9]|1[0-2])", "\\d\\d"),
+    (model.lists_that_were_kept_are_compared_anew, "model.js", "      it.last = null;\n", ""),
+    (states.documents_are_read_as_the_browser_reads_them, "documents.js", "([^<&]*)</${loc}>", "([^<]*)</${loc}>"),
+    (states.documents_are_read_as_the_browser_reads_them, "documents.js", '="([^"<&', '="([^"<'),
+    (states.documents_are_read_as_the_browser_reads_them, "documents.js", "    end = pattern.lastIndex;\n", ""),
+    (edges.spans_have_their_changes, "bins.js", "this.times[middle] < time", "this.times[middle] <= time"),
+    (edges.names_with_dots_are_not_asked_for, "checking.js", "if (!isAskable(resource.loc))", "if (!resource.loc)"),
+    (edges.lists_have_so_many_entries, "source.js", "if (number <= MOST_ENTRIES) return;", "if (found) return;"),
+    (edges.lists_have_so_many_entries, "source.js", "if (number <= MOST_ENTRIES) return;",
+     "if (number < MOST_ENTRIES) return;"),
+    (edges.long_histories_are_cut, "resource.js", "history.slice(0, MOST_CHANGES)", "history"),
+    (edges.long_histories_are_cut, "resource.js", "history.length > MOST_CHANGES", "history.length >= MOST_CHANGES"),
+    (edges.long_histories_are_cut, "model.js", "=== name).reverse()", "=== name)"),
+    (edges.moments_are_in_utc, "listed.js", "tell(put, moment(resource.moment).slice(0, 10));",
+     "tell(put, new Date(resource.moment).toLocaleDateString('sv'));"),
+    (edges.moments_are_in_utc, "resource.js", "${held.moment.slice(11, 23)}",
+     "${new Date(held.moment).toTimeString()}"),
+    (large.many_are_shown_without_a_pause, "rows.js", "BESIDE = 6", "BESIDE = 60"),
+    (large.many_are_shown_without_a_pause, "rows.js", "this.view.scrollTop / this.height) - BESIDE", "0)"),
+    (large.many_are_shown_without_a_pause, "model.js", "      held.set(it.name, it);\n    }\n    if",
+     "      held.set(it.name, this.listed.find((one) => one === it) ?? it);\n    }\n    if"),
+    (large.many_are_shown_without_a_pause, "model.js", "found.sort((a, b)", "found.slice().sort((a, b)"),
     (model.many_are_checked_at_random, "checking.js", "Math.floor(Math.random() * (left.length - at))", "0"),
     (reader.names_and_roles_are_there, "index.html", ' aria-label="Resources"', ""),
     (measured.names_and_roles_are_told, "index.html", ' aria-label="Resources"', ""),
@@ -90,8 +122,8 @@ WRONG: list[Wrong] = [
     (names.names_are_read_decoded, "names.js", "fatal: true", "fatal: false"),
     (names.names_are_read_decoded, "names.js", "STAYS.test(character) ?", "character === \"/\" ?"),
     (names.names_are_read_decoded, "names.js", 'text.normalize("NFC").toLowerCase()', "text.toLowerCase()"),
-    (names.names_are_read_decoded, "panel.js", "this.copy(name, event",
-     "this.copy(card.querySelector('h3').textContent, event"),
+    (names.names_are_read_decoded, "panel.js", "this.copy(name, /**",
+     "this.copy(card.querySelector('h3').textContent, /**"),
     (names.what_is_shown_has_an_address, "address.js", "const isStep = !(isTyping && this.isTyping);",
      "const isStep = false;"),
     (names.what_is_shown_has_an_address, "address.js", "const isStep = !(isTyping && this.isTyping);",
@@ -137,22 +169,31 @@ WRONG: list[Wrong] = [
      " .nothing { display: none; }"),
     (reader.it_prints, "style.css", ".room .row { position: static;", ".room .row { position: absolute;"),
 ]
-# A wrong page is noticed sooner than a right one is waited for.
-PATIENCE = 4
+# A wait before a wrong page is so many seconds, and so many times the longest that the look had before the right one.
+PATIENCE, TIMES = 3, 3
+
+
+def fit() -> None:
+    """Looks whether each change fits the page as it is."""
+    for _, file, old, new in WRONG:
+        if file != SITE:
+            exchanged((PAGE / file).read_text(), old, new)
 
 
 def is_noticed(look: Looked, fault_of: Callable[[Callable[[Looked], None], Looked], str],
                made: Wrong) -> bool:
-    """Whether a look finds a fault in a page or in settings with a change."""
+    """Whether a look, which has just held, finds a fault in a page or in settings with a change."""
     check, file, old, new = made
-    before = look.change, look.edit, look.browser.patience
+    browser, longest = look.browser, look.browser.longest
+    before = look.change, look.edit, browser.patience
     if file == SITE:
         look.change = lambda settings: exchanged(settings, old, new)
     else:
         look.edit = lambda page: replaced(page / file, old, new)
-    look.browser.patience = PATIENCE
+    browser.patience = min(PATIENCE + TIMES * longest, browser.patience)
     try:
         with contextlib.redirect_stdout(io.StringIO()):
             return bool(fault_of(check, look))
     finally:
-        look.change, look.edit, look.browser.patience = before
+        look.change, look.edit, browser.patience = before
+        browser.longest = longest
