@@ -1,4 +1,4 @@
-"""What every test needs: the built program and its settings, a clock that stands still, and how a difference is shown."""
+"""What every test needs: the program and its settings, a clock that stands still, and how a difference is shown."""
 import os
 import pathlib
 import shutil
@@ -21,7 +21,11 @@ SECONDS = 120
 # A C library's clock that stands still. `cc` builds it into a temporary folder.
 STILL_CLOCK = f"""
 #include <time.h>
-int clock_gettime(clockid_t id, struct timespec *t) {{ t->tv_sec = {CLOCK // 1000}; t->tv_nsec = {CLOCK % 1000} * 1000000L; return 0; }}
+int clock_gettime(clockid_t id, struct timespec *t) {{
+    t->tv_sec = {CLOCK // 1000};
+    t->tv_nsec = {CLOCK % 1000} * 1000000L;
+    return 0;
+}}
 """
 # Where files lie in memory, if this many bytes are free there.
 IN_MEMORY, ROOM = "/dev/shm", 100_000_000
@@ -40,7 +44,7 @@ def compare(what, wanted, found):
     raise Differs(f"{what}: byte {at + 1}, line {line}: wanted {wanted[at:at + 60]!r}, found {found[at:at + 60]!r}")
 
 
-def asked(port, sent):
+def ask(port, sent):
     """What a connection answers to these bytes, which end by a shutdown of its writing side."""
     with socket.create_connection(("127.0.0.1", port), timeout=SECONDS) as connection:
         connection.sendall(sent)

@@ -71,17 +71,18 @@ def served(program, file, count, environment=None):
 def free_port():
     """A free port that no client is given by the system (it gives those from 32,768 on)."""
     while True:
-        with socket.socket() as it:
+        with socket.socket() as listener:
             port = random.randrange(20_000, 32_000)
             with contextlib.suppress(OSError):
-                it.bind(("127.0.0.1", port))
+                listener.bind(("127.0.0.1", port))
                 return port
 
 
 @contextlib.contextmanager
 def serving(program, room, count=1_000_000, env=None):
     """The URL of a server of a.disk, and the server, which is killed at the end."""
-    with subprocess.Popen([program, "serve", "a.disk", "0", str(count)], cwd=room, stdout=subprocess.PIPE, env=env) as server:
+    with subprocess.Popen([program, "serve", "a.disk", "0", str(count)], cwd=room, stdout=subprocess.PIPE,
+                          env=env) as server:
         try:
             yield f"http://{server.stdout.readline().decode().split()[1]}", server
         finally:
@@ -89,6 +90,7 @@ def serving(program, room, count=1_000_000, env=None):
 
 
 def connected(port):
+    """A connection to a server, whose bytes are sent at once."""
     connection = socket.create_connection(("127.0.0.1", port), timeout=SECONDS)
     connection.setsockopt(socket.IPPROTO_TCP, socket.TCP_NODELAY, 1)
     return connection
@@ -117,8 +119,8 @@ def exchanged(port, pieces, ending="half"):
     """
     with connected(port) as connection:
         with contextlib.suppress(ConnectionError):
-            for it in pieces:
-                connection.sendall(it)
+            for piece in pieces:
+                connection.sendall(piece)
         if ending == "reset":
             reset(connection)
         if ending != "half":

@@ -1,4 +1,4 @@
-"""What a check says, and how it ends, where it could not be tried: a package or a right is missing, and nothing is shown."""
+"""What a check that could not be tried says, and how it ends: a package or a right is missing; nothing is shown."""
 
 # The status of such a check. `make test` counts it by itself, and neither as passed nor as failed.
 SKIPPED = 77

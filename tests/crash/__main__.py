@@ -50,18 +50,20 @@ LENGTHS = [0, 1, 3, 40, 511, 512, 513, 1500]
 
 def lines_of_rows(rows):
     """The commands of worked rows, one after another, without what they show."""
-    texts = [(ROWS / f"{it}.in").read_text() for it in rows]
-    lines = [it for text in texts for it in text.splitlines()]
-    return [it for it in lines if it.split(" ")[0] in ("at", "put", "delete", "publish")]
+    texts = [(ROWS / f"{row}.in").read_text() for row in rows]
+    lines = [line for text in texts for line in text.splitlines()]
+    return [line for line in lines if line.split(" ")[0] in ("at", "put", "delete", "publish")]
 
 
 def change_at_random(rng):
+    """A random line that puts or deletes one of a few names."""
     name, length = rng.choice(NAMES), rng.choice(LENGTHS)
     body = bytes(rng.randrange(256) for _ in range(length)).hex() or "-"
     return f"put {name} {body} {rng.choice(TYPES)}" if rng.random() < 0.7 else f"delete {name}"
 
 
 def lines_at_random(rng, count):
+    """Random commands: changes, publications and groups of changes."""
     lines = [f"at {951_782_400_000 + rng.randrange(10**9)}"]
     for _ in range(count):
         choice, changes = rng.random(), [change_at_random(rng) for _ in range(rng.choice((1, 2, 3)))]
@@ -77,29 +79,30 @@ def look(crashes, plan, rng):
     sessions = [crashes.session(disk, state, lines_of_rows(plan.rows))]
     first = sessions[0]
     for count in [*plan.continued, 0]:
-        images = [it for session in sessions for it in crashes.look(session, plan, count)]
+        images = [image for session in sessions for image in crashes.look(session, plan, count)]
         chosen = rng.sample(images, min(count, len(images)))
         made = [lines_at_random(rng, plan.commands) for _ in chosen]
-        sessions = [crashes.session(*it, lines) for it, lines in zip(chosen, made)]
+        sessions = [crashes.session(*image, lines) for image, lines in zip(chosen, made)]
     crashes.look(crashes.paged(BASE), plan, 0)
     crashes.look(crashes.of_version_1(), plan, 0)
-    return [it for it in crash_wrong.WRONG if crashes.passes(first, it)]
+    return [change for change in crash_wrong.WRONG if crashes.passes(first, change)]
 
 
 def main():
+    """Looks at all sessions, prints the counts, and gives the exit status."""
     words = argparse.ArgumentParser(usage="python3 -m tests.crash [PROGRAM] [--short] [--seed N]")
     words.add_argument("program", nargs="?", default=PROGRAM)
     words.add_argument("--short", action="store_true")
     words.add_argument("--seed", type=int)
-    given, started = words.parse_args(), time.time()
-    drawn = SEED if given.short else random.randrange(10**9)
-    seed = drawn if given.seed is None else given.seed
+    options, started = words.parse_args(), time.time()
+    drawn = SEED if options.short else random.randrange(10**9)
+    seed = drawn if options.seed is None else options.seed
     print(f"seed {seed}", flush=True)
     with room_in_memory("crash-") as folder:
         rng = random.Random(seed)
-        crashes = Crashes(os.path.abspath(given.program), folder, rng)
+        crashes = Crashes(os.path.abspath(options.program), folder, rng)
         try:
-            blind = look(crashes, SHORT if given.short else LONG, rng)
+            blind = look(crashes, SHORT if options.short else LONG, rng)
         except Unrecorded as fault:
             blind = [fault]
             print(f"not recorded: {fault}")

@@ -36,22 +36,26 @@ def moments(settled, calls):
 
 def places(moment):
     """The places of the disk that are in question."""
-    return sorted({it for at, data in moment.writes for it in range(at, at + len(data))})
+    return sorted({place for at, data in moment.writes for place in range(at, at + len(data))})
 
 
 def lost(moment, rng):
+    """No write in question is on the disk."""
     return moment.settled
 
 
 def kept(moment, rng):
+    """Each write in question is on the disk."""
     return over(moment.settled, moment.writes)
 
 
 def all_but_the_last(moment, rng):
+    """All writes but the last are on the disk."""
     return over(moment.settled, moment.writes[:-1])
 
 
 def the_last_alone(moment, rng):
+    """Only the last write is on the disk."""
     return over(moment.settled, moment.writes[-1:])
 
 
@@ -62,13 +66,14 @@ def the_last_torn(moment, rng):
 
 
 def some_writes(moment, rng):
-    return over(moment.settled, [it for it in moment.writes if rng.random() < 0.5])
+    """Each write is on the disk, or is not."""
+    return over(moment.settled, [write for write in moment.writes if rng.random() < 0.5])
 
 
 def some_blocks(moment, rng):
     """Each block as it is settled, or as a read gives it."""
     image, now = bytearray(moment.settled), kept(moment, rng)
-    for block in sorted({it // BLOCK for it in places(moment)}):
+    for block in sorted({place // BLOCK for place in places(moment)}):
         if rng.random() < 0.5:
             image[block * BLOCK : (block + 1) * BLOCK] = now[block * BLOCK : (block + 1) * BLOCK]
     return bytes(image)
@@ -77,22 +82,24 @@ def some_blocks(moment, rng):
 def some_bytes(moment, rng):
     """Each byte as it is settled, or as a read gives it."""
     image, now = bytearray(moment.settled), kept(moment, rng)
-    for it in places(moment):
-        image[it] = now[it] if rng.random() < 0.5 else image[it]
+    for place in places(moment):
+        image[place] = now[place] if rng.random() < 0.5 else image[place]
     return bytes(image)
 
 
 def any_bytes(moment, rng):
     """Anything where a byte is in question."""
     image = bytearray(moment.settled)
-    for it in places(moment):
-        image[it] = rng.randrange(256)
+    for place in places(moment):
+        image[place] = rng.randrange(256)
     return bytes(image)
 
 
 def filled_with(value):
+    """A choice by which each byte in question has this value."""
+
     def filled(moment, rng):
-        return over(moment.settled, [(it, bytes([value])) for it in places(moment)])
+        return over(moment.settled, [(place, bytes([value])) for place in places(moment)])
 
     filled.__name__ = f"bytes_{value}"
     return filled
@@ -117,9 +124,9 @@ def images(moment, rng, rounds, picks):
     choices = FIXED + RANDOM * rounds
     if not rounds:
         choices = [lost, kept, *rng.sample(FIXED[2:] + RANDOM, picks)]
-    seen = set()
+    made = set()
     for choice in choices if moment.writes else [lost]:
         image = choice(moment, rng)
-        if image not in seen:
-            seen.add(image)
+        if image not in made:
+            made.add(image)
             yield choice.__name__, image

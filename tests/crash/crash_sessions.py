@@ -16,9 +16,9 @@ SECONDS = 120
 TOLD = 10
 # 128 names in ascending order fill pages of 32, 32 and 64 records, and their changes two pages of 64.
 FILLING = [f"put n{i:03d} - text/plain" for i in range(128)]
-# A put that cuts a page and begins a new one of changes, a publication of four pages, a put into one of those, a delete in
-# another, a group over three pages, whose first body is replaced by its last item, and a publication that drops three parts of 40
-# changes: a page of them goes, and one is cut.
+# A put that cuts a page and begins a new one of changes, a publication of four pages, a put into one of those, a delete
+# in another, a group over three pages, whose first body is replaced by its last item, and a publication that drops
+# three parts of 40 changes: a page of them goes, and one is cut.
 GROUP = "group 4\nput n041 6f6c64 text/plain\nput n100 6e6577 text/plain\ndelete n001\nput n041 6e6577 text/plain"
 PAGED = ["put n128 6e6577 text/plain", "publish", "put n040 61 text/plain", "delete n000", GROUP, "publish"]
 # What is done on a disk of version 1: its first command drops parts.
@@ -42,7 +42,7 @@ class Crashes:
     def formatted(self, size, state):
         """The bytes of a new disk, of which nothing is in question once it was answered."""
         calls = self.recorder.format(size, state.base, state.limit)
-        if any(it.writes for it in crash_images.moments(b"", calls) if it.answered):
+        if any(moment.writes for moment in crash_images.moments(b"", calls) if moment.answered):
             raise Unrecorded("format is answered before its last sync")
         return replayed(b"", calls)
 
@@ -50,7 +50,7 @@ class Crashes:
         """Records a session of these lines over a disk that has this state."""
         answers, states, made = crash_model.run(state, lines)
         calls = self.recorder.run(before, lines, answers)
-        counts = [sum(it.kind == kind for it in calls) for kind in (WRITE, SYNC, ANSWER)]
+        counts = [sum(call.kind == kind for call in calls) for kind in (WRITE, SYNC, ANSWER)]
         self.sessions, self.calls = self.sessions + 1, self.calls + counts[0] + counts[1]
         print(f"session {self.sessions}: {len(states) - 1} commands accepted,", end=" ")
         print("%d writes, %d syncs, %d answers" % tuple(counts), flush=True)
@@ -62,7 +62,7 @@ class Crashes:
         filling = self.session(self.formatted(131_072, state), state, FILLING)
         session = self.session(replayed(filling.before, filling.calls), filling.states[-1], PAGED)
         source = disk_reader.source_of(replayed(session.before, session.calls))
-        counts = [len(it) for it in (source.catalogue, source.changes, source.published)]
+        counts = [len(pages) for pages in (source.catalogue, source.changes, source.published)]
         print("the lists have %d, %d and %d pages then" % tuple(counts), flush=True)
         if min(counts) < 2:
             raise Unrecorded("a list of the session over several pages has only one")
@@ -71,7 +71,7 @@ class Crashes:
     def of_version_1(self):
         """A session over a disk that an earlier program left, which never dropped a change."""
         before = damaged_disks.DISKS["five_of_version_1"]()
-        state = disk_judge.state_of(before, disk_judge.told(before)[1])
+        state = disk_judge.state_of(before, disk_judge.verdict_of(before)[1])
         return self.session(before, state, ON_VERSION_1)
 
     def served(self, image, questions):
@@ -80,14 +80,14 @@ class Crashes:
         self.image.write_bytes(image)
         how = {"input": questions.script, "capture_output": True, "timeout": SECONDS}
         try:
-            ran = subprocess.run([self.program, "run", self.image], **how)
+            finished = subprocess.run([self.program, "run", self.image], **how)
         except subprocess.TimeoutExpired:
             return None, f"no end after {SECONDS} seconds"
-        if ran.returncode or ran.stderr:
-            return None, f"status {ran.returncode}, {ran.stderr.decode(errors='replace').strip()}"
+        if finished.returncode or finished.stderr:
+            return None, f"status {finished.returncode}, {finished.stderr.decode(errors='replace').strip()}"
         if self.image.read_bytes() != image:
             return None, "the image was changed by reading it"
-        return ran.stdout, ""
+        return finished.stdout, ""
 
     def state_of(self, image, session):
         """The number of the state that is served on this image, or None and why it is none."""
@@ -106,14 +106,14 @@ class Crashes:
         found, last = {}, len(session.made) - 1
         for moment in crash_images.moments(session.before, session.calls):
             least = session.made[min(moment.answered, last)]
-            most = session.made[min(moment.answered + 1, last)]
+            upper = session.made[min(moment.answered + 1, last)]
             for name, image in crash_images.images(moment, self.rng, rounds, picks):
                 key = hashlib.sha256(image).digest()
                 if key not in found:
                     found[key] = self.state_of(image, session)
                 state, why = found[key]
-                if state is not None and not least <= state <= most:
-                    why = f"{least} commands were answered, {most} had begun, {state} stand"
+                if state is not None and not least <= state <= upper:
+                    why = f"{least} commands were answered, {upper} had begun, {state} stand"
                 yield Judged(moment, name, image, state, why)
 
     def look(self, session, plan, count):
@@ -123,32 +123,32 @@ class Crashes:
         few, and what the next commit does to that slot is to be seen.
         """
         images, wrong, continued = set(), set(), []
-        for it in self.judged(session, plan.rounds, plan.picks):
-            key = hashlib.sha256(it.image).digest()
-            if it.why and key not in wrong and len(wrong) < TOLD:
-                print(f"wrong: {told(session, it)}", flush=True)
+        for judged in self.judged(session, plan.rounds, plan.picks):
+            key = hashlib.sha256(judged.image).digest()
+            if judged.why and key not in wrong and len(wrong) < TOLD:
+                print(f"wrong: {describe(session, judged)}", flush=True)
             images.add(key)
-            if it.why:
+            if judged.why:
                 wrong.add(key)
-            elif it.moment.writes:
-                lot = self.rng.random() * (1 if crash_images.is_torn(it.moment, it.image) else 20)
-                continued.append((lot, it.image, session.states[it.state]))
+            elif judged.moment.writes:
+                lot = self.rng.random() * (1 if crash_images.is_torn(judged.moment, judged.image) else 20)
+                continued.append((lot, judged.image, session.states[judged.state]))
                 continued = sorted(continued, key=operator.itemgetter(0))[:count]
         self.images, self.wrong = self.images + len(images), self.wrong + len(wrong)
-        return [it[1:] for it in continued]
+        return [entry[1:] for entry in continued]
 
     def passes(self, session, change):
         """Whether the recording of a wrong program passes, which it must not."""
         changed = session._replace(calls=change(session.calls))
-        for number, it in enumerate(self.judged(changed, 1, 0), 1):
-            if it.why:
-                print(f"made up, {change.__name__}: wrong at image {number}: {told(changed, it)}")
+        for number, judged in enumerate(self.judged(changed, 1, 0), 1):
+            if judged.why:
+                print(f"made up, {change.__name__}: wrong at image {number}: {describe(changed, judged)}")
                 return False
         print(f"made up, {change.__name__}: no image is wrong, and this test is blind")
         return True
 
 
-def told(session, judged):
+def describe(session, judged):
     """One wrong image, for a reader."""
     number = judged.moment.call
     kind = session.calls[number].kind if number < len(session.calls) else "the end"

@@ -92,36 +92,37 @@ class Recorder:
         return self.record(["run", "source.disk"], before, lines, answers)
 
     def record(self, words, before, lines, answers):
+        """The calls of a run of the program with these words, which is to answer these lines so."""
         self.log.unlink(missing_ok=True)
         paths = {"LD_PRELOAD": self.library, "CALLS": self.log, "DISK": self.disk}
         names = {**os.environ, **{name: str(path) for name, path in paths.items()}}
         how = {"cwd": self.room, "env": names, "stdin": subprocess.PIPE, "stdout": subprocess.PIPE}
-        with subprocess.Popen([self.program, *words], **how) as ran:
-            watch = threading.Timer(SECONDS, ran.kill)
+        with subprocess.Popen([self.program, *words], **how) as process:
+            watch = threading.Timer(SECONDS, process.kill)
             watch.daemon = True
             watch.start()
-            told = b"".join([asked(ran, line) for line in lines] + [ran.communicate()[0]])
+            output = b"".join([ask(process, line) for line in lines] + [process.communicate()[0]])
             watch.cancel()
         calls = calls_of(self.log.read_bytes() if self.log.exists() else b"")
-        wanted = "".join(it + "\n" for it in answers).encode()
-        if ran.returncode or told != wanted:
-            found = f"status {ran.returncode}, answered {told!r}, and not {wanted!r}"
+        wanted = "".join(answer + "\n" for answer in answers).encode()
+        if process.returncode or output != wanted:
+            found = f"status {process.returncode}, answered {output!r}, and not {wanted!r}"
             raise Unrecorded(f"{words}: {found}")
-        if b"".join(it.data for it in calls if it.kind == ANSWER) != told:
+        if b"".join(call.data for call in calls if call.kind == ANSWER) != output:
             raise Unrecorded(f"{words}: an answer is not in the record")
         if replayed(before, calls) != self.disk.read_bytes():
             raise Unrecorded(f"{words}: the file is not what the recorded writes make it")
         return calls
 
 
-def asked(ran, line):
+def ask(process, line):
     """The answer to one line, or nothing where the program has ended."""
     try:
-        ran.stdin.write(line.encode() + b"\n")
-        ran.stdin.flush()
+        process.stdin.write(line.encode() + b"\n")
+        process.stdin.flush()
     except BrokenPipeError:
         return b""
-    return ran.stdout.readline()
+    return process.stdout.readline()
 
 
 def calls_of(log):
@@ -145,9 +146,9 @@ def over(disk, writes):
 
 def replayed(disk, calls):
     """What a read gives after these calls."""
-    for it in calls:
-        if it.kind == LENGTH:
-            disk = disk[: it.at].ljust(it.at, b"\0")
-        elif it.kind == WRITE:
-            disk = over(disk, [(it.at, it.data)])
+    for call in calls:
+        if call.kind == LENGTH:
+            disk = disk[: call.at].ljust(call.at, b"\0")
+        elif call.kind == WRITE:
+            disk = over(disk, [(call.at, call.data)])
     return disk

@@ -1,7 +1,7 @@
 """What commands leave on a disk, block by block, spelled by the rules of docs/DISK.md.
 
-Each is the disk before it, with the bodies and pages that the command made in the lowest free runs of their sizes, the directory
-behind them, and the root in the slot that did not hold it. What was there before stays.
+Each is the disk before it, with the bodies and pages that the command made in the lowest free runs of their sizes, the
+directory behind them, and the root in the slot that did not hold it. What was there before stays.
 """
 from tests.disks import damaged_disks
 from tests.disks.damaged_disks import CREATED_FIRST, CREATED_LAST, DELETED_BOTH, FIVE, FIVE_CHANGES, HELLO
@@ -32,63 +32,75 @@ EMPTY_B = record_fields(b"b", b"", 2003, 0, b"text/html")
 C = record_fields(b"c", b"abc", 2000, 6)
 PUT_C = {"7": change_fields(CREATED, b"c", 2000, b"abc")}
 AFTER_PUT = {**CREATED_FIRST, **DELETED_BOTH, **CREATED_LAST, **PUT_C}
-# A publication drops the changes that it need not keep, two by two: the first part ends at 1002, before the publication at 1003.
+# A publication drops the changes that it need not keep, two by two: the first part ends at 1002, before the publication
+# at 1003.
 AFTER_PUBLISH = {**DELETED_BOTH, **CREATED_LAST, **PUT_C}
 AFTER_DELETE = {**AFTER_PUBLISH, "8": change_fields(DELETED, b"a", 2002)}
 AFTER_UPDATE = {**AFTER_DELETE, "9": change_fields(UPDATED, b"b", 2003, b"", b"text/html")}
 # The parts 1 and 2 end at 1005 and 1007, before the publication at 2001.
-AFTER_ALL = {it: AFTER_UPDATE[it] for it in ("7", "8", "9")}
+AFTER_ALL = {key: AFTER_UPDATE[key] for key in ("7", "8", "9")}
 ALL_THREE = page_fields(RECORDS, {"a": A, "b": B, "c": C})
 B_AND_C = page_fields(RECORDS, {"b": EMPTY_B, "c": C})
 
 
 # The blocks 6, 7 and 11 to 15 are free. A disk of version 1 gets a directory and a slot of version 2.
 def after_put(before="sound"):
+    """A disk after a put of `c`."""
     pages = {"held": (7, ALL_THREE), "changes": (11, page_fields(CHANGES, AFTER_PUT)), "listed": (5, LISTED)}
     return commanded(damaged_disks.DISKS[before](), 1, 2, 12, pages, [(6, b"abc")], last=2000, publication=1, at=1003)
 
 
 # The old directory and the old pages of what is held and of the changes, in blocks 2, 3 and 4, are free now.
 def after_publish():
+    """Then after a publication."""
     pages = {"held": (7, ALL_THREE), "changes": (2, page_fields(CHANGES, AFTER_PUBLISH)), "listed": (7, ALL_THREE)}
     return commanded(after_put(), 0, 3, 3, pages, last=2001, publication=2, at=2001, first=1, begin=1002)
 
 
 # The blocks 4, 5 and 11 to 15 are free; the published page stays in block 7.
 def after_delete():
-    held = page_fields(RECORDS, {"b": B, "c": C})
-    pages = {"held": (4, held), "changes": (5, page_fields(CHANGES, AFTER_DELETE)), "listed": (7, ALL_THREE)}
+    """Then after `a` was deleted."""
+    records = page_fields(RECORDS, {"b": B, "c": C})
+    pages = {"held": (4, records), "changes": (5, page_fields(CHANGES, AFTER_DELETE)), "listed": (7, ALL_THREE)}
     return commanded(after_publish(), 1, 4, 11, pages, last=2002, publication=2, at=2001, first=1, begin=1002)
 
 
 # The blocks 2, 3, 8 and 12 to 15 are free: the old page of changes, the old directory, and the body of `a`.
 def after_update():
+    """Then after `b` was put again, with no bytes."""
     pages = {"held": (2, B_AND_C), "changes": (3, page_fields(CHANGES, AFTER_UPDATE)), "listed": (7, ALL_THREE)}
     return commanded(after_delete(), 0, 5, 8, pages, last=2003, publication=2, at=2001, first=1, begin=1002)
 
 
 # The blocks 4, 5 and 9 to 15 are free.
 def after_all():
+    """Then after a publication more."""
     pages = {"held": (2, B_AND_C), "changes": (4, page_fields(CHANGES, AFTER_ALL)), "listed": (2, B_AND_C)}
     return commanded(after_update(), 1, 6, 5, pages, last=2004, publication=3, at=2004, first=3, begin=1007)
 
 
-# The blocks 6 to 15 are free. The parts 0 and 1 end at 2 and 6, before the publication at 7, so `e` alone is left of the changes.
+# The blocks 6 to 15 are free. The parts 0 and 1 end at 2 and 6, before the publication at 7, so `e` alone is left of
+# the changes.
 def five_published():
-    held, left = page_fields(RECORDS, FIVE), page_fields(CHANGES, {"e": FIVE_CHANGES["e"]})
-    pages = {"held": (3, held), "changes": (6, left), "listed": (3, held)}
+    """A disk of version 1 with five resources, after a publication by version 2."""
+    records, changes = page_fields(RECORDS, FIVE), page_fields(CHANGES, {"e": FIVE_CHANGES["e"]})
+    pages = {"held": (3, records), "changes": (6, changes), "listed": (3, records)}
     before = damaged_disks.DISKS["five_of_version_1"]()
     return commanded(before, 1, 2, 7, pages, start=0, last=9, publication=4, at=9, first=2, begin=6)
 
 
-# A copy of the disk after the deletion, of 32 blocks: bodies in the order of their names, then the pages, none of them shared, each in
-# the lowest free run, and the directory; a root of generation 1 in the first slot, and a second slot whose gate is closed. The
-# published record of `a`, which is not held any more, has the block 0 and as many blocks as its length needs.
+# A copy of the disk after the deletion, of 32 blocks: bodies in the order of their names, then the pages, none of them
+# shared, each in the lowest free run, and the directory; a root of generation 1 in the first slot, and a second slot
+# whose gate is closed. The published record of `a`, which is not held any more, has the block 0 and as many blocks as
+# its length needs.
 def copied():
+    """A copy of the disk after the deletion."""
     b, c = record_fields(b"b", LONG, 1007, 2), record_fields(b"c", b"abc", 2000, 4)
     listed = page_fields(RECORDS, {"a": record_fields(b"a", HELLO, 1006, 0), "b": b, "c": c})
-    pages = {"held": (5, page_fields(RECORDS, {"b": b, "c": c})), "changes": (6, page_fields(CHANGES, AFTER_DELETE)), "listed": (7, listed)}
-    return commanded(bytes(32 * 512), 0, 1, 8, pages, [(2, LONG), (4, b"abc")], last=2002, publication=2, at=2001, first=1, begin=1002)
+    pages = {"held": (5, page_fields(RECORDS, {"b": b, "c": c})), "changes": (6, page_fields(CHANGES, AFTER_DELETE)),
+             "listed": (7, listed)}
+    return commanded(bytes(32 * 512), 0, 1, 8, pages, [(2, LONG), (4, b"abc")], last=2002, publication=2, at=2001,
+                     first=1, begin=1002)
 
 
 DISKS = {

@@ -1,4 +1,4 @@
-"""Disks of any number of resources of no bytes, spelled in pages by the page rule: the items are spelled once for all of them."""
+"""Disks of any number of resources of no bytes in pages by the page rule; the items are spelled once for all."""
 from functools import cache
 
 from tests.disks.made_disks import laid_behind
@@ -13,10 +13,10 @@ ROOM, LIMIT = 4_096, 4_000
 
 @cache
 def items(count: int, longer: int) -> tuple[list[bytes], list[bytes]]:
-    """The records and the changes of so many puts, at the moments 1, 2 and so on; their names are longer by so many bytes."""
+    """The records and the changes of so many puts, at the moments 1, 2 and so on; `longer` lengthens their names."""
     names = [name(at) + b"x" * longer for at in range(count)]
-    records = [parts_of.record(it, b"", moment, 0) for moment, it in enumerate(names, 1)]
-    return records, [parts_of.change(1, it, moment, b"") for moment, it in enumerate(names, 1)]
+    records = [parts_of.record(resource, b"", moment, 0) for moment, resource in enumerate(names, 1)]
+    return records, [parts_of.change(1, resource, moment, b"") for moment, resource in enumerate(names, 1)]
 
 
 def cut(records: list[bytes]) -> list[list[bytes]]:
@@ -26,17 +26,20 @@ def cut(records: list[bytes]) -> list[list[bytes]]:
     return pages + ([records[whole:]] if records[whole:] else [])
 
 
-def spelled(held: int, kept: int, most: int, longer: int = 0) -> bytes:
-    """A disk on which so many resources of at most `most` were put and published, of whose changes the last `kept` are there."""
-    records, changes = items(most, longer)
-    catalogue = [parts_of.page(1, it) for it in cut(records[:held])]
-    history = [parts_of.page(2, changes[at : min(at + page_rule.MOST, held)]) for at in range(held - kept, held, page_rule.MOST)]
+def spelled(resources: int, last_changes: int, limit: int, longer: int = 0) -> bytes:
+    """A disk on which so many resources of at most `limit` were put and published, of whose changes the last are there:
+    `last_changes` of them.
+    """
+    records, changes = items(limit, longer)
+    catalogue = [parts_of.page(1, page) for page in cut(records[:resources])]
+    history = [parts_of.page(2, changes[at : min(at + page_rule.MOST, resources)])
+               for at in range(resources - last_changes, resources, page_rule.MOST)]
     pages = laid_behind(2, [*catalogue, *history])
-    entries = [parts_of.entry(*it) for it in pages]
+    entries = [parts_of.entry(*page) for page in pages]
     ours, theirs = entries[: len(catalogue)], entries[len(catalogue) :]
-    directory = parts_of.directory(held + 1, number=1, at=held + 1, lists=(ours, theirs, ours), limit=LIMIT)
+    directory = parts_of.directory(resources + 1, number=1, at=resources + 1, lists=(ours, theirs, ours), limit=LIMIT)
     first = pages[-1][0] + -(-len(pages[-1][1]) // BLOCK) if pages else 2
     end = first + -(-len(directory) // BLOCK) + ROOM
-    slot = parts_of.slot(1, held + 1, first, directory)
+    slot = parts_of.slot(1, resources + 1, first, directory)
     disk: bytes = laid_out(end, [(0, slot), (1, b"\0\2"), *pages, (first, directory)])
     return disk

@@ -1,11 +1,14 @@
 """Small disks that hold a source, and changes of their fields that may damage them.
 
 A disk is spelled from the bottom up: its pages, the directory that names them, the slot that points to the directory.
-A change is made before what points to it is spelled, so lengths and SHA-256 agree with it, and one rule is broken alone:
-  PART.FIELD=VALUE    a field of a page (`held`, `changes`, `listed`), of `directory`, of `slot` (block 0) or of `spare` (block 1)
+A change is made before what points to it is spelled, so lengths and SHA-256 agree with it, and one rule is broken
+alone:
+  PART.FIELD=VALUE    a field of a page (`held`, `changes`, `listed`), of `directory`, of `slot` (block 0) or of
+                      `spare` (block 1)
   PART.block=N        the part lies in this block, and what points to it says so
   PART.front=N        the part ends after this many bytes
-A VALUE is a number of the field's width, bytes in hexadecimal behind an `x`, or a text. The field `end` is what follows a part.
+A VALUE is a number of the field's width, bytes in hexadecimal behind an `x`, or a text. The field `end` is what follows
+a part.
 """
 from tests.reading.disk_formats import CHANGES, CREATED, DELETED, OLD_VERSION, RECORDS, VERSION, change_fields
 from tests.reading.disk_formats import entry_fields, header_fields, laid_out, number, page_fields
@@ -20,6 +23,7 @@ LISTS = {
 
 
 def value_of(text, width):
+    """The bytes of a VALUE in a field of this width."""
     if text.isdigit():
         return number(int(text), width)
     return bytes.fromhex(text[1:]) if text.startswith("x") else text.encode()
@@ -29,7 +33,7 @@ class Changes(dict):
     """Changes that are still to be made, and the bytes of each field that a part had before them."""
 
     def __init__(self, changes=()):
-        super().__init__(it.split("=", 1) for it in changes)
+        super().__init__(change.split("=", 1) for change in changes)
         self.met = {}
 
     def part(self, name, fields, block):
@@ -45,7 +49,10 @@ class Changes(dict):
 
 
 def pages_of(pages, changes):
-    """The pages as they lie on the disk, and the entry of each. One that is given as the name of another page is that page."""
+    """The pages as they lie on the disk, and the entry of each.
+
+    One that is given as the name of another page is that page.
+    """
     parts, entries = [], {}
     for blocks in LISTS.values():
         for name, block in blocks.items():
@@ -59,29 +66,36 @@ def pages_of(pages, changes):
 
 
 def directory_fields(header, entries):
-    counts = {f"{it}_pages": number(sum(name in entries for name in LISTS[it])) for it in LISTS}
-    named = {f"{name}.{field}": value for name, entry in entries.items() for field, value in entry.items()}
-    return {**header, **counts, **named}
+    """The fields of a directory: its header, how many pages each list has, and their entries."""
+    counts = {f"{kind}_pages": number(sum(name in entries for name in LISTS[kind])) for kind in LISTS}
+    entry_values = {f"{name}.{field}": value for name, entry in entries.items() for field, value in entry.items()}
+    return {**header, **counts, **entry_values}
 
 
-def spell(left, pages, bodies, blocks, header):
-    """The bytes of a disk with the changes that are left, which are taken from them. The header may have the version of the disk."""
+def spell(remaining, pages, bodies, blocks, header):
+    """The bytes of a disk with the changes that are left, which are taken from them.
+
+    The header may have the version of the disk.
+    """
     version = header.get("version", VERSION)
-    parts, entries = pages_of(pages, left)
-    directory = left.part("directory", directory_fields(header_fields(**header), entries), 2)
-    slot = left.part("slot", slot_fields(1, 1, *directory, version), 0)
-    spare = left.part("spare", slot_fields(0, 0, *directory, version), 1)
+    parts, entries = pages_of(pages, remaining)
+    directory = remaining.part("directory", directory_fields(header_fields(**header), entries), 2)
+    slot = remaining.part("slot", slot_fields(1, 1, *directory, version), 0)
+    spare = remaining.part("spare", slot_fields(0, 0, *directory, version), 1)
     return laid_out(blocks, [*bodies, slot, spare, directory, *parts])
 
 
 def source(pages, bodies=(), blocks=16, **header):
-    """A function that spells a disk with these pages, with the changes that it is given. Its `fields` are those of each part."""
+    """A function that spells a disk with these pages, with the changes that it is given.
+
+    Its `fields` are those of each part.
+    """
 
     def disk(*changes):
-        left = Changes(changes)
-        spelled_disk = spell(left, pages, bodies, blocks, header)
-        if left:
-            raise ValueError(f"there is no such field: {', '.join(left)}")
+        remaining = Changes(changes)
+        spelled_disk = spell(remaining, pages, bodies, blocks, header)
+        if remaining:
+            raise ValueError(f"there is no such field: {', '.join(remaining)}")
         return spelled_disk
 
     def fields():
@@ -107,7 +121,7 @@ def many_changes(first, count):
 
 
 def crowded(name, count, more=0):
-    """A function that spells a disk with a page of this many items of a list, and one of more items behind it, where there are any."""
+    """A function that spells a disk with a page of so many items of a list, and one of `more` behind it, if any."""
 
     def disk(*changes):
         page = many_changes if name == "changes" else many_records
@@ -140,18 +154,22 @@ ALL_DROPPED = {"start": 1000, "last": 1009, "publication": 3, "at": 1009, "first
 # Five resources of no bytes, put between publications at 3, 5 and 7. Version 1 kept all their changes.
 FIVE = {name: record_fields(name.encode(), b"", moment, 0) for name, moment in zip("abcde", (1, 2, 4, 6, 8))}
 FIVE_CHANGES = {name: change_fields(CREATED, name.encode(), moment) for name, moment in zip("abcde", (1, 2, 4, 6, 8))}
-FOUR = {it: FIVE[it] for it in "abcd"}
-FIVE_HELD = {"held": page_fields(RECORDS, FIVE), "changes": page_fields(CHANGES, FIVE_CHANGES), "listed": page_fields(RECORDS, FOUR)}
+FOUR = {name: FIVE[name] for name in "abcd"}
+FIVE_HELD = {"held": page_fields(RECORDS, FIVE), "changes": page_fields(CHANGES, FIVE_CHANGES),
+             "listed": page_fields(RECORDS, FOUR)}
 # One more page of each list.
 MORE_HELD = page_fields(RECORDS, {"d": record_fields(b"d", b"", 1006, 0)})
 MORE_CHANGES = page_fields(CHANGES, {"7": change_fields(DELETED, b"b", 1008)})
 MORE_LISTED = page_fields(RECORDS, {"d": record_fields(b"d", b"", 1002, 0)})
 AFTER_ALL = {"start": 1000, "last": 1007, "publication": 1, "at": 1003}
 PUBLISHED_LAST = {"start": 1000, "last": 1003, "publication": 1, "at": 1003}
-# Pages of 513 bytes, of which the last one is also the first one of a page of their kind, which could lie in their second block.
-PAST_A_BLOCK = page_fields(RECORDS, {"a": record_fields(b"a" * 174, OLD, 1001, 8), "c": record_fields(b"c" * 174, b"c", 1002, 10)})
+# Pages of 513 bytes, of which the last one is also the first one of a page of their kind, which could lie in their
+# second block.
+PAST_A_BLOCK = page_fields(RECORDS, {"a": record_fields(b"a" * 174, OLD, 1001, 8),
+                                     "c": record_fields(b"c" * 174, b"c", 1002, 10)})
 DELETIONS = enumerate((b"a" * 159, b"b" * 159, b"c" * 160), 1024)
-CHANGES_PAST_A_BLOCK = page_fields(CHANGES, {f"{it}": change_fields(DELETED, name, it) for it, name in DELETIONS})
+CHANGES_PAST_A_BLOCK = page_fields(
+    CHANGES, {f"{moment}": change_fields(DELETED, name, moment) for moment, name in DELETIONS})
 ONE_MORE_CHANGE = page_fields(CHANGES, {"1027": change_fields(DELETED, b"d", 1027)})
 # Two pages of records.
 TWO_HELD = {"held": LISTED, "more_held": MORE_LISTED, "changes": OLD_CHANGES}
@@ -182,15 +200,18 @@ DISKS = {
     "last_shared": source({**TWO_HELD, "listed": LISTED, "more_listed": "more_held"}, OLD_BODIES, **PUBLISHED_LAST),
     "none_shared": source({**TWO_HELD, "listed": LISTED, "more_listed": MORE_LISTED}, OLD_BODIES, **PUBLISHED_LAST),
     "last_alone_shared": source({**TWO_HELD, "listed": "more_held"}, OLD_BODIES, **PUBLISHED_LAST),
-    "shared_in_reverse": source({**TWO_HELD, "listed": "more_held", "more_listed": "held"}, OLD_BODIES, **PUBLISHED_LAST),
+    "shared_in_reverse": source({**TWO_HELD, "listed": "more_held", "more_listed": "held"}, OLD_BODIES,
+                                **PUBLISHED_LAST),
     # one page twice in a list
     "shared_twice": source({**TWO_HELD, "listed": "held", "more_listed": "held"}, OLD_BODIES, **PUBLISHED_LAST),
     "listed_twice": source({**SOUND, "more_listed": "listed"}, BODIES, **AFTER_ALL),
     "held_twice": source({**SOUND, "more_held": "held"}, BODIES, **AFTER_ALL),
     "changes_twice": source({**SOUND, "more_changes": "changes"}, BODIES, **AFTER_ALL),
     # two pages in a list, of which the first one has a byte in a second block
-    "held_past_a_block": source({"held": PAST_A_BLOCK, "more_held": MORE_LISTED, "changes": OLD_CHANGES}, OLD_BODIES, **PUBLISHED_LAST),
-    "changes_past_a_block": source({"changes": CHANGES_PAST_A_BLOCK, "more_changes": ONE_MORE_CHANGE}, start=1000, last=1027, at=1000),
+    "held_past_a_block": source({"held": PAST_A_BLOCK, "more_held": MORE_LISTED, "changes": OLD_CHANGES}, OLD_BODIES,
+                                **PUBLISHED_LAST),
+    "changes_past_a_block": source({"changes": CHANGES_PAST_A_BLOCK, "more_changes": ONE_MORE_CHANGE}, start=1000,
+                                   last=1027, at=1000),
     "listed_past_a_block": source({**SOUND, "listed": PAST_A_BLOCK, "more_listed": MORE_LISTED}, BODIES, **AFTER_ALL),
     **{f"{count}_{name}": crowded(name, count) for name in LISTS for count in (50_000, 50_001)},
     **{f"25000_and_{more}_{name}": crowded(name, 25_000, more) for name in LISTS for more in (25_000, 25_001)},

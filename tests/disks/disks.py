@@ -1,8 +1,9 @@
-"""Disks that are spelled from the tables of docs/DISK.md, apart from the program, and the commands of sessions on files.
+"""Disks that are spelled from the tables of docs/DISK.md, apart from the program, and the commands of sessions on
+files.
 
-`DISKS` has a function for each by its name, which gives its bytes: those that break a rule or keep it to the end (damaged_disks.py,
-which take changes of the disk's fields), what commands leave (commanded_disks.py), whole sources at a limit (made_disks.py), and one
-resource whose record or change is cut or has another byte (one_resource_disks.py).
+`DISKS` has a function for each by its name, which gives its bytes: those that break a rule or keep it to the end
+(damaged_disks.py, which take changes of the disk's fields), what commands leave (commanded_disks.py), whole sources at
+a limit (made_disks.py), and one resource whose record or change is cut or has another byte (one_resource_disks.py).
 """
 import os
 import pathlib
@@ -15,13 +16,13 @@ DISKS = {**damaged_disks.DISKS, **commanded_disks.DISKS, **made_disks.DISKS, **o
 
 
 def disk(room, name, file, *changes):
-    """Writes a disk with changes. Behind those of its fields may come `bytes=AT:HEX`, for bytes that are put over what was spelled,
-    with no SHA-256 set right, and `size=N`, for a file that ends or goes on as zeros there.
+    """Writes a disk with changes. Behind those of its fields may come `bytes=AT:HEX`, for bytes that are put over what
+    was spelled, with no SHA-256 set right, and `size=N`, for a file that ends or goes on as zeros there.
     """
-    path, after = pathlib.Path(room, file), [it for it in changes if it.startswith(("bytes=", "size="))]
-    path.write_bytes(DISKS[name](*(it for it in changes if it not in after)))
-    for it in after:
-        what, _, value = it.partition("=")
+    path, after = pathlib.Path(room, file), [change for change in changes if change.startswith(("bytes=", "size="))]
+    path.write_bytes(DISKS[name](*(change for change in changes if change not in after)))
+    for change in after:
+        what, _, value = change.partition("=")
         if what == "size":
             os.truncate(path, int(value))
         else:
@@ -30,14 +31,16 @@ def disk(room, name, file, *changes):
 
 
 def zeros(room, file, size):
+    """Writes a file of this many zeros."""
     pathlib.Path(room, file).write_bytes(bytes(int(size)))
     return ""
 
 
 def put_bytes(room, file, at, text):
-    with open(pathlib.Path(room, file), "r+b") as it:
-        it.seek(int(at))
-        it.write(bytes.fromhex(text))
+    """Puts bytes, given in hexadecimal, over those of a file."""
+    with open(pathlib.Path(room, file), "r+b") as handle:
+        handle.seek(int(at))
+        handle.write(bytes.fromhex(text))
     return ""
 
 
@@ -58,7 +61,7 @@ def pages(room, file):
     """How many items each page of each list has."""
     source = disk_reader.source_of(pathlib.Path(room, file).read_bytes())
     lists = {name: getattr(source, name) for name in ("catalogue", "changes", "published")}
-    return "".join(f"{' '.join([name, *(str(len(it.items)) for it in found)])}\n" for name, found in lists.items())
+    return "".join(f"{' '.join([name, *(str(len(page.items)) for page in found)])}\n" for name, found in lists.items())
 
 
 COMMANDS = {"disk": disk, "zeros": zeros, "pages": pages, "change": put_bytes, "bytes": shown, "differ": differ}

@@ -1,6 +1,7 @@
 """Disks of 4 GiB, the most that a source uses, spelled from docs/DISK.md: what they hold lies in their last blocks.
 
-Files are sparse: a hole reads as zeros, and takes no room. `Holes` is such a file as it stands, to be read like its bytes.
+Files are sparse: a hole reads as zeros, and takes no room. `Holes` is such a file as it stands, to be read like its
+bytes.
 """
 import os
 import pathlib
@@ -10,7 +11,8 @@ from tests.disks.made_disks import laid_behind
 from tests.reading import disk_parts as parts_of
 from tests.reading.disk_formats import BLOCK, body_fields, extent_fields, number, short_fields, spelled
 
-# The blocks of the disk, those of a body of the greatest length, and how many of these take the blocks below 2 GiB, and almost all.
+# The blocks of the disk, those of a body of the greatest length, and how many of these take the blocks below 2 GiB, and
+# almost all.
 BLOCKS, LARGEST, FILLERS, MOST_FILLERS = 8_388_608, 32_768, 128, 254
 # The resources whose bodies lie behind all else.
 BODIES = {b"x0": b"far", b"x1": b"further" * 3_000, b"x2": b"z" * 512}
@@ -65,6 +67,7 @@ def written(path: pathlib.Path, parts: list[Part]) -> None:
 
 
 def blocks_of(data: bytes) -> int:
+    """How many blocks some bytes take."""
     return -(-len(data) // BLOCK)
 
 
@@ -80,7 +83,7 @@ def fillers(count: int) -> list[bytes]:
 
 
 def parts(filled: int) -> list[Part]:
-    """What a disk has in its blocks, where so many bodies of zeros lie in front: slots, and in the last blocks all else."""
+    """What a disk has in its blocks, with so many bodies of zeros in front: slots, and in the last blocks all else."""
     end, bodies, records = BLOCKS, [], fillers(filled)
     for at, (name, body) in enumerate(BODIES.items(), filled + 1):
         end -= blocks_of(body)
@@ -89,7 +92,7 @@ def parts(filled: int) -> list[Part]:
     pages = [parts_of.page(1, records[at : at + 32]) for at in range(0, len(records), 32)]
     end -= sum(map(blocks_of, pages))
     placed = laid_behind(end, pages)
-    entries = [parts_of.entry(*it) for it in placed]
+    entries = [parts_of.entry(*page) for page in placed]
     last = len(records)
     directory = parts_of.directory(last, number=1, at=last, lists=(entries, [], entries), limit=100)
     end -= blocks_of(directory)

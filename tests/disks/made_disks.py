@@ -44,35 +44,38 @@ def filled(names, changes, number=0, generation=1, blocks=128):
     deletions = parts_of.page(2, [parts_of.change(3, b"z", moment) for moment in range(1, changes + 1)])
     behind = 3 + (len(records) + BLOCK - 1) // BLOCK
     pages = [(3, records), (behind, deletions)]
-    header = parts_of.directory(changes, number=number, lists=[[parts_of.entry(*pages[0])], [parts_of.entry(*pages[1])], []])
+    header = parts_of.directory(changes, number=number,
+                                lists=[[parts_of.entry(*pages[0])], [parts_of.entry(*pages[1])], []])
     return source(pages, header, generation, blocks)
 
 
 def lists_of_one_page(blocks=128):
-    """Version 1: 70 resources, `r00` to `r69`, in one page, put at the moments 1 to 69 and, after a publication at 70, at 71."""
+    """Version 1: 70 resources, `r00` to `r69`, in one page, put at 1 to 69 and, after a publication at 70, at 71."""
     names = [b"r%02d" % i for i in range(70)]
     records = [parts_of.record(name, b"", moment, 0) for moment, name in enumerate(names[:-1], 1)]
     created = [parts_of.change(1, name, moment, b"") for moment, name in enumerate(names[:-1], 1)]
     created.append(parts_of.change(1, b"r69", 71, b"hello"))
-    pages = [parts_of.page(1, records), parts_of.page(2, created), parts_of.page(1, [*records, parts_of.record(b"r69", b"hello", 71, 3)])]
-    listed, changes, held = laid_behind(4, pages)
-    entries = [[parts_of.entry(*it)] for it in (held, changes, listed)]
+    pages = [parts_of.page(1, records), parts_of.page(2, created),
+             parts_of.page(1, [*records, parts_of.record(b"r69", b"hello", 71, 3)])]
+    listed, changes, catalogue = laid_behind(4, pages)
+    entries = [[parts_of.entry(*page)] for page in (catalogue, changes, listed)]
     header = parts_of.directory(71, number=1, at=70, lists=entries, limit=34, version=OLD_VERSION)
-    return source([(3, b"hello"), held, changes, listed], header, 72, blocks, OLD_VERSION)
+    return source([(3, b"hello"), catalogue, changes, listed], header, 72, blocks, OLD_VERSION)
 
 
 def laid_behind(first, pages):
     """The pages one behind the other from a block on, each with its first block."""
-    starts = accumulate([first, *((len(it) + BLOCK - 1) // BLOCK for it in pages)])
+    starts = accumulate([first, *((len(page) + BLOCK - 1) // BLOCK for page in pages)])
     return list(zip(starts, pages))
 
 
 # The bytes of a disk of `empty` with exactly as many blocks as a command takes, and one byte fewer.
 ROOM = (2048, 2047, 3072, 3071, 3584, 3583)
 
-# The bytes of a disk of `two_puts`, by which it ends within a slot, behind one or both, behind the directory, before the
-# body, within its block or behind it, with one block that is free, or with many.
+# The bytes of a disk of `two_puts`, by which it ends within a slot, behind one or both, behind the directory, before
+# the body, within its block or behind it, with one block that is free, or with many.
 SIZES = (511, 512, 1023, 1024, 1536, 3071, 3583, 3584, 4096, 65536)
+
 
 def written_before():
     """A file as the program wrote it that knew version 1 alone (rows/old_disks/version_1.b64: base64 of its zlib)."""

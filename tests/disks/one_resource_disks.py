@@ -1,4 +1,4 @@
-"""Disks of a source with one resource, with a byte of its record or its change changed, or with either cut, for the sessions."""
+"""Disks of one resource, with a byte of its record or its change changed, or with either cut, for the sessions."""
 from functools import partial
 
 from tests.reading.disk_formats import laid_out
@@ -12,17 +12,18 @@ CREATED = change(1, b"a/b", MOMENT, b"hello")
 
 
 def one_resource(records=page(1, [HELLO]), changes=page(2, [CREATED]), last=MOMENT):
-    """A source whose directory is in block 2, with a page of records in block 3, one of changes in block 4, and a body."""
+    """A source whose directory is in block 2, with records in block 3, changes in block 4, and a body."""
     pages = [[entry(first, data)] if data else [] for first, data in [(3, records), (4, changes)]]
     data = directory(last, lists=(*pages, []))
     return laid_out(16, [(0, slot(1, 1, 2, data)), (1, b"\0\2"), (2, data), (3, records), (4, changes), (5, b"hello")])
 
 
 def other_byte(data, at, byte):
+    """The data with another byte at a place."""
     return data[:at] + bytes([byte]) + data[at + 1 :]
 
 
-# The source, with another byte at a place of the record or of the change, and with the record or the change cut at a place.
+# The source with another byte at a place of the record or of the change, and with the record or the change cut.
 DISKS = {"one_resource": one_resource}
 DISKS |= {
     f"record_{at}_{byte}": partial(one_resource, records=page(1, [other_byte(HELLO, at, byte)]))

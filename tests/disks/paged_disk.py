@@ -1,4 +1,6 @@
-"""A disk of a source with many resources, spelled in pages by the rule that commands follow (tests/reading/page_rule.py)."""
+"""A disk of a source with many resources, spelled in pages by the rule that commands follow
+(tests/reading/page_rule.py).
+"""
 import itertools
 
 from tests.reading import disk_parts as parts_of
@@ -11,6 +13,7 @@ ROOM = 8192
 
 
 def blocks(data):
+    """How many blocks some bytes take."""
     return (len(data) + BLOCK - 1) // BLOCK
 
 
@@ -20,27 +23,28 @@ def behind(first, parts):
 
 
 def name(i):
+    """The name of the resource of this number."""
     return b"name%05d" % i
 
 
-def spelled(held, changes, shared=True):
+def spelled(resources, changes, shared=True):
     """The bytes of a disk after this many resources of three bytes were put in the order of their names, and published.
 
-    This many of the last changes are kept, as if none was dropped. The published pages are those of the catalogue, or the same again in
-    other blocks.
+    This many of the last changes are kept, as if none was dropped. The published pages are those of the catalogue, or
+    the same again in other blocks.
     """
-    records = [parts_of.record(name(i), BODY, i + 1, 2 + i) for i in range(held)]
-    created = [parts_of.change(1, name(i), i + 1, BODY) for i in range(held - changes, held)]
-    catalogue = [parts_of.page(1, it) for it in page_rule.cut(records)]
+    records = [parts_of.record(name(i), BODY, i + 1, 2 + i) for i in range(resources)]
+    created = [parts_of.change(1, name(i), i + 1, BODY) for i in range(resources - changes, resources)]
+    catalogue = [parts_of.page(1, page) for page in page_rule.cut(records)]
     history = [parts_of.page(2, created[at : at + page_rule.MOST]) for at in range(0, changes, page_rule.MOST)]
     pages = [*catalogue, *history, *([] if shared else catalogue)]
-    starts = behind(2 + held, pages)
-    entries = [parts_of.entry(*it) for it in zip(starts, pages)]
+    starts = behind(2 + resources, pages)
+    entries = [parts_of.entry(*page) for page in zip(starts, pages)]
     ours, rest = entries[: len(catalogue)], entries[len(catalogue) :]
     theirs, listed = rest[: len(history)], rest[len(history) :]
-    last = held + 1
+    last = resources + 1
     directory = parts_of.directory(last, number=1, at=last, lists=(ours, theirs, listed or ours), limit=4000)
     slot = parts_of.slot(1, last, starts[-1], directory)
-    bodies = BODY.ljust(BLOCK, b"\0") * held
+    bodies = BODY.ljust(BLOCK, b"\0") * resources
     end = starts[-1] + blocks(directory) + ROOM
     return laid_out(end, [(0, slot), (1, b"\0\2"), (2, bodies), *zip(starts, pages), (starts[-1], directory)])

@@ -1,17 +1,17 @@
 """Makes each read and each write of scripts and requests fail in turn on the built program, and looks at what stands.
 
 `make build` makes the program. The scripts and the requests are worked rows. The ends of a script (ends_of_scripts.py)
-are connections that are reset and pipes that are closed behind each byte, and writes that fail there; it runs on a file,
-which is read behind it, and on which a later run goes on. The clients of a server (ends_of_requests.py) reset their
-connection behind each byte of a request, leave before they have the response, or have it cut behind each of its bytes; a
-plain request behind each is answered. What has to come of each is a plain reading of docs/SCRIPT.md and docs/HTTP.md
-(line_judge.py, request_judge.py, front_model.py).
+are connections that are reset and pipes that are closed behind each byte, and writes that fail there; it runs on a
+file, which is read behind it, and on which a later run goes on. The clients of a server (ends_of_requests.py) reset
+their connection behind each byte of a request, leave before they have the response, or have it cut behind each of its
+bytes; a plain request behind each is answered. What has to come of each is a plain reading of docs/SCRIPT.md and
+docs/HTTP.md (line_judge.py, request_judge.py, front_model.py).
 
 usage: python3 -m tests.ends [PROGRAM] [--short] [--jobs N]    the built program, where none is given
        python3 -m tests.ends --self-test                       whether wrong programs are noticed
-The short form makes scripts fail at the ends and in the middle of each line and of each answer, and requests everywhere;
-both forms begin with the self-test. The last line is 'ends: N of scripts and M of requests failed, K wrong', and the
-exit status 1 where K is not 0.
+The short form makes scripts fail at the ends and in the middle of each line and of each answer, and requests
+everywhere; both forms begin with the self-test. The last line is 'ends: N of scripts and M of requests failed, K
+wrong', and the exit status 1 where K is not 0.
 """
 import argparse
 import functools
@@ -32,20 +32,20 @@ PARTS = 12
 TOLD = 20
 
 
-def look_at_script(asked, folder, name, part):
+def look_at_script(options, folder, name, part):
     """A part of the cases of a script: how many there were, and what is wrong with each that is."""
     script = Script(name)
-    every = ends_of_scripts.few_of(script) if asked.short else list(ends_of_scripts.cases_of(script))[part::PARTS]
-    runs, found = Runs(asked.program, folder, with_failing(folder)), []
+    every = ends_of_scripts.few_of(script) if options.short else list(ends_of_scripts.cases_of(script))[part::PARTS]
+    runs, found = Runs(options.program, folder, with_failing(folder)), []
     for case in every:
-        wrong = ends_of_scripts.faults(case, runs.seen(case))
+        wrong = ends_of_scripts.faults(case, runs.outcome(case))
         found += [f"{name}, {case.way} behind byte {case.at}: " + "\n  ".join(wrong)] if wrong else []
     return len(every), found
 
 
-def look_at_requests(asked, folder, number):
+def look_at_requests(options, folder, number):
     """A request, in each way and behind each byte."""
-    serving, count, found = Serving(asked.program, folder, with_failing(folder)), 0, []
+    serving, count, found = Serving(options.program, folder, with_failing(folder)), 0, []
     request = serving.requests()[number]
     for way in WAYS:
         failed, wrong = serving.faults(request, way, 1)
@@ -53,47 +53,49 @@ def look_at_requests(asked, folder, number):
     return count, found
 
 
-def look(asked, folder, work):
+def look(options, folder, work):
     """A part of the work: of which kind it is, how many ends failed, and what is wrong."""
     kind, *what = work
     try:
-        return kind, *(look_at_script if kind == "scripts" else look_at_requests)(asked, folder, *what)
+        return kind, *(look_at_script if kind == "scripts" else look_at_requests)(options, folder, *what)
     except Exception as fault:
         return kind, 0, [f"{work}: the check cannot tell: {fault!r}"]
 
 
-def tried(asked, folder):
+def tried(options, folder):
     """Does all the work. Gives how many ends failed of each kind, and how much is wrong."""
-    works = [("scripts", it, part) for part in range(1 if asked.short else PARTS) for it in ROWS_OF_SCRIPTS]
+    works = [("scripts", row, part) for part in range(1 if options.short else PARTS) for row in ROWS_OF_SCRIPTS]
     works += [("requests", number) for number in range(ends_of_requests.COUNT)]
     counts, wrong = {"scripts": 0, "requests": 0}, 0
-    with multiprocessing.Pool(asked.jobs) as pool:
-        for kind, count, found in pool.imap_unordered(functools.partial(look, asked, folder), works):
-            for it in found[: max(TOLD - wrong, 0)]:
-                print(it, flush=True)
+    with multiprocessing.Pool(options.jobs) as pool:
+        for kind, count, found in pool.imap_unordered(functools.partial(look, options, folder), works):
+            for fault in found[: max(TOLD - wrong, 0)]:
+                print(fault, flush=True)
             counts[kind], wrong = counts[kind] + count, wrong + len(found)
     return counts, wrong
 
 
 def words():
-    it = argparse.ArgumentParser(usage="python3 -m tests.ends [PROGRAM] [--short] [--jobs N]")
-    it.add_argument("program", nargs="?", default=str(PROGRAM))
-    it.add_argument("--short", action="store_true")
-    it.add_argument("--self-test", action="store_true")
-    it.add_argument("--jobs", type=int, default=len(os.sched_getaffinity(0)))
-    asked = it.parse_args()
-    asked.program = os.path.abspath(asked.program)
-    return asked
+    """The options of the command line."""
+    parser = argparse.ArgumentParser(usage="python3 -m tests.ends [PROGRAM] [--short] [--jobs N]")
+    parser.add_argument("program", nargs="?", default=str(PROGRAM))
+    parser.add_argument("--short", action="store_true")
+    parser.add_argument("--self-test", action="store_true")
+    parser.add_argument("--jobs", type=int, default=len(os.sched_getaffinity(0)))
+    options = parser.parse_args()
+    options.program = os.path.abspath(options.program)
+    return options
 
 
 def main():
-    asked, started = words(), time.time()
+    """Makes scripts and requests fail, prints the counts, and gives the exit status."""
+    options, started = words(), time.time()
     blind = ends_wrong.look()
-    if asked.self_test:
+    if options.self_test:
         return 1 if blind else 0
     with room_in_memory("hostile-") as folder:
         with_failing(folder)
-        counts, wrong = tried(asked, folder)
+        counts, wrong = tried(options, folder)
     print(f"{time.time() - started:.0f} seconds")
     print(f"ends: {counts['scripts']} of scripts and {counts['requests']} of requests failed, {wrong} wrong")
     return 1 if wrong or blind or not all(counts.values()) else 0

@@ -48,7 +48,7 @@ def exchanges():
     return exchanges_of(b"> " + text)[:COUNT]
 
 
-def told(sent):
+def request_title(sent):
     """What a request is called."""
     return " ".join(sent.decode("latin-1").split()[:2])
 
@@ -90,13 +90,14 @@ class Model:
         return (CONTINUE if waits else b"") if way == READ_FAILS else before
 
     def look(self):
+        """What a plain request is answered."""
         return self.answer(LOOK)
 
 
 def cuts_of(request, way, each):
     """The cuts of a request in a way: each is a way and a number of bytes."""
     if way == LEAVES:
-        return [(it, len(request.sent)) for it in LEAVES]
+        return [(way, len(request.sent)) for way in LEAVES]
     return [(way, at) for at in range(0, len(request.response if way in SENDS else request.sent) + 1, each)]
 
 
@@ -104,7 +105,7 @@ def faults(server, model, sent, cuts):
     """All that is wrong where a request fails in each of these ways, one after another."""
     found = []
     for way, at in cuts:
-        what = f"{told(sent)}, {way} behind byte {at}"
+        what = f"{request_title(sent)}, {way} behind byte {at}"
         wanted, got = model.meet(way, sent, at), server.meet(way, sent, at)
         found += [differing(f"{what}: it got", wanted or b"", got or b"")] if wanted != got else []
         wanted, got = model.look(), server.look()
@@ -119,6 +120,7 @@ class Server:
         self.port = port
 
     def look(self):
+        """What the server answers to a plain request."""
         return exchanged(self.port, [LOOK])[0]
 
     def meet(self, way, sent, at):
@@ -127,32 +129,32 @@ class Server:
             return exchanged(self.port, [sent])[0]
         if way in BEFORE:
             return self.before(way, sent[:at])
-        with connected(self.port) as it:
-            self.send(it, way, sent, at)
+        with connected(self.port) as connection:
+            self.send(connection, way, sent, at)
         return None
 
     def before(self, way, part):
         """Another client is served while this one sends and leaves."""
-        with connected(self.port) as other, connected(self.port) as it:
-            it.sendall(part)
-            reset(it) if way == RESET_BEFORE else it.close()
+        with connected(self.port) as other, connected(self.port) as connection:
+            connection.sendall(part)
+            reset(connection) if way == RESET_BEFORE else connection.close()
             other.sendall(LOOK)
             other.shutdown(socket.SHUT_WR)
             return read_to_end(other)[0]
 
-    def send(self, it, way, sent, at):
+    def send(self, connection, way, sent, at):
         """Sends this many bytes; the client that resets behind a body has taken the word to go on before it."""
         head = END.search(sent).end()
         if way == RESET and b"\r\nExpect:" in sent and at >= head:
-            it.sendall(sent[:head])
-            if received(it, len(CONTINUE)) != CONTINUE:
+            connection.sendall(sent[:head])
+            if received(connection, len(CONTINUE)) != CONTINUE:
                 raise Differs("no word to go on")
             sent, at = sent[head:], at - head
-        it.sendall(sent[:at])
+        connection.sendall(sent[:at])
         if way == RESET:
-            reset(it)
+            reset(connection)
         if way == ENDED:
-            it.shutdown(socket.SHUT_RDWR)
+            connection.shutdown(socket.SHUT_RDWR)
 
 
 class Serving:
@@ -180,19 +182,19 @@ class Serving:
         """How many times a request fails in a way, and all that is wrong."""
         self.file.write_bytes(request.disk)
         cuts, model = cuts_of(request, way, each), Model(request.state)
-        count = sum(3 if it in BEFORE else 2 for it, _ in cuts)
+        count = sum(3 if way in BEFORE else 2 for way, _ in cuts)
         environment = {**self.environment, "EACH": str(each)}
         environment |= CALLS.get(way, {})
         with served(self.program, self.file, count, environment) as port:
             found = faults(Server(port), model, request.sent, cuts)
         if state_on(self.file.read_bytes()) != model.source.state:
-            found.append(f"{told(request.sent)}, {way}: the file has another state at the end")
+            found.append(f"{request_title(request.sent)}, {way}: the file has another state at the end")
         return len(cuts), [*found, *self.later(model.source.state)]
 
     def later(self, state):
         """What is wrong with a run on the file behind it."""
         judge = LineJudge(Source(state, SIZE))
-        wanted = b"".join(judge.answer(it) for it in ASKED)
+        wanted = b"".join(judge.answer(request) for request in ASKED)
         how = {"input": b"\n".join(ASKED), "stdout": subprocess.PIPE, "timeout": SECONDS}
         got = subprocess.run([self.program, "run", self.file], **how).stdout
         return [differing("a later run", wanted, got)] if wanted != got else []

@@ -13,7 +13,7 @@ import os
 import pathlib
 import subprocess
 
-from tests.ends.failing_ends import SECONDS, ended, given, pipe, received, started, stream, wait_taken
+from tests.ends.failing_ends import SECONDS, ended, pipe, pipe_of, received, started, stream, wait_taken
 from tests.hostile.script_runs import differing
 from tests.program import MEMORY
 from tests.reading import crash_model, disk_judge, line_judge
@@ -41,7 +41,7 @@ Case = collections.namedtuple("Case", "script way at")
 # The status, the output and the messages, from how many to how many lines are done, and the longest output.
 Wanted = collections.namedtuple("Wanted", "status output messages least most longest", defaults=[None])
 # What was seen of a run: its status and ends, the state on its file, and what a later run wrote.
-Seen = collections.namedtuple("Seen", "status output messages state later")
+Outcome = collections.namedtuple("Outcome", "status output messages state later")
 
 
 class Script:
@@ -52,13 +52,14 @@ class Script:
         source = Source(crash_model.State(BASE, LIMIT), SIZE)
         judge = line_judge.Judge(source)
         self.lines, self.answers, self.states = line_judge.lines_of(self.data), [], [source.state]
-        for it in self.lines:
-            self.answers.append(judge.answer(it))
+        for line in self.lines:
+            self.answers.append(judge.answer(line))
             self.states.append(source.state)
         self.output = b"".join(self.answers)
         # Where each answer begins, and where each line ends.
-        self.begins = [len(b"".join(self.answers[:it])) for it in range(len(self.answers))]
-        self.ends = [len(b"".join(it + b"\n" for it in self.lines[: it + 1])) for it in range(len(self.lines))]
+        self.begins = [len(b"".join(self.answers[:number])) for number in range(len(self.answers))]
+        self.ends = [len(b"".join(line + b"\n" for line in self.lines[: number + 1]))
+                     for number in range(len(self.lines))]
 
     def answered_at(self, at):
         """The number of the line whose answer has this byte of the output."""
@@ -69,7 +70,7 @@ class Script:
         """A script that goes on behind this many lines, and the answers that it has to get."""
         judge = line_judge.Judge(Source(self.states[done], SIZE))
         lines = [*ASKED, *self.lines[done:], *ASKED]
-        return b"".join(it + b"\n" for it in lines), b"".join(judge.answer(it) for it in lines)
+        return b"".join(line + b"\n" for line in lines), b"".join(judge.answer(line) for line in lines)
 
 
 def cases_of(script):
@@ -86,8 +87,8 @@ def few_of(script):
     marks = {True: {0, *script.ends}, False: {*script.begins, len(script.output)}}
     for of_reads, places in marks.items():
         middles = {(a + b) // 2 for a, b in itertools.pairwise(sorted(places))}
-        marks[of_reads] = places | middles | {it - 1 for it in places}
-    return [it for it in cases_of(script) if it.at in marks[it.way in READS] or it.way == BY_ITS_READER]
+        marks[of_reads] = places | middles | {place - 1 for place in places}
+    return [case for case in cases_of(script) if case.at in marks[case.way in READS] or case.way == BY_ITS_READER]
 
 
 def wanted_of(case):
@@ -112,29 +113,29 @@ def wanted_of(case):
 def done_of(script, wanted, state):
     """The greatest number of lines, of those that may be done, that makes a state, or None."""
     numbers = range(wanted.most, wanted.least - 1, -1)
-    return next((it for it in numbers if script.states[it] == state), None)
+    return next((number for number in numbers if script.states[number] == state), None)
 
 
-def faults(case, seen):
+def faults(case, outcome):
     """All that is wrong with what was seen of a case."""
     wanted, found = wanted_of(case), []
-    if (seen.status, seen.messages) != (wanted.status, wanted.messages):
-        found.append(f"status {seen.status}, {seen.messages[:200]!r}")
-    if not seen.output.startswith(wanted.output) or not (wanted.longest or wanted.output).startswith(seen.output):
-        found.append(differing("the output", wanted.output, seen.output))
-    done = done_of(case.script, wanted, seen.state)
+    if (outcome.status, outcome.messages) != (wanted.status, wanted.messages):
+        found.append(f"status {outcome.status}, {outcome.messages[:200]!r}")
+    if not outcome.output.startswith(wanted.output) or not (wanted.longest or wanted.output).startswith(outcome.output):
+        found.append(differing("the output", wanted.output, outcome.output))
+    done = done_of(case.script, wanted, outcome.state)
     if done is None:
-        told = seen.state.status() if seen.state else None
-        return [*found, f"the file holds {told!r}, which {wanted.least} to {wanted.most} lines do not make"]
-    if seen.later != case.script.later(done)[1]:
-        found.append(differing(f"a later run, from line {done} on", case.script.later(done)[1], seen.later))
+        status = outcome.state.status() if outcome.state else None
+        return [*found, f"the file holds {status!r}, which {wanted.least} to {wanted.most} lines do not make"]
+    if outcome.later != case.script.later(done)[1]:
+        found.append(differing(f"a later run, from line {done} on", case.script.later(done)[1], outcome.later))
     return found
 
 
 def state_on(disk):
     """The state that these bytes of a file are, or None where they are none."""
-    verdict, it = disk_judge.told(disk)
-    return disk_judge.state_of(disk, it) if verdict == disk_judge.OPENS else None
+    verdict, source = disk_judge.verdict_of(disk)
+    return disk_judge.state_of(disk, source) if verdict == disk_judge.OPENS else None
 
 
 class Runs:
@@ -144,22 +145,22 @@ class Runs:
         self.program, self.environment = program, environment
         self.file = pathlib.Path(folder, f"{os.getpid()}.disk")
         self.file.unlink(missing_ok=True)
-        self.ran("format", self.file, *MEMORY[1:])
+        self.run("format", self.file, *MEMORY[1:])
         self.new, self.known, self.states = self.file.read_bytes(), {}, {}
 
-    def ran(self, *words, data=b""):
+    def run(self, *words, data=b""):
         """What a run writes to both ends, where none fails."""
         how = {"input": data, "stdout": subprocess.PIPE, "stderr": subprocess.STDOUT, "timeout": SECONDS}
         return subprocess.run([self.program, *words], **how).stdout
 
-    def seen(self, case):
+    def outcome(self, case):
         """What comes of a case."""
         self.file.write_bytes(self.new)
-        run = self.reading if case.way in READS else self.cut if case.way.startswith("cut") else self.left
+        run = self.reading if case.way in READS else self.cut if case.way.startswith("cut") else self.leaving
         status, output, messages = run(case)
         state, disk = self.state()
         done = done_of(case.script, wanted_of(case), state)
-        return Seen(status, output, messages, state, None if done is None else self.later(case.script, done, disk))
+        return Outcome(status, output, messages, state, None if done is None else self.later(case.script, done, disk))
 
     def state(self):
         """The state on the file, or None where it holds none, and the file's bytes."""
@@ -172,10 +173,11 @@ class Runs:
         """What a later run writes. On equal files it is run once."""
         key = script.name, done, disk
         if key not in self.known:
-            self.known[key] = self.ran("run", self.file, data=script.later(done)[0])
+            self.known[key] = self.run("run", self.file, data=script.later(done)[0])
         return self.known[key]
 
     def start(self, stdin, stdout, environment=None):
+        """A run of the program with these ends."""
         return started([self.program, "run", str(self.file)], environment, stdin=stdin, stdout=stdout)
 
     def reading(self, case):
@@ -203,13 +205,13 @@ class Runs:
         environment |= {"BY_LINE": "1"} if case.way.endswith("a line read") else {}
         environment |= {"ONCE": "1"} if case.way == ONCE else {}
         answers, output = pipe()
-        with given(case.script.data) as lines, answers, output, self.start(lines, output, environment) as child:
+        with pipe_of(case.script.data) as lines, answers, output, self.start(lines, output, environment) as child:
             output.close()
             found = answers.read()
             status, messages = ended(child)
         return status, found, messages
 
-    def left(self, case):
+    def leaving(self, case):
         """Output whose reader leaves behind a byte, and then sends one line more."""
         script, way, at = case
         leave, (answers, output) = (reset, stream()) if way == BY_ITS_READER else (close, pipe())
@@ -232,4 +234,5 @@ class Runs:
 
 
 def close(end):
+    """Closes an end, as its reader leaves."""
     end.close()

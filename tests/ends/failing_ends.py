@@ -159,7 +159,7 @@ def ended(child):
     return child.returncode, messages
 
 
-def given(data):
+def pipe_of(data):
     """The reading end of a pipe that holds these bytes, and ends behind them."""
     reading, writing = pipe()
     writing.write(data)

@@ -1,9 +1,9 @@
 """The disks of the hunt (tests/hostile/disks.py), each made anew from its number and the seed.
 
-Each kind has a share of a hundred numbers. Four kinds go through all that they have, in an order that is spread out, and then on at
-random: each bit of a small disk, each edge of each field, each bit of each field, each cut of a part. The shares are such that
-100,000 disks have them all. Where a field is changed or a part cut, what points to it is spelled behind it, so lengths and SHA-256
-agree, and one rule stands alone.
+Each kind has a share of a hundred numbers. Four kinds go through all that they have, in an order that is spread out,
+and then on at random: each bit of a small disk, each edge of each field, each bit of each field, each cut of a part.
+The shares are such that 100,000 disks have them all. Where a field is changed or a part cut, what points to it is
+spelled behind it, so lengths and SHA-256 agree, and one rule stands alone.
 """
 import math
 import random
@@ -22,7 +22,8 @@ STEPS = (7_919, 7_927)
 # 9999-12-31T23:59:59.999Z, and around the moments of the spelled sources.
 MOMENTS = (1, 999, 1000, 1001, 1003, 1004, 1007, 1008, 2**63, 253_402_300_799_999, 253_402_300_800_000, 2**64 - 2)
 # Blocks of the spelled sources, lengths of bodies and of pages, and the bounds of items, blocks and bodies.
-NUMBERS = (*range(1, 17), 511, 512, 513, 1024, 49_999, 50_000, 50_001, 8_388_607, 8_388_608, 16_777_216, 16_777_217, 2**31)
+NUMBERS = (*range(1, 17), 511, 512, 513, 1024, 49_999, 50_000, 50_001, 8_388_607, 8_388_608, 16_777_216, 16_777_217,
+           2**31)
 MARKS = {1: (1, 2, 3, 4, 47, 127, 128, 240, 241), 2: (1, 2, 3_999, 4_000, 4_001), 4: NUMBERS, 8: MOMENTS}
 # How many parts may have been dropped where some were, and one more.
 FIRSTS = (2, 3, 7, 8)
@@ -32,68 +33,78 @@ SIZES = (0, 1, 512, 513, 1_024, 7_168, 65_536, 16_777_216, 16_777_217, 2**32 - 1
 BAD_NAMES = [b"", b"a//b", b"a/", b"/a", b"/", b".", b"..", b"a/..", b"./a", b"a/./b", b"%", b"%4", b"%4g"]
 BAD_NAMES += [b"a b", b"a\0", b"\xff", b"n" * 241, b"n" * 255]
 BAD_TYPES = [b"", b"a", b"a/", b"/b", b"a/b ", b"a b/c", b"a/b\x7f", b"a/b\n", b"a/\xff", b"x/" + b"y" * 99, b"a" * 255]
-BAD_BASES = [b"", b"http://", b"https://", b"http://a/", b"ftp://abc", b"HTTP://a", b"http://a?", b"http://a b", b"https://" + b"a" * 121]
+BAD_BASES = [b"", b"http://", b"https://", b"http://a/", b"ftp://abc", b"HTTP://a", b"http://a?", b"http://a b",
+             b"https://" + b"a" * 121]
 TEXTS = {"name": NAMES + BAD_NAMES, "type": TYPES + BAD_TYPES, "base": BASES + BAD_BASES}
 
 
 def numbers(width, value, more=()):
     """The edges of a number of this many bytes that has this value."""
     every = {0, *more, *MARKS[width], value - 1, value + 1, 2 ** (8 * width) - 1}
-    return [number(it, width) for it in sorted(every - {value}) if 0 <= it < 2 ** (8 * width)]
+    return [number(edge, width) for edge in sorted(every - {value}) if 0 <= edge < 2 ** (8 * width)]
 
 
 def set_to(field, value):
+    """The change that sets a field to these bytes."""
     return f"{field}=x{value.hex()}"
 
 
 def edges(part, field, value):
-    """The changes that set a field to each of its edges. A text has its length set right; a page that it makes longer lies behind all others."""
+    """The changes that set a field to each of its edges. A text has its length set right; a page that it makes longer
+    lies behind all others.
+    """
     where, name = f"{part}.{field}", field.rsplit(".")[-1]
     if name in TEXTS:
-        texts = [it for it in TEXTS[name] if it != value]
+        texts = [text for text in TEXTS[name] if text != value]
         moved = [f"{part}.block=12"] if part not in ("slot", "spare") else []
-        return [[set_to(f"{where}_length", number(len(it), 1)), set_to(where, it), *moved] for it in texts]
+        return [[set_to(f"{where}_length", number(len(text), 1)), set_to(where, text), *moved] for text in texts]
     if name == "end":
-        return [[set_to(where, it)] for it in (b"\0", b"\1" * 44, b"\xff" * 600)]
+        return [[set_to(where, data)] for data in (b"\0", b"\1" * 44, b"\xff" * 600)]
     if name in ("md5", "sha256"):
-        return [[set_to(where, it)] for it in (bytes(len(value)), b"\xff" * len(value), bytes([value[0] ^ 1]) + value[1:])]
+        return [[set_to(where, data)]
+                for data in (bytes(len(value)), b"\xff" * len(value), bytes([value[0] ^ 1]) + value[1:])]
     more = FIRSTS if where == "directory.first" else ()
-    return [[set_to(where, it)] for it in numbers(len(value), int.from_bytes(value, "big"), more)]
+    return [[set_to(where, data)] for data in numbers(len(value), int.from_bytes(value, "big"), more)]
 
 
 def lengths(part, of):
     """The changes that set a length that has blocks beside it to each of its edges, and the blocks with it."""
-    pairs = [(f"{part}.{it}", f"{part}.{it.removesuffix('length')}blocks") for it in of if f"{it.removesuffix('length')}blocks" in of]
-    return [[f"{length}={size}", f"{blocks}={(size + BLOCK - 1) // BLOCK}"] for length, blocks in pairs if length != blocks for size in SIZES]
+    pairs = [(f"{part}.{field}", f"{part}.{field.removesuffix('length')}blocks") for field in of
+             if f"{field.removesuffix('length')}blocks" in of]
+    return [[f"{length}={size}", f"{blocks}={(size + BLOCK - 1) // BLOCK}"] for length, blocks in pairs
+            if length != blocks for size in SIZES]
 
 
 def an_edge_of(fields, rng):
     """The changes that set one of the fields to one of its edges."""
     part = rng.choice(list(fields))
     field, value = rng.choice(list(fields[part].items()))
-    return rng.choice([*edges(part, field, value), *lengths(part, {it: 0 for it in fields[part] if it.startswith(field.removesuffix("length"))})])
+    beside = {name: 0 for name in fields[part] if name.startswith(field.removesuffix("length"))}
+    return rng.choice([*edges(part, field, value), *lengths(part, beside)])
 
 
 def all_edges(fields):
-    single = [it for part, of in fields.items() for field, value in of.items() for it in edges(part, field, value)]
-    return single + [it for part, of in fields.items() for it in lengths(part, of)]
+    """The changes that set each field of each part to each of its edges."""
+    single = [edge for part, of in fields.items() for field, value in of.items() for edge in edges(part, field, value)]
+    return single + [edge for part, of in fields.items() for edge in lengths(part, of)]
 
 
 def with_bit(part, field, value, bit):
+    """The change that turns a bit of a field."""
     return [set_to(f"{part}.{field}", (int.from_bytes(value, "big") ^ (1 << bit)).to_bytes(len(value), "big"))]
 
 
 def a_bit_of(fields, rng):
     """The change that turns one bit of one of the fields that have any."""
     part = rng.choice(list(fields))
-    field, value = rng.choice([it for it in fields[part].items() if it[1]])
+    field, value = rng.choice([pair for pair in fields[part].items() if pair[1]])
     return with_bit(part, field, value, rng.randrange(8 * len(value)))
 
 
 def all_bits(fields):
     """Each field with each of its bits turned."""
     every = [(part, field, value) for part, of in fields.items() for field, value in of.items()]
-    return [with_bit(*it, bit) for it in every for bit in range(8 * len(it[2]))]
+    return [with_bit(*part, bit) for part in every for bit in range(8 * len(part[2]))]
 
 
 def cuts(part, of):
@@ -103,20 +114,23 @@ def cuts(part, of):
 
 
 def a_cut_of(fields, rng):
+    """The changes that cut one of the parts."""
     return rng.choice(cuts(*rng.choice(list(fields.items()))))
 
 
-CUTS = [(name, it) for name in ("sound", "two_change_pages") for part in SPELLED[name].fields().items() for it in cuts(*part)]
-EDGES = [(name, it) for name in any_sources.FIELDS for it in all_edges(SPELLED[name].fields())]
-BITS = [("sound", it) for it in all_bits(SPELLED["sound"].fields())]
+CUTS = [(name, cut) for name in ("sound", "two_change_pages") for part in SPELLED[name].fields().items()
+        for cut in cuts(*part)]
+EDGES = [(name, edge) for name in any_sources.FIELDS for edge in all_edges(SPELLED[name].fields())]
+BITS = [("sound", bit) for bit in all_bits(SPELLED["sound"].fields())]
 
 
 def spread(index, size):
     """A place below the size, each once in this many indices."""
-    return index * next(it for it in STEPS if math.gcd(it, size) == 1) % size
+    return index * next(step for step in STEPS if math.gcd(step, size) == 1) % size
 
 
 def turned(disk, bit):
+    """A disk with a bit turned."""
     return disk[: bit // 8] + bytes([disk[bit // 8] ^ (1 << bit % 8)]) + disk[bit // 8 + 1 :]
 
 
@@ -139,18 +153,21 @@ def of_all(every, otherwise, index, rng):
         return f"{name} {' '.join(changes)}", SPELLED[name](*changes)
     disk = any_sources.at_random(rng)
     changes = otherwise(disk.fields(), rng)
-    return f"a random source, {' '.join(changes)}", disk(*[it for it in changes if ".block=" not in it])
+    return f"a random source, {' '.join(changes)}", disk(*[change for change in changes if ".block=" not in change])
 
 
 def a_bit_turned_and_righted(index, rng):
+    """A bit of a field is turned, and what points to it agrees."""
     return of_all(BITS, a_bit_of, index, rng)
 
 
 def an_edge(index, rng):
+    """A field is set to an edge."""
     return of_all(EDGES, an_edge_of, index, rng)
 
 
 def a_part_cut(index, rng):
+    """A part is cut."""
     return of_all(CUTS, a_cut_of, index, rng)
 
 
@@ -160,18 +177,19 @@ def some_edges(index, rng):
     fields = SPELLED[name].fields()
     chosen = {}
     for _ in range(rng.randrange(2, 5)):
-        chosen |= {it.split("=")[0]: it for it in an_edge_of(fields, rng)}
+        chosen |= {change.split("=")[0]: change for change in an_edge_of(fields, rng)}
     if rng.random() < 0.4:
         moment = rng.choice(MOMENTS)
-        wide = [f"{part}.{it}" for part, of in fields.items() for it in of if it.rsplit(".")[-1] in WHENS]
-        chosen |= {it: f"{it}={moment}" for it in rng.sample(wide, min(len(wide), rng.randrange(1, 4)))}
+        wide = [f"{part}.{field}" for part, of in fields.items() for field in of if field.rsplit(".")[-1] in WHENS]
+        chosen |= {field: f"{field}={moment}" for field in rng.sample(wide, min(len(wide), rng.randrange(1, 4)))}
     return f"{name} {' '.join(chosen.values())}", SPELLED[name](*chosen.values())
 
 
 def truncated(index, rng):
     """Cut at any byte or next to the end of a block, and perhaps as long as it was, of zeros or ones."""
     disk = any_source(rng)()
-    ends = [rng.randrange(len(disk) + 1), max(0, rng.randrange(len(disk) // BLOCK + 1) * BLOCK + rng.choice((-1, 0, 1)))]
+    ends = [rng.randrange(len(disk) + 1),
+            max(0, rng.randrange(len(disk) // BLOCK + 1) * BLOCK + rng.choice((-1, 0, 1)))]
     size, fill = rng.choice(ends), rng.choice((None, None, b"\0", b"\xff"))
     cut = disk[:size]
     return f"a source cut at {size}, filled with {fill}", cut if fill is None else cut.ljust(len(disk), fill)
@@ -185,7 +203,7 @@ def doubled(index, rng):
     run = rng.randrange(1, 5)
     ways = [
         lambda: disk + disk,
-        lambda: b"".join(it + it for it in blocks),
+        lambda: b"".join(block + block for block in blocks),
         lambda: disk[: at * BLOCK] + disk,
         lambda: b"".join(blocks[:to] + blocks[at : at + run] + blocks[to + run :]),
         lambda: disk[:BLOCK] + disk[:BLOCK] + disk[2 * BLOCK :],
@@ -195,7 +213,7 @@ def doubled(index, rng):
 
 def with_slot(disk, at, source, generation):
     """A disk with the open root of another one in one of its slots."""
-    opened = next(it for it in (source[:BLOCK], source[BLOCK : 2 * BLOCK]) if it[0] == 1)
+    opened = next(slot for slot in (source[:BLOCK], source[BLOCK : 2 * BLOCK]) if slot[0] == 1)
     return disk[: at * BLOCK] + opened[:2] + number(generation, 8) + opened[10:] + disk[(at + 1) * BLOCK :]
 
 
@@ -214,12 +232,14 @@ def spliced(index, rng):
 
 
 def any_number(rng, width):
+    """A number at an edge of its width, or any other."""
     return rng.choice((*numbers(width, 0), rng.randbytes(width)))
 
 
 def any_extent(rng):
     """Blocks, or whatever 8 bytes say."""
-    return number(rng.randrange(20)) + number(rng.randrange(4)) if rng.random() < 0.8 else any_number(rng, 4) + any_number(rng, 4)
+    return number(
+        rng.randrange(20)) + number(rng.randrange(4)) if rng.random() < 0.8 else any_number(rng, 4) + any_number(rng, 4)
 
 
 def any_page(rng, kind):
@@ -232,13 +252,13 @@ def any_page(rng, kind):
         return number(kind, 1) + count + rng.randbytes(rng.randrange(400))
     body = rng.randbytes(rng.choice((0, 5, 513)))
     if kind == RECORDS:
-        items = [record_fields(it, body, 1001 + i, 9 + 2 * i) for i, it in enumerate(names)]
+        items = [record_fields(name, body, 1001 + i, 9 + 2 * i) for i, name in enumerate(names)]
     else:
-        items = [change_fields(rng.choice((1, 2, 3)), it, 1001 + i, body) for i, it in enumerate(names)]
-    for it in items:
+        items = [change_fields(rng.choice((1, 2, 3)), name, 1001 + i, body) for i, name in enumerate(names)]
+    for item in items:
         if rng.random() < 0.2:
-            field = rng.choice(list(it))
-            it[field] = rng.choice((rng.randbytes(len(it[field])), any_number(rng, 1), b""))
+            field = rng.choice(list(item))
+            item[field] = rng.choice((rng.randbytes(len(item[field])), any_number(rng, 1), b""))
     return number(kind, 1) + count + b"".join(map(spelled, items))
 
 
@@ -256,12 +276,15 @@ def behind_a_right_root(index, rng):
     if rng.random() < 0.3:
         directory = random_directory(rng)
     else:
-        kinds = {name: kind for name, kind in (("held", RECORDS), ("changes", CHANGES), ("listed", RECORDS)) if rng.random() < 0.7}
+        kinds = {name: kind for name, kind in (("held", RECORDS), ("changes", CHANGES), ("listed", RECORDS))
+                 if rng.random() < 0.7}
         pages = [(3 + 2 * i, any_page(rng, kind)) for i, kind in enumerate(kinds.values())]
-        entries = {name: entry_fields(*it) for name, it in zip(kinds, pages)}
-        directory = spelled(directory_fields(header_fields(last=rng.choice((1004, 1004, 1004, 1005)), start=1000, at=1004), entries))
+        entries = {name: entry_fields(*page) for name, page in zip(kinds, pages)}
+        header = header_fields(last=rng.choice((1004, 1004, 1004, 1005)), start=1000, at=1004)
+        directory = spelled(directory_fields(header, entries))
     slot = spelled(slot_fields(1, 1, 2, directory, rng.choice((OLD_VERSION, *7 * (VERSION,)))))
-    return "random bytes behind a right root", laid_out(16, [(9, rng.randbytes(6 * BLOCK)), (0, slot), (2, directory), *pages])
+    parts = [(9, rng.randbytes(6 * BLOCK)), (0, slot), (2, directory), *pages]
+    return "random bytes behind a right root", laid_out(16, parts)
 
 
 def random_source(index, rng):
@@ -269,7 +292,7 @@ def random_source(index, rng):
     disk = any_sources.at_random(rng)
     fields, chosen = disk.fields(), {}
     for _ in range(rng.choice((0, 0, 1, 1, 2))):
-        chosen |= {it.split("=")[0]: it for it in an_edge_of(fields, rng) if ".block=" not in it}
+        chosen |= {change.split("=")[0]: change for change in an_edge_of(fields, rng) if ".block=" not in change}
     return f"a random source, {' '.join(chosen.values()) or 'as it is'}", disk(*chosen.values())
 
 
@@ -298,7 +321,8 @@ SHARES = {
     doubled: 2,
 }
 # The kinds of a hundred numbers, spread out.
-TURNS = [it for _, it in sorted((((i + 0.5) / share, k), kind) for k, (kind, share) in enumerate(SHARES.items()) for i in range(share))]
+TURNS = [turn for _, turn in sorted((((i + 0.5) / share, k), kind) for k, (kind, share) in enumerate(SHARES.items())
+                                    for i in range(share))]
 
 
 def disk_of(seed, at):

@@ -1,6 +1,7 @@
 """Sound sources for the hunt: small ones field by field, what commands leave, and random ones.
 
-Each is a function that spells a disk with changes (damaged_disks.py), or without any where it is not spelled field by field.
+Each is a function that spells a disk with changes (damaged_disks.py), or without any where it is not spelled field by
+field.
 """
 import collections
 
@@ -9,12 +10,15 @@ from tests.reading.disk_formats import BLOCK, CHANGES, CREATED, DELETED, OLD_VER
 from tests.reading.disk_formats import VERSION, change_fields, page_fields, record_fields, spelled
 
 # Those whose every field is set to each of its edges.
-FIELDS = ["sound", "shared", "unpublished", "unchanged", "empty", "two_held_pages", "two_change_pages", "two_listed_pages", "both_shared"]
-FIELDS += ["first_shared", "last_shared", "none_shared", "held_past_a_block", "changes_past_a_block", "listed_past_a_block"]
+FIELDS = ["sound", "shared", "unpublished", "unchanged", "empty", "two_held_pages", "two_change_pages",
+          "two_listed_pages", "both_shared"]
+FIELDS += ["first_shared", "last_shared", "none_shared", "held_past_a_block", "changes_past_a_block",
+           "listed_past_a_block"]
 FIELDS += ["part_dropped", "all_dropped", "empty_of_version_1"]
 SPELLED = {name: damaged_disks.DISKS[name] for name in [*FIELDS, "sound_of_version_1", "five_of_version_1"]}
 WHOLE = [*commanded_disks.DISKS.values(), made_disks.DISKS["lists_of_one_page"], made_disks.DISKS["two_puts_4096"]]
-NAMES = [b"%41", b"A", b"a", b"a/b", b"a/b/c", b"b", b"x&y", b"o'k", b"x&amp;y", b"p(1)", b"q;r=s,t", b"m@h:1", b"~u_v-w.x", b"...", b"n" * 240]
+NAMES = [b"%41", b"A", b"a", b"a/b", b"a/b/c", b"b", b"x&y", b"o'k", b"x&amp;y", b"p(1)", b"q;r=s,t", b"m@h:1",
+         b"~u_v-w.x", b"...", b"n" * 240]
 TYPES = [b"text/plain", b'text/html; charset="utf-8"', b"a/b", b"a/b; x=<y>&'z'", b"x/" + b"y" * 98]
 BASES = [b"http://127.0.0.1:8080", b"http://a", b"https://a.b/c", b"https://" + b"a" * 120]
 LENGTHS = (0, 0, 1, 5, 40, 511, 512, 513, 1024, 1500)
@@ -29,33 +33,36 @@ class Commands:
 
     def __init__(self, rng, count, limit, version):
         self.start = self.begin = self.last = self.at = rng.choice((0, 1_000, 951_782_400_000))
-        self.number, self.held, self.changes, self.listed, self.is_listed = 0, {}, [], {}, False
+        self.number, self.resources, self.changes, self.listed, self.is_listed = 0, {}, [], {}, False
         self.limit, self.version, self.first = limit, version, 0
         for _ in range(count):
             self.last += rng.choice(LATER)
             kind, name = rng.random(), rng.choice(NAMES)
             if kind < 0.15:
                 self.publish()
-            elif kind < 0.35 and name in self.held:
-                del self.held[name]
+            elif kind < 0.35 and name in self.resources:
+                del self.resources[name]
                 self.change(change_fields(DELETED, name, self.last))
             else:
                 self.put(Put(name, rng.choice(TYPES), rng.randbytes(rng.choice(LENGTHS)), self.last))
 
     def publish(self):
-        moments = [int.from_bytes(it["moment"], "big") for it in self.changes]
-        parts = 0 if self.version == OLD_VERSION else sum(it <= self.at for it in moments) // self.limit
+        """Publishes, and drops the parts that need not be kept."""
+        moments = [int.from_bytes(change["moment"], "big") for change in self.changes]
+        parts = 0 if self.version == OLD_VERSION else sum(moment <= self.at for moment in moments) // self.limit
         count = parts * self.limit
         self.first, self.begin = self.first + parts, moments[count - 1] if count else self.begin
         self.changes = self.changes[count:]
-        self.number, self.at, self.listed, self.is_listed = self.number + 1, self.last, self.held.copy(), True
+        self.number, self.at, self.listed, self.is_listed = self.number + 1, self.last, self.resources.copy(), True
 
-    def put(self, it):
-        what = UPDATED if it.name in self.held else CREATED
-        self.held[it.name] = it
-        self.change(change_fields(what, it.name, it.moment, it.body, it.kind))
+    def put(self, resource):
+        """Puts a resource."""
+        what = UPDATED if resource.name in self.resources else CREATED
+        self.resources[resource.name] = resource
+        self.change(change_fields(what, resource.name, resource.moment, resource.body, resource.kind))
 
     def change(self, fields):
+        """Adds a change, so the list is not that of what is held."""
         self.changes.append(fields)
         self.is_listed = False
 
@@ -67,6 +74,7 @@ class Places:
         self.rng, self.next = rng, 2
 
     def of(self, length):
+        """The first block of this many bytes, behind those before it or further off."""
         first = self.next + self.rng.choice((0, 0, 0, 1, 3))
         self.next = first + (length + BLOCK - 1) // BLOCK
         return first
@@ -74,33 +82,36 @@ class Places:
 
 def records_of(puts, firsts):
     """The fields of records in the order of their names."""
-    return [record_fields(it.name, it.body, it.moment, firsts.get(it, 2), it.kind) for _, it in sorted(puts.items())]
+    return [record_fields(put.name, put.body, put.moment, firsts.get(put, 2), put.kind)
+            for _, put in sorted(puts.items())]
 
 
 def pages_of(rng, kind, items, names):
     """One page of these items or two, by the names that they have in a disk's spelling."""
     cut = rng.randrange(1, len(items)) if len(items) > 1 and rng.random() < 0.5 else len(items)
-    parts = [it for it in (items[:cut], items[cut:]) if it]
-    return {name: page_fields(kind, {f"{i}": it for i, it in enumerate(part)}) for name, part in zip(names, parts)}
+    parts = [part for part in (items[:cut], items[cut:]) if part]
+    return {name: page_fields(kind, {f"{i}": item for i, item in enumerate(part)}) for name, part in zip(names, parts)}
 
 
 def at_random(rng):
     """A function that spells what random commands led to."""
-    base, limit, version = rng.choice(BASES), rng.choice((2, 2, 3, 5, 4_000)), rng.choice((OLD_VERSION, *3 * (VERSION,)))
-    it, places = Commands(rng, rng.randrange(30), limit, version), Places(rng)
-    firsts = {put: places.of(len(put.body)) for put in it.held.values()}
-    pages = pages_of(rng, RECORDS, records_of(it.held, firsts), ("held", "more_held"))
-    if it.is_listed and rng.random() < 0.7:
+    base, limit, version = rng.choice(BASES), rng.choice((2, 2, 3, 5,
+                                                          4_000)), rng.choice((OLD_VERSION, *3 * (VERSION,)))
+    commands, places = Commands(rng, rng.randrange(30), limit, version), Places(rng)
+    firsts = {put: places.of(len(put.body)) for put in commands.resources.values()}
+    pages = pages_of(rng, RECORDS, records_of(commands.resources, firsts), ("held", "more_held"))
+    if commands.is_listed and rng.random() < 0.7:
         pages |= {name.replace("held", "listed"): name for name in pages}
     else:
-        pages |= pages_of(rng, RECORDS, records_of(it.listed, firsts), ("listed", "more_listed"))
-    pages |= pages_of(rng, CHANGES, it.changes, ("changes", "more_changes"))
+        pages |= pages_of(rng, RECORDS, records_of(commands.listed, firsts), ("listed", "more_listed"))
+    pages |= pages_of(rng, CHANGES, commands.changes, ("changes", "more_changes"))
     lengths = {name: len(spelled(page)) for name, page in pages.items() if not isinstance(page, str)}
     lengths["directory"] = (47 if version == OLD_VERSION else 63) + len(base) + 44 * len(pages)
     placed = [f"{name}.block={places.of(length)}" for name, length in lengths.items()]
-    header = {"start": it.start, "last": it.last, "publication": it.number, "at": it.at, "limit": limit, "base": base, "version": version}
+    header = {"start": commands.start, "last": commands.last, "publication": commands.number, "at": commands.at,
+              "limit": limit, "base": base, "version": version}
     if version != OLD_VERSION:
-        header |= {"first": it.first, "begin": it.begin}
+        header |= {"first": commands.first, "begin": commands.begin}
     bodies = [(first, put.body) for put, first in firsts.items()]
     disk = damaged_disks.source(pages, bodies, max(16, places.next + rng.randrange(3)), **header)
 

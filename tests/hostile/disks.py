@@ -1,22 +1,28 @@
 """Gives the built program disks that nobody should give it, and looks at what it makes of each.
 
-`make build` makes the program. Each disk is made from sound ones (tests/hostile/any_disks.py) by its number and the seed: a bit turned, a field at
-an edge with the digests set right again, cut, doubled, spliced from two, random bytes behind a right root, and more. The program is
-run on it once, with `status`, `verify`, and a `show` of each document and of each resource. A reader that shares nothing with the
-program (disk_judge.py) says what the disk is. Each run
-  - ends within a second of a processor (at one of three tries), with status 0 where the disk opens, and else with 1 and the right word;
-  - takes no more memory than 16 times its file, beside what the program takes for itself, which is measured first on an empty source
-    (tests/hostile/disk_runs.py has the numbers): it is given no more of an address space, so where it wants more it answers something else;
-  - answers, byte for byte, what the rules of docs/DISK.md, docs/SCRIPT.md and docs/DOCUMENTS.md have, names the damaged bodies,
-    and leaves the file as it was; and xml.etree reads each document.
+`make build` makes the program. Each disk is made from sound ones (tests/hostile/any_disks.py) by its number and the
+seed: a bit turned, a field at an edge with the digests set right again, cut, doubled, spliced from two, random bytes
+behind a right root, and more. The program is run on it once, with `status`, `verify`, and a `show` of each document and
+of each resource. A reader that shares nothing with the program (disk_judge.py) says what the disk is. Each run
+  - ends within a second of a processor (at one of three tries), with status 0 where the disk opens, and else with 1 and
+    the right word;
+  - takes no more memory than 16 times its file, beside what the program takes for itself, which is measured first on an
+    empty source (tests/hostile/disk_runs.py has the numbers): it is given no more of an address space, so where it
+    wants more it answers something else;
+  - answers, byte for byte, what the rules of docs/DISK.md, docs/SCRIPT.md and docs/DOCUMENTS.md have, names the damaged
+    bodies, and leaves the file as it was; and xml.etree reads each document.
 
-usage: python3 -m tests.hostile.disks [PROGRAM] [--short] [--disks N] [--first N] [--seed N] [--jobs N] [--no-verify] [--no-memory]
-       python3 -m tests.hostile.disks [PROGRAM] --disk N [--keep FILE]     one disk again by its number, and its bytes into a file
-       python3 -m tests.hostile.disks [PROGRAM] --measure                  how much memory the program takes for itself, and for some disks
-       python3 -m tests.hostile.disks --self-test                          whether wrong answers and wrong rules are noticed
-There are 100,000 disks where no number is given, and 3,000 in the short form, which begins with the self-test; `--first` is the number
-of the first. `--no-memory` is for a program that is built with a watch over its memory, `--no-verify` for one without that line. The
-last line is 'N disks, M wrong', and the exit status 1 where M is not 0.
+usage: python3 -m tests.hostile.disks [PROGRAM] [--short] [--disks N] [--first N] [--seed N] [--jobs N] [--no-verify]
+                                      [--no-memory]
+       python3 -m tests.hostile.disks [PROGRAM] --disk N [--keep FILE]     one disk again by its number, and its bytes
+                                                                           into a file
+       python3 -m tests.hostile.disks [PROGRAM] --measure                  how much memory the program takes for
+                                                                           itself, and for some disks
+       python3 -m tests.hostile.disks --self-test                          whether wrong answers and wrong rules are
+                                                                           noticed
+There are 100,000 disks where no number is given, and 3,000 in the short form, which begins with the self-test;
+`--first` is the number of the first. `--no-memory` is for a program that is built with a watch over its memory,
+`--no-verify` for one without that line. The last line is 'N disks, M wrong', and the exit status 1 where M is not 0.
 """
 import argparse
 import collections
@@ -30,7 +36,7 @@ import time
 from tests.hostile import any_disks, wrong_disks
 from tests.hostile.disk_runs import OF_A_BYTE, OF_ITSELF, STEPS, Room, faults, least, wanted_of
 from tests.program import PROGRAM, room_in_memory
-from tests.reading.disk_judge import OPENS, told
+from tests.reading.disk_judge import OPENS, verdict_of
 
 SEED = 20261125
 DISKS, SHORT = 100_000, 3_000
@@ -42,33 +48,33 @@ TOLD, TELLING = 20, 10_000
 MEASURED = 100
 
 
-def look(room, asked, number):
+def look(room, options, number):
     """The kind of a disk, whether it opens, and what is wrong with the run on it, or with the hunt itself."""
     what = "not made"
     try:
-        what, disk = any_disks.disk_of(asked.seed, number)
-        wanted = wanted_of(disk, asked.verify)
+        what, disk = any_disks.disk_of(options.seed, number)
+        wanted = wanted_of(disk, options.verify)
         return what, wanted.status == 0, faults(disk, wanted, room.run(disk, wanted.script))
     except Exception as fault:
         return what, False, [f"the hunt cannot tell: {fault!r}"]
 
 
-def look_at_piece(asked, folder, first):
+def look_at_piece(options, folder, first):
     """How many disks of each kind opened and did not, and those that went wrong."""
-    room, counts, wrong = Room(asked.program, folder, asked.itself), collections.Counter(), []
-    for number in range(first, min(first + PIECE, asked.first + asked.disks)):
-        what, opens, found = look(room, asked, number)
+    room, counts, wrong = Room(options.program, folder, options.itself), collections.Counter(), []
+    for number in range(first, min(first + PIECE, options.first + options.disks)):
+        what, opens, found = look(room, options, number)
         counts[what.split(":")[0], opens] += 1
         wrong += [(number, what, found)] if found else []
     return counts, wrong
 
 
-def hunt(asked, folder):
+def hunt(options, folder):
     """Looks at all disks. Gives how many went wrong."""
     counts, wrong = collections.Counter(), 0
-    with multiprocessing.Pool(asked.jobs) as pool:
-        work = functools.partial(look_at_piece, asked, folder)
-        for found, bad in pool.imap_unordered(work, range(asked.first, asked.first + asked.disks, PIECE)):
+    with multiprocessing.Pool(options.jobs) as pool:
+        work = functools.partial(look_at_piece, options, folder)
+        for found, bad in pool.imap_unordered(work, range(options.first, options.first + options.disks, PIECE)):
             counts += found
             for number, what, why in bad[: max(0, TOLD - wrong)]:
                 print(f"disk {number}, {what[:200]}\n  " + "\n  ".join(why), flush=True)
@@ -81,22 +87,22 @@ def hunt(asked, folder):
     return wrong
 
 
-def again(asked, folder):
+def again(options, folder):
     """One disk by its number."""
-    what, disk = any_disks.disk_of(asked.seed, asked.disk)
-    if asked.keep:
-        pathlib.Path(asked.keep).write_bytes(disk)
-    verdict, why = told(disk)
-    print(f"disk {asked.disk}, {what}\n{len(disk)} bytes: {verdict}{'' if verdict == OPENS else f', {why}'}")
-    found = look(Room(asked.program, folder, asked.itself), asked, asked.disk)[2]
-    print("".join(f"  {it}\n" for it in found), end="")
+    what, disk = any_disks.disk_of(options.seed, options.disk)
+    if options.keep:
+        pathlib.Path(options.keep).write_bytes(disk)
+    verdict, why = verdict_of(disk)
+    print(f"disk {options.disk}, {what}\n{len(disk)} bytes: {verdict}{'' if verdict == OPENS else f', {why}'}")
+    found = look(Room(options.program, folder, options.itself), options, options.disk)[2]
+    print("".join(f"  {fault}\n" for fault in found), end="")
     return len(found)
 
 
-def of_itself(asked, folder):
+def of_itself(options, folder):
     """The memory that the program takes for itself, which is what an empty source needs. None where it is too much."""
     disk = any_disks.SPELLED["empty"]()
-    found = least(Room(asked.program, folder), disk, wanted_of(disk, asked.verify))
+    found = least(Room(options.program, folder), disk, wanted_of(disk, options.verify))
     if found is None:
         print(f"the program does not answer an empty source in {OF_ITSELF} bytes of memory for itself")
     else:
@@ -104,51 +110,54 @@ def of_itself(asked, folder):
     return found
 
 
-def measure(asked, folder):
-    """Prints the most memory that some disks take, beside what the program takes for itself and a multiple of their file."""
-    disks = [any_disks.disk_of(asked.seed, it)[1] for it in range(MEASURED)]
-    room = Room(asked.program, folder)
-    took = [least(room, it, wanted_of(it, asked.verify)) for it in disks]
-    beside = [it - asked.itself - OF_A_BYTE * len(disk) for it, disk in zip(took, disks) if it is not None]
-    print(f"{MEASURED} disks took {max(beside)} bytes at most beside that and {OF_A_BYTE} times their file; {STEPS} are allowed")
-    return took.count(None)
+def measure(options, folder):
+    """Prints the most memory that disks take beside what the program takes for itself and a multiple of their file."""
+    disks = [any_disks.disk_of(options.seed, number)[1] for number in range(MEASURED)]
+    room = Room(options.program, folder)
+    sizes = [least(room, disk, wanted_of(disk, options.verify)) for disk in disks]
+    beside = [size - options.itself - OF_A_BYTE * len(disk) for size, disk in zip(sizes, disks) if size is not None]
+    print(f"{MEASURED} disks took {max(beside)} bytes at most beside that and {OF_A_BYTE} times their file; "
+          f"{STEPS} are allowed")
+    return sizes.count(None)
 
 
 def words():
-    it = argparse.ArgumentParser(usage="python3 -m tests.hostile.disks [PROGRAM] [--short] [--disks N] ..")
-    it.add_argument("program", nargs="?", default=str(PROGRAM))
-    it.add_argument("--short", action="store_true")
+    """The options of the command line."""
+    parser = argparse.ArgumentParser(usage="python3 -m tests.hostile.disks [PROGRAM] [--short] [--disks N] ..")
+    parser.add_argument("program", nargs="?", default=str(PROGRAM))
+    parser.add_argument("--short", action="store_true")
     for name in ("disks", "disk"):
-        it.add_argument(f"--{name}", type=int)
-    it.add_argument("--first", type=int, default=0)
-    it.add_argument("--seed", type=int, default=SEED)
-    it.add_argument("--jobs", type=int, default=len(os.sched_getaffinity(0)))
-    it.add_argument("--keep")
+        parser.add_argument(f"--{name}", type=int)
+    parser.add_argument("--first", type=int, default=0)
+    parser.add_argument("--seed", type=int, default=SEED)
+    parser.add_argument("--jobs", type=int, default=len(os.sched_getaffinity(0)))
+    parser.add_argument("--keep")
     for name in ("measure", "self-test"):
-        it.add_argument(f"--{name}", action="store_true")
+        parser.add_argument(f"--{name}", action="store_true")
     for name in ("verify", "memory"):
-        it.add_argument(f"--no-{name}", dest=name, action="store_false")
-    asked = it.parse_args()
-    asked.program = os.path.abspath(asked.program)
-    asked.disks = asked.disks or (SHORT if asked.short else DISKS)
-    return asked
+        parser.add_argument(f"--no-{name}", dest=name, action="store_false")
+    options = parser.parse_args()
+    options.program = os.path.abspath(options.program)
+    options.disks = options.disks or (SHORT if options.short else DISKS)
+    return options
 
 
 def main():
-    asked, started = words(), time.time()
+    """The hunt, one disk of it, a measure, or the self-test."""
+    options, started = words(), time.time()
     with room_in_memory("hostile-") as folder:
-        blind = wrong_disks.look(folder) if asked.short or asked.self_test else 0
-        if asked.self_test:
+        blind = wrong_disks.look(folder) if options.short or options.self_test else 0
+        if options.self_test:
             return 1 if blind else 0
-        asked.itself = of_itself(asked, folder) if asked.memory else None
-        if asked.memory and asked.itself is None:
+        options.itself = of_itself(options, folder) if options.memory else None
+        if options.memory and options.itself is None:
             return 1
-        if asked.measure or asked.disk is not None:
-            return 1 if (measure if asked.measure else again)(asked, folder) else 0
-        print(f"seed {asked.seed}", flush=True)
-        wrong = hunt(asked, folder)
+        if options.measure or options.disk is not None:
+            return 1 if (measure if options.measure else again)(options, folder) else 0
+        print(f"seed {options.seed}", flush=True)
+        wrong = hunt(options, folder)
     print(f"{time.time() - started:.0f} seconds")
-    print(f"{asked.disks} disks, {wrong} wrong")
+    print(f"{options.disks} disks, {wrong} wrong")
     return 1 if wrong or blind else 0
 
 

@@ -8,8 +8,10 @@ has (line_judge.py, front_model.py, crash_model.py), which shares nothing with t
 and it has to write no message.
 
 usage: python3 -m tests.hostile.lines [PROGRAM] [--short] [--lines N] [--seed N] [--jobs N]
-       python3 -m tests.hostile.lines [PROGRAM] --script N [--keep FILE]     one script again by its number, and its bytes into a file
-       python3 -m tests.hostile.lines --self-test                            whether wrong rules and wrong answers are noticed
+       python3 -m tests.hostile.lines [PROGRAM] --script N [--keep FILE]     one script again by its number, and its
+                                                                             bytes into a file
+       python3 -m tests.hostile.lines --self-test                            whether wrong rules and wrong answers are
+                                                                             noticed
 There are 100,000 lines at least where no number is given, and 2,000 in the short form, which begins with the
 self-test. The last line is 'N lines in M scripts, K wrong', and the exit status 1 where K is not 0.
 """
@@ -32,29 +34,29 @@ LINES, SHORT = 100_000, 2_000
 TOLD, TELLING = 20, 100
 
 
-def look(asked, folder, number):
+def look(options, folder, number):
     """How many lines a script has and how many are not refused, and what is wrong with its run or the hunt itself."""
     what = "not made"
     try:
-        made = made_scripts.script_of(asked.seed, number)
+        made = made_scripts.script_of(options.seed, number)
         what = made.what
         lines, answers = wanted_of(made)
-        taken = sum(not it.startswith(b"refused") for it in answers)
-        return number, what, len(lines), taken, faults(lines, answers, run(asked.program, folder, made))
+        taken = sum(not answer.startswith(b"refused") for answer in answers)
+        return number, what, len(lines), taken, faults(lines, answers, run(options.program, folder, made))
     except Exception as fault:
         return number, what, 0, 0, [f"the hunt cannot tell: {fault!r}"]
 
 
-def hunt(asked, folder):
+def hunt(options, folder):
     """Runs all scripts. Gives how many lines there were, and how many scripts went wrong."""
     counts, taken, lines, wrong = collections.Counter(), 0, 0, 0
-    with multiprocessing.Pool(asked.jobs) as pool:
-        work = functools.partial(look, asked, folder)
-        for number, what, count, accepted, found in pool.imap_unordered(work, range(asked.scripts), 4):
+    with multiprocessing.Pool(options.jobs) as pool:
+        work = functools.partial(look, options, folder)
+        for number, what, count, accepted, found in pool.imap_unordered(work, range(options.scripts), 4):
             lines, taken, wrong = lines + count, taken + accepted, wrong + bool(found)
             counts[what.split(",")[0]] += 1
             if found and wrong <= TOLD:
-                print(f"script {number}, {what}\n" + "\n".join(f"  {it}" for it in found), flush=True)
+                print(f"script {number}, {what}\n" + "\n".join(f"  {fault}" for fault in found), flush=True)
             if counts.total() % TELLING == 0:
                 print(f"{lines} lines so far, {wrong} scripts wrong", flush=True)
     print(", ".join(f"{kind}: {count} scripts" for kind, count in sorted(counts.items())))
@@ -62,47 +64,49 @@ def hunt(asked, folder):
     return lines, wrong
 
 
-def again(asked, folder):
+def again(options, folder):
     """One script by its number."""
-    made = made_scripts.script_of(asked.seed, asked.script)
-    if asked.keep:
-        pathlib.Path(asked.keep).write_bytes(made.data)
-    print(f"script {asked.script}, {made.what}: mem {made.size} {made.base} {made.limit}, {len(made.data)} bytes")
-    found = look(asked, folder, asked.script)[-1]
-    print("".join(f"  {it}\n" for it in found), end="")
+    made = made_scripts.script_of(options.seed, options.script)
+    if options.keep:
+        pathlib.Path(options.keep).write_bytes(made.data)
+    print(f"script {options.script}, {made.what}: mem {made.size} {made.base} {made.limit}, {len(made.data)} bytes")
+    found = look(options, folder, options.script)[-1]
+    print("".join(f"  {fault}\n" for fault in found), end="")
     return 1 if found else 0
 
 
 def words():
-    it = argparse.ArgumentParser(usage="python3 -m tests.hostile.lines [PROGRAM] [--short] [--lines N] ..")
-    it.add_argument("program", nargs="?", default=str(PROGRAM))
-    it.add_argument("--short", action="store_true")
-    it.add_argument("--self-test", action="store_true")
-    it.add_argument("--lines", type=int)
-    it.add_argument("--script", type=int)
-    it.add_argument("--seed", type=int, default=SEED)
-    it.add_argument("--jobs", type=int, default=len(os.sched_getaffinity(0)))
-    it.add_argument("--keep")
-    asked = it.parse_args()
-    asked.program = os.path.abspath(asked.program)
-    asked.lines = asked.lines or (SHORT if asked.short else LINES)
-    asked.scripts = -(-asked.lines // made_scripts.LINES_IN)
-    return asked
+    """The options of the command line."""
+    parser = argparse.ArgumentParser(usage="python3 -m tests.hostile.lines [PROGRAM] [--short] [--lines N] ..")
+    parser.add_argument("program", nargs="?", default=str(PROGRAM))
+    parser.add_argument("--short", action="store_true")
+    parser.add_argument("--self-test", action="store_true")
+    parser.add_argument("--lines", type=int)
+    parser.add_argument("--script", type=int)
+    parser.add_argument("--seed", type=int, default=SEED)
+    parser.add_argument("--jobs", type=int, default=len(os.sched_getaffinity(0)))
+    parser.add_argument("--keep")
+    options = parser.parse_args()
+    options.program = os.path.abspath(options.program)
+    options.lines = options.lines or (SHORT if options.short else LINES)
+    options.scripts = -(-options.lines // made_scripts.LINES_IN)
+    return options
 
 
 def main():
-    asked, started = words(), time.time()
-    blind = wrong_lines.look() if asked.short or asked.self_test else 0
-    if asked.self_test:
+    """The hunt, one script of it, or the self-test."""
+    options, started = words(), time.time()
+    blind = wrong_lines.look() if options.short or options.self_test else 0
+    if options.self_test:
         return 1 if blind else 0
     with room_in_memory("hostile-") as folder:
-        if asked.script is not None:
-            return again(asked, folder)
-        print(f"seed {asked.seed}", flush=True)
-        lines, wrong = hunt(asked, folder)
+        if options.script is not None:
+            return again(options, folder)
+        print(f"seed {options.seed}", flush=True)
+        lines, wrong = hunt(options, folder)
     print(f"{time.time() - started:.0f} seconds")
-    print(f"{lines} lines in {asked.scripts} scripts, {wrong} wrong")
-    return 1 if wrong or blind or lines < asked.lines else 0
+    print(f"{lines} lines in {options.scripts} scripts, {wrong} wrong")
+    return 1 if wrong or blind or lines < options.lines else 0
 
 
 if __name__ == "__main__":

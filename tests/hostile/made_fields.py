@@ -29,9 +29,9 @@ BAD_PLACES = [
 ]
 ALL_PLACES = PLACES + BAD_PLACES
 HEADS = [b"/.well-known/resourcesync", b"/capabilitylist.xml", b"/resourcelist.xml", b"/changelist.xml"]
-PARTS = [b"/changelist/%s.xml" % it for it in ALL_PLACES]
-PARTS += [b"/resourcelist/%s/%s.xml" % it for it in itertools.product(ALL_PLACES, PLACES[:2])]
-PARTS += [b"/resourcelist/%s/%s.xml" % it for it in itertools.product(PLACES[:2], ALL_PLACES)]
+PARTS = [b"/changelist/%s.xml" % place for place in ALL_PLACES]
+PARTS += [b"/resourcelist/%s/%s.xml" % places for places in itertools.product(ALL_PLACES, PLACES[:2])]
+PARTS += [b"/resourcelist/%s/%s.xml" % places for places in itertools.product(PLACES[:2], ALL_PLACES)]
 OTHER_PATHS = [
     b"", b"/", b"//", b"*", b"/resource", b"resource/a", b"/Resource/a", b"//resource/a", b"resourcelist.xml",
     b"/resourcelist", b"/resourcelist/", b"/resourcelist.xml/", b"/resourcelist.XML", b"/Resourcelist.xml",
@@ -44,8 +44,9 @@ OTHER_PATHS = [
 ]
 PATHS = [*HEADS, *PARTS, *OTHER_PATHS, b"/publish"]
 # Bytes that mean something to a parser, and some that mean nothing anywhere.
-MARKS = [bytes([it]) for it in b"\0\x01\t\n\x0b\x0c\r \"#%&'*+,-./0:;<=>?@Aaz\x7f\x80\xc3\xff"]
-WAYS = ["cut", "removed", "doubled", *(("set", it) for it in MARKS), *(("put in", it) for it in MARKS), *range(8)]
+MARKS = [bytes([byte]) for byte in b"\0\x01\t\n\x0b\x0c\r \"#%&'*+,-./0:;<=>?@Aaz\x7f\x80\xc3\xff"]
+WAYS = ["cut", "removed", "doubled"]
+WAYS += [*(("set", mark) for mark in MARKS), *(("put in", mark) for mark in MARKS), *range(8)]
 
 
 def changed(data, at, way):
@@ -64,7 +65,7 @@ def changed(data, at, way):
 
 def all_changes(count, lengths):
     """Each change of each of this many texts of these lengths, as the text's number, the place and the way."""
-    return [(it, at, way) for it in range(count) for at in range(lengths[it]) for way in WAYS]
+    return [(template, at, way) for template in range(count) for at in range(lengths[template]) for way in WAYS]
 
 
 def scribbled(rng, data):
@@ -98,9 +99,9 @@ def pieces_of(rng, data, way):
         return [data]
     if way == "bytes":
         return [data[at : at + 1] for at in range(len(data))]
-    most, found, at = rng.choice((2, 7, 60, 700)), [], 0
+    limit, found, at = rng.choice((2, 7, 60, 700)), [], 0
     while at < len(data):
-        size = rng.randrange(1, most + 1)
+        size = rng.randrange(1, limit + 1)
         found.append(data[at : at + size])
         at += size
     return found

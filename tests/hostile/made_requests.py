@@ -84,11 +84,12 @@ VALUES = {
 
 def request(method=b"GET", target=b"/resource/a", version=b"HTTP/1.1", fields=(HOST,), body=b"", end=b"\r\n"):
     """The bytes of a request."""
-    lines = [b"%s %s %s" % (method, target, version), *(b"%s: %s" % it for it in fields), b""]
-    return b"".join(it + end for it in lines) + body
+    lines = [b"%s %s %s" % (method, target, version), *(b"%s: %s" % field for field in fields), b""]
+    return b"".join(line + end for line in lines) + body
 
 
 def put(*fields, target=b"/resource/a", version=b"HTTP/1.1", body=b"abc", length=b"3"):
+    """A put, lawful but for what is set otherwise."""
     return request(b"PUT", target, version, [HOST, (b"Content-Length", length), *fields], body)
 
 
@@ -105,6 +106,7 @@ def of_length(length, method, end, ends):
 
 
 def of_fields(count, method, field=b"A: b\r\n"):
+    """A head of this many fields."""
     return b"%s /resource/a HTTP/1.0\r\n%sHost: a\r\n\r\n" % (method, field * (count - 1))
 
 
@@ -112,46 +114,51 @@ def edges_of_fields():
     """One field, or two of a name, at each edge."""
     methods, versions = (b"GET", b"HEAD", b"PUT", b"POST", b"DELETE"), VERSIONS[:2]
     counts = [[HOST] * count for count in range(4)]
-    counts += [[it] for it in itertools.product((b"hOST", b"Hosts", b"Hos", b"HOST"), (b"", b"a b"))]
-    found = [request(method, version=it, fields=fields) for method in methods for it in versions for fields in counts]
-    lengths = [(b"cONTENT-lENGTH", it) for it in LENGTHS]
-    found += [request(method, fields=[HOST, it], body=b"abc") for method in methods[1:3] for it in lengths]
-    found += [put((b"Content-Length", it)) for it in LENGTHS[:4]]
+    counts += [[field] for field in itertools.product((b"hOST", b"Hosts", b"Hos", b"HOST"), (b"", b"a b"))]
+    found = [request(method, version=version, fields=fields)
+             for method in methods for version in versions for fields in counts]
+    lengths = [(b"cONTENT-lENGTH", length) for length in LENGTHS]
+    found += [request(method, fields=[HOST, length], body=b"abc") for method in methods[1:3] for length in lengths]
+    found += [put((b"Content-Length", length)) for length in LENGTHS[:4]]
     encodings = [*itertools.product((b"TE", b"transfer-ENCODING"), ENCODINGS)]
-    found += [request(method, fields=[HOST, it]) for method in methods[:3] for it in encodings]
-    found += [put((b"Content-Type", it)) for it in TYPES + BAD_TYPES]
-    found += [put((b"Content-Type", b"a/b"), (b"content-type", it)) for it in (b"a/b", b"c/d", b"")]
+    found += [request(method, fields=[HOST, encoding]) for method in methods[:3] for encoding in encodings]
+    found += [put((b"Content-Type", kind)) for kind in TYPES + BAD_TYPES]
+    found += [put((b"Content-Type", b"a/b"), (b"content-type", kind)) for kind in (b"a/b", b"c/d", b"")]
     every = itertools.product(EXPECTATIONS, versions, (b"0", b"3", b"16777216", b"16777217"))
-    found += [put((b"Expect", it), version=version, length=length) for it, version, length in every]
+    found += [put((b"Expect", value), version=version, length=length) for value, version, length in every]
     found += [put((b"Expect", b"x"), (b"EXPECT", b"100-continue"))]
     return found + [put((b"Expect", b"100-continue"), (b"Expect", b"x"))]
 
 
 def edges_of_groups():
     """Posted groups, each with one part at its edge."""
-    lines = (b"", b"\n", b"\r\n", b"put a - a/b", b"put a - a/b\n", b"put a - a/b\r\n", b"put a - a/b\r", b"put a - a/b\n\n")
-    lines += (b"delete none", b"put a 6 a/b\nput", b"put a - a\nput a 6 a/b", b"at 5", b"publish", b"group 1\nput a - a/b")
+    lines = (b"", b"\n", b"\r\n", b"put a - a/b", b"put a - a/b\n", b"put a - a/b\r\n", b"put a - a/b\r",
+             b"put a - a/b\n\n")
+    lines += (b"delete none", b"put a 6 a/b\nput", b"put a - a\nput a 6 a/b", b"at 5", b"publish",
+              b"group 1\nput a - a/b")
     lines += tuple(b"put a - a/b\n" * count for count in (16, 17, 40))
-    found = [request(b"POST", b"/group", fields=[HOST, (b"Content-Length", b"%d" % len(it))], body=it) for it in lines]
-    lengths = [(b"Content-Length", it) for it in LENGTHS]
-    found += [request(b"POST", b"/group", fields=[HOST, it], body=b"put a - a/b") for it in lengths]
-    found += [request(it, b"/group", fields=[HOST, (b"Content-Length", b"0")]) for it in METHODS]
-    kinds = [(b"Content-Type", it) for it in BAD_TYPES]
-    return found + [request(b"POST", b"/group", fields=[HOST, (b"Content-Length", b"11"), it], body=b"put a - a/b") for it in kinds]
+    found = [request(b"POST", b"/group", fields=[HOST, (b"Content-Length", b"%d" % len(body))], body=body)
+             for body in lines]
+    lengths = [(b"Content-Length", length) for length in LENGTHS]
+    found += [request(b"POST", b"/group", fields=[HOST, length], body=b"put a - a/b") for length in lengths]
+    found += [request(method, b"/group", fields=[HOST, (b"Content-Length", b"0")]) for method in METHODS]
+    kinds = [(b"Content-Type", kind) for kind in BAD_TYPES]
+    return found + [request(b"POST", b"/group", fields=[HOST, (b"Content-Length", b"11"), kind], body=b"put a - a/b")
+                    for kind in kinds]
 
 
 def edges_of_heads():
     """Heads that are too long, or that have too many fields, or a line that is none, each at its edge."""
     styles = list(itertools.product((b"GET", b"HEAD", b"PUT"), (b"\r\n", b"\n"), (True, False)))
-    found = [of_length(length, *it) for length in range(8_189, 8_196) for it in styles]
+    found = [of_length(length, *style) for length in range(8_189, 8_196) for style in styles]
     counts = itertools.product((1, 31, 32, 33, 34, 300), (b"GET", b"HEAD", b"PUT", b"OPTIONS"))
-    found += [of_fields(*it) for it in counts]
+    found += [of_fields(*count) for count in counts]
     found += [b"GET / HTTP/1.0\n" + b"A:\n" * count + b"\n" for count in (2_724, 2_725, 2_726)]
-    found += [with_line(it, method) for it in LINES for method in (b"GET", b"HEAD")]
-    found += [it + request(method) for it in FRONTS for method in (b"GET", b"HEAD")]
+    found += [with_line(line, method) for line in LINES for method in (b"GET", b"HEAD")]
+    found += [front + request(method) for front in FRONTS for method in (b"GET", b"HEAD")]
     found += [request(end=end) for end in (b"\n", b"\r", b"\r\r\n", b"\n\r", b"", b" \r\n")]
     spaces = itertools.product((b" ", b"  ", b"\t", b"", b" \t"), repeat=2)
-    return found + [b"GET%s/resource/a%sHTTP/1.0\r\n\r\n" % it for it in spaces]
+    return found + [b"GET%s/resource/a%sHTTP/1.0\r\n\r\n" % pair for pair in spaces]
 
 
 def edges_of_first_lines():
@@ -159,16 +166,16 @@ def edges_of_first_lines():
     targets = [b"/resource/a", b"/resource/", b"/resourcelist.xml", b"/changelist/7.xml", b"/publish", b"/"]
     found = [request(method, target) for method in METHODS + BAD_METHODS for target in targets]
     found += [request(method, version=version) for method in (b"GET", b"HEAD", b"PUT") for version in VERSIONS]
-    found += [request(method, it) for method in (b"GET", b"DELETE") for it in PATHS]
-    found += [request(method, b"/resource/" + it) for method in (b"GET", b"DELETE") for it in BAD_NAMES]
-    found += [put(target=b"/resource/" + it) for it in NAMES + BAD_NAMES]
-    found += [request(target=scheme + it + b"/resource/a") for scheme in SCHEMES for it in AUTHORITIES]
+    found += [request(method, path) for method in (b"GET", b"DELETE") for path in PATHS]
+    found += [request(method, b"/resource/" + name) for method in (b"GET", b"DELETE") for name in BAD_NAMES]
+    found += [put(target=b"/resource/" + name) for name in NAMES + BAD_NAMES]
+    found += [request(target=scheme + authority + b"/resource/a") for scheme in SCHEMES for authority in AUTHORITIES]
     paths = (b"", b"/", b"//", b"/changelist.xml", b"?/publish")
-    return found + [request(target=scheme + b"a" + it) for scheme in SCHEMES for it in paths]
+    return found + [request(target=scheme + b"a" + path) for scheme in SCHEMES for path in paths]
 
 
 EDGES = [*edges_of_fields(), *edges_of_groups(), *edges_of_heads(), *edges_of_first_lines()]
-CHANGES = all_changes(len(TEMPLATES), [len(it) for it in TEMPLATES])
+CHANGES = all_changes(len(TEMPLATES), [len(template) for template in TEMPLATES])
 random.Random(3).shuffle(EDGES)
 random.Random(4).shuffle(CHANGES)
 
@@ -180,6 +187,7 @@ class Maker:
         self.rng, self.lines = rng, made_scripts.Maker(rng, limit)
 
     def put(self):
+        """A put of random bytes."""
         self.lines.changes += 1
         body = self.rng.randbytes(self.rng.choice((0, 0, 1, 3, 40, 511, 512, 513, 4_095, 4_096, 4_097, 9_000)))
         if self.rng.random() < 0.003:
@@ -190,10 +198,12 @@ class Maker:
         return b"PUT", self.lines.resource(), fields, body
 
     def delete(self):
+        """A delete of some name."""
         self.lines.changes += 1
         return b"DELETE", self.lines.resource(), [], b""
 
     def publish(self):
+        """A publication."""
         self.lines.number += 1
         return b"POST", b"/publish", [], b""
 
@@ -207,12 +217,14 @@ class Maker:
         return b"POST", b"/group", fields, body
 
     def get(self):
+        """A request for a document or a resource."""
         return self.rng.choice((b"GET", b"GET", b"GET", b"HEAD")), self.lines.show()[len(b"show ") :], [], b""
 
     def lawful(self):
         """The parts of a request that is mostly accepted."""
         kinds = ((self.put, 35), (self.delete, 9), (self.group, 6), (self.publish, 8), (self.get, 42))
-        method, target, fields, body = self.rng.choices([it for it, _ in kinds], [it for _, it in kinds])[0]()
+        makers, weights = [maker for maker, _ in kinds], [weight for _, weight in kinds]
+        method, target, fields, body = self.rng.choices(makers, weights)[0]()
         target = self.rng.choice(SCHEMES[:4]) + b"a:1" + target if self.rng.random() < 0.05 else target
         fields = [HOST, *fields, *self.rng.sample(OTHERS, self.rng.choice((0, 0, 1, 3)))]
         self.rng.shuffle(fields)
@@ -227,13 +239,13 @@ class Maker:
             lambda: {"method": rng.choice(METHODS + BAD_METHODS)},
             lambda: {"target": rng.choice((bad_name, rng.choice(PATHS), rng.choice(HEADS)))},
             lambda: {"version": rng.choice(VERSIONS)},
-            lambda: {"fields": [it for it in fields if it != rng.choice(fields)] if fields else []},
+            lambda: {"fields": [field for field in fields if field != rng.choice(fields)] if fields else []},
             lambda: {"fields": [*fields, (name, value)]},
             lambda: {"fields": [(name, value), *fields]},
-            lambda: {"fields": [(name, value) if it[0] == name else it for it in fields]},
+            lambda: {"fields": [(name, value) if field[0] == name else field for field in fields]},
             lambda: {"fields": [*fields, *[(b"A", b"b")] * rng.choice((28, 29, 30, 31, 32, 33))]},
-            lambda: {"fields": [(it.swapcase(), rng.choice(SPACES) + text) for it, text in fields]},
-            lambda: {"fields": [(it, text + rng.choice(SPACES)) for it, text in fields]},
+            lambda: {"fields": [(name.swapcase(), rng.choice(SPACES) + text) for name, text in fields]},
+            lambda: {"fields": [(name, text + rng.choice(SPACES)) for name, text in fields]},
             lambda: {"body": parts["body"][: rng.randrange(len(parts["body"]) + 1)]},
             lambda: {"body": parts["body"] + rng.choice((b"x", b"\r\n", TEMPLATES[0], rng.randbytes(500)))},
             lambda: {"end": b"\n"},
@@ -250,7 +262,7 @@ class Maker:
         return data[: self.rng.randrange(len(data) + 1)] if self.rng.random() < 0.05 else data
 
 
-def given(rng, what, data):
+def made(rng, what, data):
     """A request, how it is given, and how its client ends."""
     last = "bytes" if len(data) < 1_000 or rng.random() < 0.03 else "random"
     way = rng.choice(("whole", "whole", "whole", "random", last))
@@ -261,8 +273,9 @@ def given(rng, what, data):
 def requests_of(rng, number, limit):
     """The requests of the round of this number."""
     maker = Maker(rng, limit)
-    turns = [("an edge", it) for it in in_turn(EDGES, number, EDGES_IN)]
-    turns += [("a change", changed(TEMPLATES[it], at, way)) for it, at, way in in_turn(CHANGES, number, CHANGES_IN)]
+    turns = [("an edge", edge) for edge in in_turn(EDGES, number, EDGES_IN)]
+    turns += [("a change", changed(TEMPLATES[template], at, way))
+              for template, at, way in in_turn(CHANGES, number, CHANGES_IN)]
     rng.shuffle(turns)
     every = made_scripts.mixed(rng, turns, [("at random", maker.any()) for _ in range(MORE)])
-    return [given(rng, *it) for it in every]
+    return [made(rng, *turn) for turn in every]

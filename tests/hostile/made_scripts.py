@@ -52,21 +52,22 @@ NONE = [
     b"Host: a", b"%s%n", b"\x1b[A",
 ]
 COUNTS = [
-    b"", b"0", b"00", b"1", b"01", b"2", b"16", b"17", b"99", b"001", b"016", b"1x", b"-1", b"+1", b"1 ", b" 1", b"1\t", b"\xd9\xa1",
+    b"", b"0", b"00", b"1", b"01", b"2", b"16", b"17", b"99", b"001", b"016", b"1x", b"-1", b"+1", b"1 ", b" 1", b"1\t",
+    b"\xd9\xa1",
 ]
 EDGES = [
     *NONE,
-    b"group", *(b"group " + it for it in COUNTS), b"groups 1", b"GROUP 1", b"group 1 1",
-    *(b"at " + it for it in MOMENTS + BAD_MOMENTS),
-    *(b"put %s - a/b" % it for it in NAMES + BAD_NAMES),
-    *(b"put e %s a/b" % it for it in BODIES + BAD_BODIES),
-    *(b"put e - " + it for it in TYPES + BAD_TYPES),
-    *(b"put %s %s %s" % it for it in itertools.product((b".", b"e"), (b"6", b"61"), (b"a", b"a/b"))),
-    *(b"delete " + it for it in NAMES + BAD_NAMES),
-    *(b"show /resource/" + it for it in NAMES + BAD_NAMES),
-    *(b"show " + it for it in PATHS),
+    b"group", *(b"group " + count for count in COUNTS), b"groups 1", b"GROUP 1", b"group 1 1",
+    *(b"at " + moment for moment in MOMENTS + BAD_MOMENTS),
+    *(b"put %s - a/b" % name for name in NAMES + BAD_NAMES),
+    *(b"put e %s a/b" % body for body in BODIES + BAD_BODIES),
+    *(b"put e - " + kind for kind in TYPES + BAD_TYPES),
+    *(b"put %s %s %s" % words for words in itertools.product((b".", b"e"), (b"6", b"61"), (b"a", b"a/b"))),
+    *(b"delete " + name for name in NAMES + BAD_NAMES),
+    *(b"show /resource/" + name for name in NAMES + BAD_NAMES),
+    *(b"show " + path for path in PATHS),
 ]
-CHANGES = all_changes(len(TEMPLATES), [len(it) for it in TEMPLATES])
+CHANGES = all_changes(len(TEMPLATES), [len(template) for template in TEMPLATES])
 random.Random(1).shuffle(EDGES)
 random.Random(2).shuffle(CHANGES)
 
@@ -88,28 +89,35 @@ class Maker:
         return self.latest
 
     def delete(self):
+        """A line that deletes some name."""
         self.changes += 1
         return b"delete " + self.rng.choice(self.names)
 
     def group(self):
         """Up to five items, most of which a source accepts, and rarely a line that is none."""
-        lines = [self.put() if self.rng.random() < 0.8 else self.delete() for _ in range(self.rng.choice((1, 2, 2, 3, 5)))]
+        lines = [self.put() if self.rng.random() < 0.8 else self.delete()
+                 for _ in range(self.rng.choice((1, 2, 2, 3, 5)))]
         if self.rng.random() < 0.1:
-            lines[self.rng.randrange(len(lines))] = self.rng.choice((b"status", b"", b"put", b"publish", self.rng.choice(EDGES)))
+            line = self.rng.choice((b"status", b"", b"put", b"publish", self.rng.choice(EDGES)))
+            lines[self.rng.randrange(len(lines))] = line
         return b"\n".join([b"group %d" % len(lines), *lines])
 
     def publish(self):
+        """A line that publishes."""
         self.number += 1
         return b"publish"
 
     def at(self):
+        """A line that sets the time."""
         self.now += self.rng.choice((-1_000, 0, 0, 1, 5, 1_000, 86_400_000))
         return b"at %d" % self.now
 
     def resource(self):
+        """The path of some resource."""
         return b"/resource/" + self.rng.choice(self.names)
 
     def show(self):
+        """A line that shows a document or a resource, which may not be there."""
         part = self.rng.randrange(self.changes // self.limit + 2)
         number = max(0, self.number - self.rng.choice((0, 0, 0, 1, -1)))
         listed = b"/resourcelist/%d/%d.xml" % (number, self.rng.randrange(5))
@@ -121,7 +129,7 @@ class Maker:
         """One of the lines that are mostly accepted."""
         counts = ((self.put, 30), (self.delete, 9), (self.group, 5), (self.publish, 8), (self.at, 5), (self.show, 40))
         kinds = [*counts, (lambda: b"status", 5), (lambda: b"verify", 3)]
-        return self.rng.choices([it for it, _ in kinds], [it for _, it in kinds])[0]()
+        return self.rng.choices([maker for maker, _ in kinds], [weight for _, weight in kinds])[0]()
 
     def any(self):
         """One line: lawful, at an edge, or scribbled on."""
@@ -140,7 +148,7 @@ def usual(rng, number, limit, more=MORE):
     """Edges, changes and random lines, in any order."""
     maker = Maker(rng, limit)
     lines = in_turn(EDGES, number, EDGES_IN)
-    lines += [changed(TEMPLATES[it], at, way) for it, at, way in in_turn(CHANGES, number, CHANGES_IN)]
+    lines += [changed(TEMPLATES[template], at, way) for template, at, way in in_turn(CHANGES, number, CHANGES_IN)]
     rng.shuffle(lines)
     return mixed(rng, lines, [maker.any() for _ in range(rng.choice(more))])
 
@@ -150,7 +158,7 @@ def mixed(rng, lines, others):
     picks = [0] * len(lines) + [1] * len(others)
     rng.shuffle(picks)
     lists = iter(lines), iter(others)
-    return [next(lists[it]) for it in picks]
+    return [next(lists[pick]) for pick in picks]
 
 
 def at_the_end(rng, number, limit):
@@ -178,7 +186,7 @@ def long_lines(rng, number, limit):
         lambda: b"status" + b"\r" * (LONGEST - 6),
     ]
     first = number // TURNS * 2
-    return mixed(rng, usual(rng, number, limit, [20]), [every[it % len(every)]() for it in (first, first + 1)])
+    return mixed(rng, usual(rng, number, limit, [20]), [every[turn % len(every)]() for turn in (first, first + 1)])
 
 
 def large_bodies(rng, number, limit):
@@ -197,7 +205,7 @@ def ended(rng, lines):
     mixed_ends, odd_ends = [b"\n", b"\n", b"\r\n", b"\r\r\n", b"\n\r"], [b"\n"] * 20 + [b"\n\n", b"\r", b""]
     ends = rng.choice(([b"\n"], [b"\n"], [b"\r\n"], mixed_ends, odd_ends))
     last = rng.choice((b"\n", b"\n", b"\n", b"", b"", b"\r", b"\r\n", b"\n\n", b"\n\r"))
-    return b"".join(it + rng.choice(ends) for it in lines[:-1]) + lines[-1] + last
+    return b"".join(line + rng.choice(ends) for line in lines[:-1]) + lines[-1] + last
 
 
 def script_of(seed, number):

@@ -26,75 +26,88 @@ DATE = re.compile(rb"\r\nDate: ([^\r\n]*)\r\n")
 
 
 def connects_and_leaves(port):
+    """Closes its connection at once."""
     connected(port).close()
 
 
 def connects_and_resets(port):
+    """Resets its connection at once."""
     reset(connected(port))
 
 
 def sends_nothing_and_waits(port):
-    with connected(port) as it:
-        it.shutdown(socket.SHUT_WR)
-        if (found := read_to_end(it)) != (b"", False):
+    """Ends its side at once, and waits for the end."""
+    with connected(port) as connection:
+        connection.shutdown(socket.SHUT_WR)
+        if (found := read_to_end(connection)) != (b"", False):
             raise Ended(f"no byte was sent, and {found!r} came back")
 
 
 def leaves_within_a_head(port):
-    with connected(port) as it:
-        it.sendall(GET_LARGE[:20])
+    """Leaves within the head of a request."""
+    with connected(port) as connection:
+        connection.sendall(GET_LARGE[:20])
 
 
 def leaves_within_a_body(port):
-    with connected(port) as it:
-        it.sendall(CUT_PUT)
+    """Leaves within the body of a put."""
+    with connected(port) as connection:
+        connection.sendall(CUT_PUT)
 
 
 def resets_within_a_body(port):
-    with connected(port) as it:
-        it.sendall(CUT_PUT)
-        reset(it)
+    """Resets its connection within the body of a put."""
+    with connected(port) as connection:
+        connection.sendall(CUT_PUT)
+        reset(connection)
 
 
 def leaves_before_the_answer(port):
-    with connected(port) as it:
-        it.sendall(GET_LARGE)
+    """Leaves right behind its request."""
+    with connected(port) as connection:
+        connection.sendall(GET_LARGE)
 
 
 def leaves_while_it_is_answered(port):
-    with connected(port) as it:
-        it.sendall(GET_LARGE)
-        it.recv(1_000)
+    """Leaves within a long response."""
+    with connected(port) as connection:
+        connection.sendall(GET_LARGE)
+        connection.recv(1_000)
 
 
 def resets_while_it_is_answered(port):
-    with connected(port) as it:
-        it.sendall(GET_LARGE)
-        it.recv(100_000)
-        reset(it)
+    """Resets its connection within a long response."""
+    with connected(port) as connection:
+        connection.sendall(GET_LARGE)
+        connection.recv(100_000)
+        reset(connection)
 
 
 def ends_both_sides_while_it_is_answered(port):
-    with connected(port) as it:
-        it.sendall(GET_LARGE)
-        it.recv(1)
-        it.shutdown(socket.SHUT_RDWR)
+    """Shuts both sides down within a long response."""
+    with connected(port) as connection:
+        connection.sendall(GET_LARGE)
+        connection.recv(1)
+        connection.shutdown(socket.SHUT_RDWR)
 
 
 def leaves_with_the_word_to_go_on(port):
-    with connected(port) as it:
-        it.sendall(CUT_PUT.replace(b"\r\n\r\nabc", b"\r\nExpect: 100-continue\r\n\r\n"))
-        it.recv(1_000)
+    """Leaves where it is told to go on."""
+    with connected(port) as connection:
+        connection.sendall(CUT_PUT.replace(b"\r\n\r\nabc", b"\r\nExpect: 100-continue\r\n\r\n"))
+        connection.recv(1_000)
 
 
 def sends_on_and_never_reads(port):
-    with connected(port) as it, contextlib.suppress(ConnectionError):
-        it.sendall(b"POST /resource/large " + HOST + b"\r\n" + b"x" * 1_000_000)
+    """Sends on behind a bad request, and never reads."""
+    with connected(port) as connection, contextlib.suppress(ConnectionError):
+        connection.sendall(b"POST /resource/large " + HOST + b"\r\n" + b"x" * 1_000_000)
 
 
 def sends_on_behind_an_answer(port):
-    with connected(port) as it, contextlib.suppress(ConnectionError):
-        it.sendall(b"GET /changelist.xml " + HOST + b"\r\n" + b"x" * 1_000_000)
+    """Sends on behind a good request, and never reads."""
+    with connected(port) as connection, contextlib.suppress(ConnectionError):
+        connection.sendall(b"GET /changelist.xml " + HOST + b"\r\n" + b"x" * 1_000_000)
 
 
 CLIENTS = [
@@ -109,7 +122,7 @@ class Plain:
     """Plain requests, each of which has to be answered well at any time."""
 
     def __init__(self, port):
-        self.port, self.started, self.asked, self.puts = port, int(time.time()), 0, 0
+        self.port, self.started, self.requests, self.puts = port, int(time.time()), 0, 0
 
     def dated(self, found):
         """The date of a response, which has the form of HTTP and lies within the run."""
@@ -123,18 +136,20 @@ class Plain:
 
     def ask(self, sent, status, kind, body):
         """One request, and what has to come back, but for its date."""
-        self.asked += 1
+        self.requests += 1
         found, _ = exchanged(self.port, [sent])
         wanted = response(status, self.dated(found), kind, body)
         if found != wanted:
             raise Ended(f"{sent[:60]!r}: wanted {wanted[:300]!r}, found {found[:300]!r}")
 
     def put(self, name, body):
+        """A put, which is created."""
         self.puts += 1
         head = b"PUT /resource/%s %sContent-Type: a/b\r\nContent-Length: %d\r\n\r\n" % (name, HOST, len(body))
         self.ask(head + body, 201, "", b"")
 
     def get(self, name, body):
+        """A request for a resource, which has this body."""
         self.ask(b"GET /resource/%s %s\r\n" % (name, HOST), 200, "a/b", body)
 
 
@@ -147,9 +162,9 @@ def shuffled(times):
 
 def moments_of(program, file):
     """The moments of the changes on a file, in seconds since 1970."""
-    ran = subprocess.run([program, "run", file], input=b"show /changelist.xml", capture_output=True, check=True)
-    texts = re.findall(rb' datetime="([^"]*)Z"', ran.stdout)
-    return [datetime.datetime.fromisoformat(f"{it.decode()}+00:00").timestamp() for it in texts]
+    finished = subprocess.run([program, "run", file], input=b"show /changelist.xml", capture_output=True, check=True)
+    texts = re.findall(rb' datetime="([^"]*)Z"', finished.stdout)
+    return [datetime.datetime.fromisoformat(f"{text.decode()}+00:00").timestamp() for text in texts]
 
 
 def visit(port, plain, body, times):
@@ -183,5 +198,5 @@ def look(program, folder, times):
     except (Ended, OSError) as fault:
         print(f"clients: {fault}")
         return 1
-    print(f"{clients} clients left, stayed silent or reset; {plain.asked} plain requests were answered well")
+    print(f"{clients} clients left, stayed silent or reset; {plain.requests} plain requests were answered well")
     return 0

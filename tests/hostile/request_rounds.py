@@ -61,18 +61,19 @@ class Round:
             clock = LATE if is_late else self.rng.choice(CLOCKS)
             self.serve(first, self.requests[first : first + each], clock, self.rng.choice(STEPS))
         disk = pathlib.Path(self.file).read_bytes()
-        verdict, it = disk_judge.told(disk)
+        verdict, source = disk_judge.verdict_of(disk)
         if verdict != disk_judge.OPENS:
-            raise Differs(f"the file is {verdict} at the end: {it}")
-        if disk_judge.state_of(disk, it) != self.source.state:
+            raise Differs(f"the file is {verdict} at the end: {source}")
+        if disk_judge.state_of(disk, source) != self.source.state:
             raise Differs("the file has another state at the end than the accepted commands make")
 
     def format(self):
+        """Makes a new source on the file."""
         pathlib.Path(self.file).unlink(missing_ok=True)
         words = [self.program, "format", self.file, str(SIZE), self.source.state.base, str(self.source.state.limit)]
-        ran = subprocess.run(words, capture_output=True)
-        if (ran.returncode, ran.stdout, ran.stderr) != (0, b"formatted %d\n" % SIZE, b""):
-            raise Differs(f"format: status {ran.returncode}, {ran.stdout!r}, {ran.stderr!r}")
+        finished = subprocess.run(words, capture_output=True)
+        if (finished.returncode, finished.stdout, finished.stderr) != (0, b"formatted %d\n" % SIZE, b""):
+            raise Differs(f"format: status {finished.returncode}, {finished.stdout!r}, {finished.stderr!r}")
 
     def serve(self, first, requests, clock, step):
         """These requests to one server."""
@@ -83,9 +84,9 @@ class Round:
                     self.ask(port, made, moment_of(clock + step * number))
                 except (Differs, OSError) as fault:
                     sent = made.data if len(made.data) < 2_000 else made.data[:300] + b".." + made.data[-100:]
-                    told = fault if isinstance(fault, Differs) else repr(fault)
+                    message = fault if isinstance(fault, Differs) else repr(fault)
                     what = f"request {first + number - 1}, {made.what}, at {clock + step * number}"
-                    raise Differs(f"{what}\n  sent {len(made.data)} bytes: {sent!r}\n  {told}") from None
+                    raise Differs(f"{what}\n  sent {len(made.data)} bytes: {sent!r}\n  {message}") from None
 
     def ask(self, port, made, now):
         """One request, whose response has to be the wanted one."""

@@ -38,13 +38,13 @@ REQUESTS, SHORT = 100_000, 1_600
 TOLD, TELLING = 20, 25
 
 
-def look(asked, folder, number):
+def look(options, folder, number):
     """How many requests of a round were answered by each status, and what is wrong in it, or with the hunt itself."""
     counts = collections.Counter()
     try:
-        it = Round(asked.program, asked.environment, folder, asked.seed, number)
-        counts = it.counts
-        it.look()
+        trial = Round(options.program, options.environment, folder, options.seed, number)
+        counts = trial.counts
+        trial.look()
         return number, counts, ""
     except (Differs, Ended) as fault:
         return number, counts, str(fault)
@@ -52,13 +52,13 @@ def look(asked, folder, number):
         return number, counts, f"the hunt cannot tell: {fault!r}"
 
 
-def hunt(asked, folder):
+def hunt(options, folder):
     """Goes through all rounds. Gives how many requests there were, and how many rounds went wrong."""
     counts, rounds, wrong = collections.Counter(), 0, 0
-    with multiprocessing.Pool(asked.jobs) as pool:
-        work = functools.partial(look, asked, folder)
-        for number, seen, fault in pool.imap_unordered(work, range(asked.rounds)):
-            counts, rounds, wrong = counts + seen, rounds + 1, wrong + bool(fault)
+    with multiprocessing.Pool(options.jobs) as pool:
+        work = functools.partial(look, options, folder)
+        for number, new_counts, fault in pool.imap_unordered(work, range(options.rounds)):
+            counts, rounds, wrong = counts + new_counts, rounds + 1, wrong + bool(fault)
             if fault and wrong <= TOLD:
                 print(f"round {number}: {fault}", flush=True)
             if rounds % TELLING == 0:
@@ -70,38 +70,40 @@ def hunt(asked, folder):
 
 
 def words():
-    it = argparse.ArgumentParser(usage="python3 -m tests.hostile.requests [PROGRAM] [--short] [--requests N] ..")
-    it.add_argument("program", nargs="?", default=str(PROGRAM))
-    it.add_argument("--short", action="store_true")
-    it.add_argument("--self-test", action="store_true")
-    it.add_argument("--requests", type=int)
-    it.add_argument("--round", type=int)
-    it.add_argument("--seed", type=int, default=SEED)
-    it.add_argument("--jobs", type=int, default=len(os.sched_getaffinity(0)))
-    asked = it.parse_args()
-    asked.program = os.path.abspath(asked.program)
-    asked.requests = asked.requests or (SHORT if asked.short else REQUESTS)
-    asked.rounds = -(-asked.requests // made_requests.REQUESTS_IN)
-    return asked
+    """The options of the command line."""
+    parser = argparse.ArgumentParser(usage="python3 -m tests.hostile.requests [PROGRAM] [--short] [--requests N] ..")
+    parser.add_argument("program", nargs="?", default=str(PROGRAM))
+    parser.add_argument("--short", action="store_true")
+    parser.add_argument("--self-test", action="store_true")
+    parser.add_argument("--requests", type=int)
+    parser.add_argument("--round", type=int)
+    parser.add_argument("--seed", type=int, default=SEED)
+    parser.add_argument("--jobs", type=int, default=len(os.sched_getaffinity(0)))
+    options = parser.parse_args()
+    options.program = os.path.abspath(options.program)
+    options.requests = options.requests or (SHORT if options.short else REQUESTS)
+    options.rounds = -(-options.requests // made_requests.REQUESTS_IN)
+    return options
 
 
 def main():
-    asked, started = words(), time.time()
-    blind = wrong_requests.look() if asked.short or asked.self_test else 0
-    if asked.self_test:
+    """The hunt, one round of it, or the self-test."""
+    options, started = words(), time.time()
+    blind = wrong_requests.look() if options.short or options.self_test else 0
+    if options.self_test:
         return 1 if blind else 0
     with room_in_memory("hostile-") as folder:
-        asked.environment = with_clock(folder)
-        if asked.round is not None:
-            fault = look(asked, folder, asked.round)[-1]
-            print(f"round {asked.round}: {fault or 'as it has to be'}")
+        options.environment = with_clock(folder)
+        if options.round is not None:
+            fault = look(options, folder, options.round)[-1]
+            print(f"round {options.round}: {fault or 'as it has to be'}")
             return 1 if fault else 0
-        rude = odd_clients.look(asked.program, folder, 2 if asked.short else 12)
-        print(f"seed {asked.seed}", flush=True)
-        requests, wrong = hunt(asked, folder)
+        rude = odd_clients.look(options.program, folder, 2 if options.short else 12)
+        print(f"seed {options.seed}", flush=True)
+        requests, wrong = hunt(options, folder)
     print(f"{time.time() - started:.0f} seconds")
-    print(f"{requests} requests in {asked.rounds} rounds, {wrong} wrong")
-    return 1 if wrong or rude or blind or requests < asked.requests else 0
+    print(f"{requests} requests in {options.rounds} rounds, {wrong} wrong")
+    return 1 if wrong or rude or blind or requests < options.requests else 0
 
 
 if __name__ == "__main__":

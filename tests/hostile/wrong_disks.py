@@ -1,6 +1,7 @@
 """Wrong answers, wrong programs and wrong rules. The hunt (tests/hostile/disks.py) has to notice each, or it is blind.
 
-Nothing here needs the built program: a program that answers is a few lines of Python, and what it takes beside its answer is known.
+Nothing here needs the built program: a program that answers is a few lines of Python, and what it takes beside its
+answer is known.
 """
 import contextlib
 import pathlib
@@ -10,7 +11,7 @@ from unittest import mock
 
 from tests.disks import disks
 from tests.hostile import any_disks, disk_runs
-from tests.hostile.disk_runs import Ran, Room, faults, wanted_of
+from tests.hostile.disk_runs import Outcome, Room, faults, wanted_of
 from tests.reading import disk_judge, disk_reader
 from tests.rows import reader
 
@@ -34,23 +35,27 @@ SPOILS = "open(sys.argv[2], 'ab').write(b'x')"
 def right(disk):
     """The answer that is wanted of a disk."""
     wanted = wanted_of(disk)
-    return wanted, Ran(wanted.status, wanted.output, wanted.messages, 0.1, disk)
+    return wanted, Outcome(wanted.status, wanted.output, wanted.messages, 0.1, disk)
 
 
 def wrong_answers():
     """Each wrong answer by its name: the disk, and the answer."""
     spoilt, sound, refused = right(SPOILT)[1], right(SOUND())[1], right(REFUSED)[1]
     edited = sound.output.replace(b'length="5"', b'length="6"', 1)
+    with_one_damaged = sound.output.replace(b"verified", b"damaged a\nverified")
+    reversed_names = spoilt.output.replace(b"damaged a\ndamaged b", b"damaged b\ndamaged a")
+    unrefused = spoilt.output.replace(b"refused Damaged\n", b"bytes 5\nhello\n", 1)
     return {
         "a sound answer for a damaged disk": (REFUSED, sound._replace(file=REFUSED)),
         "a refusal of a sound disk": (SOUND(), refused._replace(file=SOUND())),
         "another word": (REFUSED, refused._replace(messages=b"rs_source: NotASource\n")),
         "no word": (REFUSED, refused._replace(messages=b"")),
         "a missing damaged name": (SPOILT, spoilt._replace(output=spoilt.output.replace(b"damaged b\n", b""))),
-        "a damaged name that is sound": (SOUND(), sound._replace(output=sound.output.replace(b"verified", b"damaged a\nverified"))),
-        "damaged names in another order": (SPOILT, spoilt._replace(output=spoilt.output.replace(b"damaged a\ndamaged b", b"damaged b\ndamaged a"))),
-        "another number of sound bodies": (SPOILT, spoilt._replace(output=spoilt.output.replace(b"verified 0", b"verified 2"))),
-        "a damaged body that is shown": (SPOILT, spoilt._replace(output=spoilt.output.replace(b"refused Damaged\n", b"bytes 5\nhello\n", 1))),
+        "a damaged name that is sound": (SOUND(), sound._replace(output=with_one_damaged)),
+        "damaged names in another order": (SPOILT, spoilt._replace(output=reversed_names)),
+        "another number of sound bodies": (SPOILT,
+                                           spoilt._replace(output=spoilt.output.replace(b"verified 0", b"verified 2"))),
+        "a damaged body that is shown": (SPOILT, spoilt._replace(output=unrefused)),
         "a document with another byte": (SOUND(), sound._replace(output=edited)),
         "an output that is cut": (SOUND(), sound._replace(output=sound.output[:-1])),
         "status 2": (REFUSED, refused._replace(status=2)),
@@ -61,8 +66,9 @@ def wrong_answers():
 
 def passing_answers():
     """The wrong answers that are not noticed, and the right ones that are."""
-    blind = [name for name, (disk, ran) in wrong_answers().items() if not faults(disk, wanted_of(disk), ran)]
-    return blind + [f"the right answer for {disk[:2]!r}" for disk in (SOUND(), SPOILT, REFUSED, b"") if faults(disk, *right(disk))]
+    blind = [name for name, (disk, outcome) in wrong_answers().items() if not faults(disk, wanted_of(disk), outcome)]
+    return blind + [f"the right answer for {disk[:2]!r}" for disk in (SOUND(), SPOILT, REFUSED, b"")
+                    if faults(disk, *right(disk))]
 
 
 def faults_of(folder, does):
@@ -78,9 +84,10 @@ def faults_of(folder, does):
 
 def passing_programs(folder):
     """The wrong programs that are not noticed, and the right one that is."""
-    wrong = {"memory without end": TAKES.format(size=OF_PYTHON), "a second of a processor": BURNS, "a file that is changed": SPOILS}
+    wrong = {"memory without end": TAKES.format(size=OF_PYTHON), "a second of a processor": BURNS,
+             "a file that is changed": SPOILS}
     blind = [name for name, does in wrong.items() if not faults_of(folder, does)]
-    return blind + [f"a right program: {it}" for it in faults_of(folder, TAKES.format(size=1_000_000))]
+    return blind + [f"a right program: {fault}" for fault in faults_of(folder, TAKES.format(size=1_000_000))]
 
 
 def rows():
@@ -98,7 +105,7 @@ def differing_rows(folder):
     for words, wanted in rows():
         disks.disk(folder, words[0], "row.disk", *words[1:])
         count += 1
-        differ += disk_judge.told(pathlib.Path(folder, "row.disk").read_bytes())[0] != wanted
+        differ += disk_judge.verdict_of(pathlib.Path(folder, "row.disk").read_bytes())[0] != wanted
     return differ, count
 
 
@@ -106,7 +113,8 @@ def differing_rows(folder):
 WRONG_RULES = {
     "any item limit": mock.patch.object(disk_judge, "LIMITS", range(65_536)),
     "any name": mock.patch.object(disk_judge, "NAME", re.compile(rb".*", re.DOTALL)),
-    "equal names and moments": mock.patch.object(disk_judge, "strictly_rise", lambda values: sorted(values) == list(values)),
+    "equal names and moments": mock.patch.object(disk_judge, "strictly_rise",
+                                                 lambda values: sorted(values) == list(values)),
     "any blocks": mock.patch.object(disk_reader, "fault", lambda disk, source: ""),
     "any version": mock.patch.object(disk_reader, "VERSIONS", range(256)),
     "any first part and begin": mock.patch.object(disk_judge, "look_at_begin", lambda source: None),
@@ -128,8 +136,8 @@ def passing_rules(folder):
 def look(folder):
     """Tells what is not noticed. Gives how many are not."""
     blind = [*passing_answers(), *passing_programs(folder), *passing_rules(folder)]
-    for it in blind:
-        print(f"not noticed: {it}")
+    for name in blind:
+        print(f"not noticed: {name}")
     noticed = len(wrong_answers()) + 3 + len(WRONG_RULES) - len(blind)
     print(f"self-test: {noticed} wrong answers, programs and rules were noticed, {len(blind)} were not", flush=True)
     return len(blind)

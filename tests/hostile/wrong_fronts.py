@@ -18,18 +18,20 @@ LAWFUL, PUT, DELETE, DOCUMENTS = front_model.is_lawful, Source.put, Source.delet
 
 
 def rule(of, name, wrong):
+    """Puts a wrong rule in the place of one."""
     return mock.patch.object(of, name, wrong)
 
 
 def pattern(of, name, old, new):
     """A pattern of a module with some of it replaced."""
-    it = getattr(of, name)
-    if old not in it.pattern:
+    expression = getattr(of, name)
+    if old not in expression.pattern:
         raise ValueError(f"{name} has no {old!r}")
-    return rule(of, name, re.compile(it.pattern.replace(old, new), it.flags))
+    return rule(of, name, re.compile(expression.pattern.replace(old, new), expression.flags))
 
 
 def more_bytes(kind, shortest, longest, text):
+    """A text may have a byte more."""
     return LAWFUL(kind, shortest, longest + 1, text)
 
 
@@ -42,9 +44,9 @@ def kept_moment(self, name, now):
 
 def equal_puts(self, name, kind, length, body, now):
     """A put of what is held changes nothing."""
-    held = self.state.held.get(name)
-    if held and body == held[0] and kind == held[1].kind:
-        return f"updated {crash_model.moment_text(held[1].moment)}"
+    resource = self.state.held.get(name)
+    if resource and body == resource[0] and kind == resource[1].kind:
+        return f"updated {crash_model.moment_text(resource[1].moment)}"
     return PUT(self, name, kind, length, body, now)
 
 
@@ -55,6 +57,7 @@ def chunks_with_an_empty_one(items, limit):
 
 
 def chunks_of_one_more(items, limit):
+    """A part has an entry more than the limit."""
     return [items[at : at + limit + 1] for at in range(0, len(items), limit + 1)]
 
 
@@ -64,11 +67,12 @@ def by_any_number(self, path, document=Source.document):
 
 
 def held_documents(state):
+    """The Resource List lists what is held now."""
     return DOCUMENTS(dataclasses.replace(state, listed=state.entries()))
 
 
 def dropped_too_soon(state):
-    """The parts that end no later than the publication itself are dropped, and not those that end before the one before it."""
+    """The parts that end no later than the publication itself are dropped, not those that end before the one before."""
     return len(state.changes) // state.limit
 
 
@@ -84,7 +88,8 @@ def begun_at_the_start(state):
 
 def last_changes(state):
     """Of two changes of a resource the later one alone is kept."""
-    return DOCUMENTS(dataclasses.replace(state, changes=tuple({it.name: it for it in state.changes}.values())))
+    latest = {change.name: change for change in state.changes}
+    return DOCUMENTS(dataclasses.replace(state, changes=tuple(latest.values())))
 
 
 SHARED_RULES = {
@@ -119,12 +124,12 @@ def passing_rules(rules, tells):
     return blind + (["the right rules, which are as they have to be"] if tells() else [])
 
 
-def told(what, rules, tells, answers):
+def report(what, rules, tells, answers):
     """Tells what is not noticed. Gives how many are not."""
     passing, count = answers
     blind = [*passing_rules(rules, tells), *passing]
-    for it in blind:
-        print(f"not noticed: {it}")
+    for name in blind:
+        print(f"not noticed: {name}")
     noticed = len(rules) + count - len(blind)
     print(f"self-test of {what}: {noticed} wrong rules and answers were noticed, {len(blind)} were not", flush=True)
     return len(blind)

@@ -1,11 +1,14 @@
-"""Wrong rules and wrong answers of requests. The hunt (tests/hostile/requests.py) has to notice each, or it is blind."""
+"""Wrong rules and wrong answers of requests.
+
+The hunt (tests/hostile/requests.py) has to notice each, or it is blind.
+"""
 import contextlib
 import functools
 import re
 import urllib.parse
 
 from tests.hostile import request_rounds
-from tests.hostile.wrong_fronts import PUT, SHARED_RULES, pattern, rule, told
+from tests.hostile.wrong_fronts import PUT, SHARED_RULES, pattern, rule, report
 from tests.reading import front_model, request_heads, request_judge
 from tests.reading.front_model import Refused, Source
 from tests.reading.request_judge import Request
@@ -16,10 +19,12 @@ LOOK, RESPONSE, DATE_OF = Request.look, request_judge.response, request_judge.da
 
 
 def put_short(self, name, kind, length, body, now):
+    """A put whose body ends early is done, with no bytes."""
     return PUT(self, name, kind, length, b"" if body is None else body, now)
 
 
 def short_first(self, name, kind, length, body, now):
+    """A body that ends early is refused before all else."""
     if body is None:
         raise Refused("ShortBody")
     return PUT(self, name, kind, length, body, now)
@@ -30,39 +35,45 @@ def look_with(look, **wrong):
 
     def looked(self):
         with contextlib.ExitStack() as stack:
-            for name, it in wrong.items():
-                stack.enter_context(rule(Request, name, it))
+            for name, replacement in wrong.items():
+                stack.enter_context(rule(Request, name, replacement))
             look(self)
 
     return looked
 
 
 def lengths_first(self):
+    """The length is looked at before the rest of the head."""
     self.length()
     LOOK(self)
 
 
 def hosts_for_all(self):
+    """Each version needs a host."""
     if not self.values(b"host") and len(self.fields) <= request_judge.MOST_FIELDS:
         raise Refused("BadHost")
     LOOK(self)
 
 
 def no_host(self):
+    """No request needs a host."""
     self.fields = [*self.fields, (b"host", b"a")] if not self.values(b"host") else self.fields
     LOOK(self)
 
 
 def distinct_values(self, name):
-    return list(dict.fromkeys(value for it, value in self.fields if it.lower() == name))
+    """Equal values of a field count once."""
+    return list(dict.fromkeys(value for field, value in self.fields if field.lower() == name))
 
 
 def values_by_case(self, name):
-    return [value for it, value in self.fields if it in (name, name.title())]
+    """The name of a field has to have its usual case."""
+    return [value for field, value in self.fields if field in (name, name.title())]
 
 
 def values_as_they_are(self, name, values=Request.values):
-    return [b" " + it for it in values(self, name)]
+    """White space before a value belongs to it."""
+    return [b" " + value for value in values(self, name)]
 
 
 def method_first(self, allowed=Request.allowed):
@@ -86,36 +97,41 @@ def written_so(**wrong):
     """Responses of which something is another."""
 
     def written(status, date, kind, body, allowed=(), is_head=False):
-        given = {"status": status, "date": date, "kind": kind, "body": body, "allowed": allowed, "is_head": is_head}
-        return RESPONSE(**{**given, **wrong})
+        arguments = {"status": status, "date": date, "kind": kind, "body": body, "allowed": allowed, "is_head": is_head}
+        return RESPONSE(**{**arguments, **wrong})
 
     return rule(request_judge, "response", written)
 
 
 def asks_any(self, length, is_asked=Request.waits):
+    """The word to go on is sent for bodies of no bytes too."""
     return is_asked(self, max(length, 1))
 
 
 def waits_in_lists(self, length):
-    return length > 0 and self.minor == 1 and any(b"100-continue" in it.lower() for it in self.values(b"expect"))
+    """The word to go on is sent where it is one of some expectations."""
+    return length > 0 and self.minor == 1 and any(b"100-continue" in value.lower() for value in self.values(b"expect"))
 
 
 def waits_in_both(self, length):
-    return length > 0 and b"100-continue" in [it.lower() for it in self.values(b"expect")]
+    """The word to go on is sent to HTTP/1.0 too."""
+    return length > 0 and b"100-continue" in [value.lower() for value in self.values(b"expect")]
 
 
 def fields_but_encodings(request):
-    return [it for it in request.fields if it[0].lower() != b"transfer-encoding"]
+    """The fields without the transfer encodings."""
+    return [field for field in request.fields if field[0].lower() != b"transfer-encoding"]
 
 
-def with_length(status, *given, **named):
-    found = RESPONSE(status, *given, **named)
+def with_length(status, *arguments, **settings):
+    """A response without a body has a length."""
+    found = RESPONSE(status, *arguments, **settings)
     return found.replace(b"\r\n\r\n", b"\r\nContent-Length: 0\r\n\r\n", 1) if status == 204 else found
 
 
 def set_to(name, of):
     """A change of a request's part."""
-    return lambda it: setattr(it, name, of(it))
+    return lambda request: setattr(request, name, of(request))
 
 
 HEADS = request_heads
@@ -146,11 +162,11 @@ RULES = {
     "values with a space": lambda: rule(Request, "values", values_as_they_are),
     "lengths of 19 digits": lambda: pattern(request_judge, "LENGTH", b"18", b"19"),
     "lengths with a sign": lambda: pattern(request_judge, "LENGTH", b"[0-9]{1,18}", b"[+]?[0-9]{1,18}"),
-    "methods without case": lambda: made_so(set_to("method", lambda it: it.method.upper())),
+    "methods without case": lambda: made_so(set_to("method", lambda request: request.method.upper())),
     "methods before names": lambda: rule(Request, "allowed", method_first),
     "schemes by their case": lambda: rule(request_judge, "SCHEME", re.compile(request_judge.SCHEME.pattern)),
-    "a query is cut off": lambda: made_so(set_to("path", lambda it: it.path.split(b"?")[0])),
-    "escapes are decoded": lambda: made_so(set_to("path", lambda it: urllib.parse.unquote_to_bytes(it.path))),
+    "a query is cut off": lambda: made_so(set_to("path", lambda request: request.path.split(b"?")[0])),
+    "escapes are decoded": lambda: made_so(set_to("path", lambda request: urllib.parse.unquote_to_bytes(request.path))),
     "numbers of more than 64 bits": lambda: rule(request_judge, "is_document", front_model.DOCUMENT.fullmatch),
     "numbers with leading zeros": lambda: pattern(front_model, "DOCUMENT", rb"(0|[1-9][0-9]*)", rb"([0-9]+)"),
     "a word to go on in HTTP/1.0": lambda: rule(Request, "waits", waits_in_both),
@@ -170,29 +186,32 @@ RULES = {
 @functools.cache
 def requests(number):
     """The requests of a round, and the source before them."""
-    it = request_rounds.Round("", {}, "", SEED, number)
-    return it.source.state, it.requests
+    trial = request_rounds.Round("", {}, "", SEED, number)
+    return trial.source.state, trial.requests
 
 
 def responses_of(number):
     """The responses to a round of requests, while the clock stands still, with no program, and the state at the end."""
     state, made = requests(number)
     judge = request_judge.Judge(Source(state, request_rounds.SIZE))
-    yield from (judge.answer(it.data, NOW) for it in made)
+    yield from (judge.answer(request.data, NOW) for request in made)
     yield judge.source.state
 
 
 @functools.cache
 def right_responses(number):
+    """The responses of the right rules in a round."""
     return list(responses_of(number))
 
 
 def tells_rule():
     """Whether a round of requests tells the rules as they stand now from the right ones."""
-    return any(it != right for number in ROUNDS for it, right in zip(responses_of(number), right_responses(number)))
+    return any(response != right for number in ROUNDS
+               for response, right in zip(responses_of(number), right_responses(number)))
 
 
 def is_noticed(wanted, found, is_reset=False):
+    """Whether a response counts as wrong."""
     try:
         return request_rounds.is_lost(wanted, (found, is_reset))
     except request_rounds.Differs:
@@ -200,6 +219,7 @@ def is_noticed(wanted, found, is_reset=False):
 
 
 def passing_responses():
+    """The wrong responses that pass, and how many there are."""
     wanted = RESPONSE(405, request_judge.date_of(NOW), "text/plain", b"BadMethod\n", ["GET", "HEAD"])
     wrong = {
         "a response that is cut": wanted[:-1],
@@ -218,4 +238,4 @@ def passing_responses():
 
 def look():
     """Tells what is not noticed. Gives how many are not."""
-    return told("requests", {**RULES, **SHARED_RULES}, tells_rule, passing_responses())
+    return report("requests", {**RULES, **SHARED_RULES}, tells_rule, passing_responses())

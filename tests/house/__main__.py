@@ -5,5 +5,6 @@ import unittest
 from pathlib import Path
 
 HERE = Path(__file__).parent
-ran = unittest.TextTestRunner(verbosity=2).run(unittest.defaultTestLoader.discover(str(HERE), top_level_dir=str(HERE.parents[1])))
-sys.exit(not (ran.testsRun and ran.wasSuccessful()))
+outcome = unittest.TextTestRunner(
+    verbosity=2).run(unittest.defaultTestLoader.discover(str(HERE), top_level_dir=str(HERE.parents[1])))
+sys.exit(not (outcome.testsRun and outcome.wasSuccessful()))

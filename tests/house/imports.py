@@ -1,15 +1,18 @@
 """Looks at the files of checks, measures, tools and examples. It needs no program.
 
-  - No file but its own test imports from one that is run as a check or as a measure: what two need stands in a file of its own.
+  - No file but its own test imports from one that is run as a check or as a measure: what two need stands in a file of
+    its own.
   - Each check is named in the README.md of its tests, and each measure in the Makefile.
   - examples/ has no Python.
+  - No module imports itself by way of others, not within a function either.
 
 usage: python3 -m tests.house.imports     exit status 1 where one does not hold
 """
 import ast
+import graphlib
 import re
 import sys
-from collections.abc import Iterator
+from collections.abc import Iterator, Mapping
 from pathlib import Path
 
 from tests.program import ROOT
@@ -18,7 +21,7 @@ from tests.table import PAGE, ROOMS, folder
 # The package that is imported by its own name, and all folders that are looked at.
 PACKAGE = ROOT / "operations/ropepeach"
 FOLDERS = [PACKAGE, ROOT / "bench", *map(folder, ROOMS)]
-FILES = [it for folder in FOLDERS for it in sorted(folder.rglob("*.py"))]
+FILES = [file for folder in FOLDERS for file in sorted(folder.rglob("*.py"))]
 
 
 def module_of(file: Path) -> str:
@@ -41,20 +44,40 @@ def is_run(file: Path) -> bool:
     return PACKAGE not in file.parents and "\nif __name__ ==" in file.read_text()
 
 
-def told(module: str) -> bool:
+def is_documented(module: str) -> bool:
     """Whether the page of its tests, or the Makefile, tells of what is run."""
     module = module.removesuffix(".__main__")
     pages = [folder(room) / PAGE for room in ROOMS if module.startswith(f"{room}.")] or [ROOT / "Makefile"]
     return any(re.search(rf"(?<![\w.]){re.escape(module)}\b", page.read_text()) for page in pages)
 
 
+def cycle_in(imports: Mapping[str, set[str]]) -> list[str]:
+    """Modules of which each imports the next one, and the last one is the first, if there are such."""
+    try:
+        graphlib.TopologicalSorter(imports).prepare()
+    except graphlib.CycleError as fault:
+        return list(reversed(fault.args[1]))
+    return []
+
+
+def ours(files: list[Path]) -> dict[str, set[str]]:
+    """Which of these modules each of them imports; a package stands for its `__init__`."""
+    modules = {module_of(file): file for file in files}
+    # (a module that imports from the package that it is in has only taken another module from there)
+    return {name: {other for other in imported(file) if other in modules and not f"{name}.".startswith(f"{other}.")}
+            for name, file in modules.items()}
+
+
 def main() -> int:
     """Looks at all files, and gives the status."""
-    run = {module_of(it) for it in FILES if is_run(it)}
-    wrong = [f"{module_of(it)} imports from {name}" for it in FILES if not it.name.startswith("test_") for name in set(imported(it)) & run]
-    wrong += [f"nothing tells of {it}" for it in sorted(run) if not told(it)]
-    wrong += [f"{it.relative_to(ROOT)}: a program, and no example" for it in (ROOT / "examples").rglob("*.py")]
-    print("".join(f"{it}\n" for it in wrong), end="")
+    run = {module_of(file) for file in FILES if is_run(file)}
+    wrong = [f"{module_of(file)} imports from {name}" for file in FILES if not file.name.startswith("test_")
+             for name in set(imported(file)) & run]
+    wrong += [f"nothing tells of {module}" for module in sorted(run) if not is_documented(module)]
+    wrong += [f"{path.relative_to(ROOT)}: a program, and no example" for path in (ROOT / "examples").rglob("*.py")]
+    cycle = cycle_in(ours(FILES))
+    wrong += [f"modules that import each other: {' '.join(cycle)}"] if cycle else []
+    print("".join(f"{line}\n" for line in wrong), end="")
     print(f"imports: {len(FILES)} files, {len(run)} of them run; {len(wrong)} wrong")
     return 1 if wrong else 0
 

@@ -8,20 +8,22 @@ from pathlib import Path
 
 SOURCES = ["crates/*/src/**/*.rt", "crates/*/specs/**/*.antt", "crates/*/proofs/*.antt", "crates.txt", "packages.txt"]
 SOURCES += ["tests/house/words.txt", "statement/kit_words.txt", "Makefile", "operations/Makefile", "examples/*"]
-SOURCES += ["operations/*", "operations/install/*", "operations/install/site/*", "debian/*", "pyproject.toml", "MANIFEST.in"]
+SOURCES += ["operations/*", "operations/install/*", "operations/install/site/*", "debian/*", "pyproject.toml",
+            "MANIFEST.in"]
 SOURCES += [f"{folder}/**/*.py" for folder in ("bench", "gate", "operations", "rust", "statement", "tests")]
 # The files that have targets of `make`.
 MAKEFILES = ["Makefile", "operations/Makefile"]
 SOURCES += ["rust/*/src/*.rs", "rust/*/Cargo.toml"]
-COMMENT, WORD, FLAG = re.compile(r"(?m)(?<!\S)(?://|--(?=\s)).*"), re.compile(r"[^\W\d]\w*"), re.compile(r"(?<![\w-])--[a-z][a-z-]*")
+COMMENT, WORD, FLAG = re.compile(
+    r"(?m)(?<!\S)(?://|--(?=\s)).*"), re.compile(r"[^\W\d]\w*"), re.compile(r"(?<![\w-])--[a-z][a-z-]*")
 FENCE, SPAN = re.compile(r"(?ms)^ *```(\w*)\n(.*?)^ *```"), re.compile(r"(?<!`)`([^`]+)`(?!`)")
 
 
 def found_below(root: Path) -> Iterator[str]:
     """All files and folders, but for what is built."""
     for top, folders, files in os.walk(root):
-        folders[:] = [it for it in folders if it not in (".git", "out", "__pycache__")]
-        yield from (os.path.relpath(Path(top, it), root) for it in [*folders, *files])
+        folders[:] = [folder for folder in folders if folder not in (".git", "out", "__pycache__")]
+        yield from (os.path.relpath(Path(top, name), root) for name in [*folders, *files])
 
 
 def read(file: Path) -> str:
@@ -46,9 +48,11 @@ class Repository:
     def __init__(self, root: Path) -> None:
         self.root = root
         # Each path and each end of one, with and without what stands behind its dot.
-        ends = {"/".join(parts[at:]) for parts in (it.split("/") for it in found_below(root)) for at in range(len(parts))}
-        self.ends = ends | {it.rpartition(".")[0] for it in ends if "." in it}
-        self.sources = {it: read(it) for kind in SOURCES for it in sorted(root.glob(kind)) if it.is_file() and "out" not in it.parts}
+        ends = {"/".join(parts[at:]) for parts in (path.split("/") for path in found_below(root))
+                for at in range(len(parts))}
+        self.ends = ends | {end.rpartition(".")[0] for end in ends if "." in end}
+        self.sources = {path: read(path) for kind in SOURCES for path in sorted(root.glob(kind))
+                        if path.is_file() and "out" not in path.parts}
         self.words = {word for text in [*self.sources.values(), *self.ends] for word in WORD.findall(text)}
         self.flags = {flag for text in self.sources.values() for flag in FLAG.findall(text)}
         rules = "".join(file.read_text() for file in (root / name for name in MAKEFILES) if file.is_file())
@@ -56,8 +60,8 @@ class Repository:
 
     def texts(self, *crates: str) -> list[str]:
         """The texts of code and definitions of these crates, of all where none is named."""
-        own = {self.root / "crates" / it for it in crates} or {self.root / "crates"}
-        return [text for it, text in self.sources.items() if own & set(it.parents) and "proofs" not in it.parts]
+        own = {self.root / "crates" / crate for crate in crates} or {self.root / "crates"}
+        return [text for path, text in self.sources.items() if own & set(path.parents) and "proofs" not in path.parts]
 
     def has(self, path: str) -> bool:
         """Whether a file or folder ends in this path, where a part in capitals matches any."""

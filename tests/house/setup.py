@@ -1,7 +1,8 @@
-"""Sees that the machine has what the tests use of Debian (packages.txt): installs what is missing, or names what is left out for it.
+"""Sees that the machine has what the tests use of Debian (packages.txt): installs what is missing, or names what is
+left out for it.
 
-It installs where it runs as root, by apt-get, and says so first; SETUP=no in the environment leaves the machine alone. No service is
-started by what is installed, now or later.
+It installs where it runs as root, by apt-get, and says so first; SETUP=no in the environment leaves the machine alone.
+No service is started by what is installed, now or later.
 """
 
 import contextlib
@@ -64,7 +65,7 @@ def nothing_is_started() -> Iterator[None]:
         POLICY.unlink()
 
 
-def ran(*words: str) -> bool:
+def run(*words: str) -> bool:
     """Whether a command ends well; where it does not, its last lines are printed."""
     try:
         quiet = {**os.environ, "DEBIAN_FRONTEND": "noninteractive"}
@@ -80,25 +81,31 @@ def ran(*words: str) -> bool:
 def install(names: list[str]) -> bool:
     """Whether Debian's registry gives these packages, and they are installed."""
     with nothing_is_started():
-        if not ran("apt-get", "update", "-q") or not ran("apt-get", "install", "-q", "-y", "--no-install-recommends", *names):
+        if not run("apt-get", "update", "-q") or not run("apt-get", "install", "-q", "-y", "--no-install-recommends",
+                                                         *names):
             return False
-    services = [SERVICES[it] for it in names if it in SERVICES]
-    return not services or not shutil.which("systemctl") or ran("systemctl", "disable", "--quiet", *services)
+    services = [SERVICES[name] for name in names if name in SERVICES]
+    return not services or not shutil.which("systemctl") or run("systemctl", "disable", "--quiet", *services)
 
 
 def setup(text: str) -> bool:
-    """Installs what is missing, where it may, and names what is left out in the end. Gives whether the gate can begin."""
+    """Installs what is missing, where it may, and names what is left out in the end.
+
+    Gives whether the gate can begin.
+    """
     lacking = missing(text)
     if not lacking:
         return True
-    print(f"== this machine lacks of Debian: {', '.join(package.name for package in lacking)} (packages.txt)", flush=True)
+    print(f"== this machine lacks of Debian: {', '.join(package.name for package in lacking)} (packages.txt)",
+          flush=True)
     if os.environ.get("SETUP") == "no":
         print("SETUP=no: nothing is installed")
     elif os.getuid():
         print("nothing is installed, as this does not run as root")
     else:
         print("installing them by apt-get; SETUP=no leaves the machine alone", flush=True)
-        print("they are installed" if install([package.name for package in lacking]) else "not all could be installed", flush=True)
+        print("they are installed"
+              if install([package.name for package in lacking]) else "not all could be installed", flush=True)
     still_missing = missing(text)
     for package in still_missing:
         print(f"NOT TRIED, as there is no {package.mark} here: {package.use}", flush=True)

@@ -17,10 +17,13 @@ memory | never | memory | - | 0 | -
 
 
 class Table(unittest.TestCase):
+    """The tables of checks, and the page that is made from them."""
+
     def test_each_check_has_a_line(self) -> None:
-        run = {imports.module_of(it).removesuffix(".__main__") for it in imports.FILES if imports.is_run(it)}
-        wanted = {it for it in run if it.startswith(tuple(f"{room}." for room in table.ROOMS)) and not it.startswith(OTHERS)}
-        self.assertEqual({it.module for it in table.checks()}, wanted)
+        run = {imports.module_of(file).removesuffix(".__main__") for file in imports.FILES if imports.is_run(file)}
+        wanted = {module for module in run
+                  if module.startswith(tuple(f"{room}." for room in table.ROOMS)) and not module.startswith(OTHERS)}
+        self.assertEqual({check.module for check in table.checks()}, wanted)
 
     def test_what_touches_a_check_is_there(self) -> None:
         for check in table.checks():
@@ -39,7 +42,8 @@ class Table(unittest.TestCase):
         rows, ends, memory = table.listed("tests", TABLE)
         self.assertEqual((rows.words, rows.seconds, rows.touched), (["tests.rows"], 7, ("examples", "docs")))
         self.assertEqual((ends.words, ends.needs, memory.touched), (["tests.ends", "--short"], "cc", ()))
-        for wrong in ("rows | whole | answers | - | 7", "rows | often | answers | - | 7 | -", "rows | whole | answers | - | soon | -"):
+        for wrong in ("rows | whole | answers | - | 7", "rows | often | answers | - | 7 | -",
+                      "rows | whole | answers | - | soon | -"):
             with self.assertRaises(table.BadTable):
                 table.listed("tests", wrong)
 
@@ -47,7 +51,8 @@ class Table(unittest.TestCase):
         forms = table.long_forms()
         every = {check.module: check for check in table.checks()}
         self.assertLessEqual({module for module, check in every.items() if check.form != "whole"}, set(forms))
-        self.assertEqual({module: form.name for module, form in forms.items()}, {module: every[module].name for module in forms})
+        self.assertEqual({module: form.name for module, form in forms.items()},
+                         {module: every[module].name for module in forms})
         for form in forms.values():
             self.assertNotIn("$", " ".join(form.words({})))
 
@@ -62,6 +67,6 @@ class Table(unittest.TestCase):
 
     def test_seconds_are_noted(self) -> None:
         found = checks.noted(TABLE, checks.seconds_of("rows 12\nthe layout 3\nends 40\n"))
-        self.assertEqual([it.seconds for it in table.listed("tests", found)], [12, 40, 0])
+        self.assertEqual([check.seconds for check in table.listed("tests", found)], [12, 40, 0])
         self.assertEqual(found.replace("12", "7").replace("40", "0"), TABLE)
         self.assertEqual(checks.noted("ends | - | - | 0\n", {"ends": 40}, 3), "ends | - | - | 40\n")

@@ -1,6 +1,8 @@
-"""Tests that the picture of docs/ARCHITECTURE.md has each crate of crates.txt, in its layer, with the crates that it stands on.
+"""Tests that the picture of docs/ARCHITECTURE.md has each crate of crates.txt, in its layer, with the crates that it
+stands on.
 
-It also tests what a crate says of another one's proofs: only its `proofs/FromBelow.antt` cites them, and only their `proofs/ForCallers.antt`.
+It also tests what a crate says of another one's proofs: only its `proofs/FromBelow.antt` cites them, and only their
+`proofs/ForCallers.antt`.
 """
 
 import re
@@ -8,7 +10,7 @@ import sys
 import unittest
 from pathlib import Path
 
-sys.path[:0] = [str(Path(__file__).resolve().parents[2] / "gate" / it) for it in ("", "edits")]
+sys.path[:0] = [str(Path(__file__).resolve().parents[2] / "gate" / folder) for folder in ("", "edits")]
 
 import gate
 import kit
@@ -25,27 +27,30 @@ CITATION = re.compile(r"\bRattle\.(rs_\w+)\.proofs\.(\w+)")
 
 def strays(crate: str, place: str, text: str) -> list[str]:
     """What a file of a crate cites of proofs and should not: in src/ and specs/ any, in proofs/ another crate's."""
-    found = [it for it in CITATION.finditer(text) if it[1] != crate or not place.startswith("proofs/")]
+    found = [citation for citation in CITATION.finditer(text)
+             if citation[1] != crate or not place.startswith("proofs/")]
     is_taken = place == "proofs/FromBelow.antt"
-    return [it[0] for it in found if not (is_taken and it[2] == "ForCallers")]
+    return [citation[0] for citation in found if not (is_taken and citation[2] == "ForCallers")]
 
 
 def layers(uses: dict[str, list[str]]) -> dict[str, Layer]:
     """Of each crate its layer, and the crates that it stands on, without those that stand below another one of them."""
-    own = {name: [it for it in named if it in uses] for name, named in uses.items()}
+    own = {name: [other for other in names if other in uses] for name, names in uses.items()}
     found: dict[str, Layer] = {}
-    for name, named in own.items():
-        lower = {deeper for it in named for deeper in kit.below(uses, it)}
-        found[name] = 1 + max((found[it][0] for it in named), default=0), set(named) - lower
+    for name, others in own.items():
+        lower = {deeper for other in others for deeper in kit.below(uses, other)}
+        found[name] = 1 + max((found[other][0] for other in others), default=0), set(others) - lower
     return found
 
 
 def drawn(page: str) -> list[tuple[str, Layer]]:
     """The same, by the lines of a page; a crate that stands there twice comes twice."""
-    return [(name, (int(layer), set(named.split()))) for layer, name, named in LINE.findall(page)]
+    return [(name, (int(layer), set(names.split()))) for layer, name, names in LINE.findall(page)]
 
 
 class Layers(unittest.TestCase):
+    """The picture of the layers, and the proofs that crates cite."""
+
     def test_the_picture_is_that_of_the_crates(self) -> None:
         page = Path(gate.ROOT, "docs", "ARCHITECTURE.md").read_text()
         self.assertEqual(sorted(drawn(page)), sorted(layers(kit.crates_of(gate.ROOT)).items()))
@@ -56,12 +61,12 @@ class Layers(unittest.TestCase):
 
     def test_proofs_are_cited_by_their_interface(self) -> None:
         crates = Path(gate.ROOT, "crates")
-        files = [it for kind in ("*.rt", "*.antt") for it in sorted(crates.rglob(kind)) if "out" not in it.parts]
+        files = [file for kind in ("*.rt", "*.antt") for file in sorted(crates.rglob(kind)) if "out" not in file.parts]
         found = {}
         for file in files:
             crate, _, place = file.relative_to(crates).as_posix().partition("/")
             found[f"{crate}/{place}"] = strays(crate, place, file.read_text())
-        self.assertEqual({place: named for place, named in found.items() if named}, {})
+        self.assertEqual({place: names for place, names in found.items() if names}, {})
 
     def test_a_stray_citation_is_found(self) -> None:
         lemma, offered = "use Rattle.rs_a.proofs.Images.{settled}", "pub use Rattle.rs_a.proofs.ForCallers.{settled}"
@@ -73,4 +78,5 @@ class Layers(unittest.TestCase):
         self.assertEqual(strays("rs_a", "specs/Pages.antt", lemma), ["Rattle.rs_a.proofs.Images"])
 
     def test_a_line_is_read(self) -> None:
-        self.assertEqual(drawn("  2  rs_b  what it is, and more   rs_a\n  1  rs_a  the lowest\n"), [("rs_b", (2, {"rs_a"})), ("rs_a", (1, set()))])
+        self.assertEqual(drawn("  2  rs_b  what it is, and more   rs_a\n  1  rs_a  the lowest\n"),
+                         [("rs_b", (2, {"rs_a"})), ("rs_a", (1, set()))])

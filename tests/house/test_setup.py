@@ -19,11 +19,13 @@ file | /no/such/file | test | pages
 
 
 class SetUp(unittest.TestCase):
-    def test_what_is_missing(self) -> None:
-        self.assertEqual([it.name for it in setup.packages(TABLE)], ["shell", "none", "later", "file"])
-        self.assertEqual([it.name for it in setup.missing(TABLE)], ["none", "file"])
+    """What setup installs, and what it says."""
 
-    def said(self, user: int, **environment: str) -> tuple[str, list[str]]:
+    def test_what_is_missing(self) -> None:
+        self.assertEqual([package.name for package in setup.packages(TABLE)], ["shell", "none", "later", "file"])
+        self.assertEqual([package.name for package in setup.missing(TABLE)], ["none", "file"])
+
+    def run_setup(self, user: int, **environment: str) -> tuple[str, list[str]]:
         """What it prints for a user, and what it installed."""
         installed: list[str] = []
         with contextlib.ExitStack() as patched, contextlib.redirect_stdout(io.StringIO()) as out:
@@ -35,11 +37,12 @@ class SetUp(unittest.TestCase):
 
     def test_each_part_that_is_left_out_is_named(self) -> None:
         for user, is_set_up, wanted in ((0, "", ["none", "file"]), (0, "no", []), (1000, "", [])):
-            told, installed = self.said(user, SETUP=is_set_up)
+            output, installed = self.run_setup(user, SETUP=is_set_up)
             self.assertEqual(installed, wanted)
-            self.assertTrue(told.startswith("== this machine lacks of Debian: none, file (packages.txt)\n"))
+            self.assertTrue(output.startswith("== this machine lacks of Debian: none, file (packages.txt)\n"))
             left_out = [("no-such-command", "the tour"), ("/no/such/file", "pages")]
-            self.assertTrue(told.endswith("".join(f"NOT TRIED, as there is no {what} here: {part}\n" for what, part in left_out)))
+            self.assertTrue(output.endswith("".join(f"NOT TRIED, as there is no {what} here: {part}\n"
+                                                    for what, part in left_out)))
 
     def test_nothing_is_said_where_nothing_is_missing(self) -> None:
         with contextlib.redirect_stdout(io.StringIO()) as out:
@@ -52,5 +55,7 @@ class SetUp(unittest.TestCase):
 
     def test_the_table_says_what_for(self) -> None:
         every = setup.packages(Path(setup.ROOT, "packages.txt").read_text())
-        self.assertEqual(len({it.name for it in every}), len(every))
-        self.assertTrue(all(it.name and it.mark and it.use and it.user in ("gate", "test", "bench", "replicas", "arm64", "pictures") for it in every))
+        self.assertEqual(len({package.name for package in every}), len(every))
+        users = ("gate", "test", "bench", "replicas", "arm64", "pictures")
+        self.assertTrue(all(package.name and package.mark and package.use and package.user in users
+                            for package in every))

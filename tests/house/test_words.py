@@ -11,9 +11,12 @@ from tests.house.repository import Repository
 ROOT = Path(__file__).resolve().parents[2]
 
 FILES = {
-    **{"Makefile": "test build:\n\techo\n", "operations/send": "--short\n", "tests/crash/__main__.py": "", "docs/PLAN.md": ""},
-    "crates/rs_a/src/lib.rt": "pub fn other()\n    ensures none { result ≡ 0 }\n/// `lost_word`\npub fn find(\n    at: u64,\n    n: u32,\n) -> Run"
-                              "  requires { n ≤ at }\n    // Why.\n    ensures found { IsFree at (n + 1)\n  (length bytes) }\n{\n    0\n}\n",
+    **{"Makefile": "test build:\n\techo\n", "operations/send": "--short\n", "tests/crash/__main__.py": "",
+       "docs/PLAN.md": ""},
+    "crates/rs_a/src/lib.rt": "pub fn other()\n    ensures none { result ≡ 0 }\n/// `lost_word`\n"
+                              "pub fn find(\n    at: u64,\n    n: u32,\n) -> Run"
+                              "  requires { n ≤ at }\n    // Why.\n"
+                              "    ensures found { IsFree at (n + 1)\n  (length bytes) }\n{\n    0\n}\n",
     "crates/rs_a/specs/Runs.antt": "IsFree at n = n ≤ at\n",
     "crates/rs_b/specs/Sets.antt": "IsSet s = IsFree s s\n",
 }
@@ -30,12 +33,15 @@ pub fn find(at: u64, n: u32) -> Run
 ```
 `make test`, `operations/send --short`, `python3 -m tests.crash`, `curl --silent`, 2 words.
 """
-FIGURES = """Blocks of 512 bytes, and no more than 4 GiB are used. Its blocks, at most 8,388,608. The item limit is 2 to 4,000. A name has 1 to 240
-bytes. A base has 8 to 128 bytes. `TooLong`: a body of more than 16,777,216 bytes. At most 50,000 resources, at most 50,000 changes, 25,000 parts.
+FIGURES = """Blocks of 512 bytes, and no more than 4 GiB are used. Its blocks, at most 8,388,608. The item limit is
+2 to 4,000. A name has 1 to 240 bytes. A base has 8 to 128 bytes. `TooLong`: a body of more than 16,777,216 bytes. At
+most 50,000 resources, at most 50,000 changes, 25,000 parts.
 A **group** does up to 16. A media type has 3 to 100 bytes, and 50,000 resources of 16 MiB at most."""
 
 
 class Pages(unittest.TestCase):
+    """The looks at the words and the figures of pages."""
+
     def setUp(self) -> None:
         folder = tempfile.TemporaryDirectory()
         self.addCleanup(folder.cleanup)
@@ -45,33 +51,37 @@ class Pages(unittest.TestCase):
             (self.root / name).write_text(text)
         self.repo = Repository(self.root)
 
-    def told(self, old: str = "", new: str = "") -> list[str]:
+    def faults(self, old: str = "", new: str = "") -> list[str]:
         """What is found on the page with a text in the place of another."""
         self.assertIn(old, PAGE)
         page = self.root / "crates/rs_a/README.md"
         return [what for look in words.LOOKS for _, what in look(self.repo, page, PAGE.replace(old, new, 1))]
 
     def test_a_page_as_it_should_be_passes(self) -> None:
-        self.assertEqual(self.told(), [])
+        self.assertEqual(self.faults(), [])
 
     def test_what_is_wrong_is_told(self) -> None:
-        changed = ["n ≤ at }", "n < at }"], ["(length", "(size"], ["n: u32", "n: u64"], ["    ensures", "ensures none { result ≡ 0 }\nensures"]
-        gone = ["docs/PLAN.md,", "docs/PLANS.md,"], ["../../docs", "../docs"], ["Runs.antt", "Sets.antt"], ["NAME/specs", "NAME/spec"]
-        unknown = ["rs_a::find", "lost_word"], ["rs_a::find", "rs_a::finds"], ["2 words", "`IsFreed at 2`"], ["of rs_b", "of it"]
-        commands = ["make test", "make tests"], ["make test", "make tests.crush"], ["--short", "--shorter"], ["tests.crash", "tests.crush"]
+        changed = ["n ≤ at }", "n < at }"], [
+            "(length", "(size"], ["n: u32", "n: u64"], ["    ensures", "ensures none { result ≡ 0 }\nensures"]
+        gone = ["docs/PLAN.md,", "docs/PLANS.md,"], [
+            "../../docs", "../docs"], ["Runs.antt", "Sets.antt"], ["NAME/specs", "NAME/spec"]
+        unknown = ["rs_a::find", "lost_word"], [
+            "rs_a::find", "rs_a::finds"], ["2 words", "`IsFreed at 2`"], ["of rs_b", "of it"]
+        commands = ["make test", "make tests"], [
+            "make test", "make tests.crush"], ["--short", "--shorter"], ["tests.crash", "tests.crush"]
         for old, new in [*changed, *gone, *unknown, *commands]:
-            self.assertTrue(self.told(old, new), f"{old} -> {new}")
+            self.assertTrue(self.faults(old, new), f"{old} -> {new}")
 
     def test_a_strange_word_is_told_with_a_plain_one(self) -> None:
         for old, new in (["2 words", "2 Words such\na one"], ["2 words", "what Comes to"]):
-            self.assertEqual(len(self.told(old, new)), 1, new)
-        self.assertEqual(self.told("2 words", "becomes tonight"), [])
+            self.assertEqual(len(self.faults(old, new)), 1, new)
+        self.assertEqual(self.faults("2 words", "becomes tonight"), [])
 
     def test_each_figure_off_by_one_is_told(self) -> None:
         self.assertEqual([what for page, _, what in limits.wrong(ROOT, {ROOT: FIGURES}) if page], [])
-        for it in re.finditer(r"\d[\d,]*\d|\b[248]\b", FIGURES):
-            text = f"{FIGURES[: it.start()]}{int(it[0].replace(',', '')) + 1:,}{FIGURES[it.end() :]}"
-            self.assertTrue([what for page, _, what in limits.wrong(ROOT, {ROOT: text}) if page], it[0])
+        for match in re.finditer(r"\d[\d,]*\d|\b[248]\b", FIGURES):
+            text = f"{FIGURES[: match.start()]}{int(match[0].replace(',', '')) + 1:,}{FIGURES[match.end() :]}"
+            self.assertTrue([what for page, _, what in limits.wrong(ROOT, {ROOT: text}) if page], match[0])
 
     def test_the_words_of_the_world_are_sorted(self) -> None:
         listed = (ROOT / "tests" / "house" / "words.txt").read_text().split("\n")

@@ -1,14 +1,17 @@
 """Whether the pages say what is there. A line for each place where one does not; the status is 1 where there is any.
 
-  - A clause or signature in a block of Rust stands so in the code of the page's crate (for docs/: of any), within the function quoted before
-    it. White space and comments do not count. `..` marks what is cut, with the brackets that it leaves open; so does `(.. words ..)`.
-  - A word in backticks is a word of the sources: code, definitions and proofs without their comments, Python, Makefile, operations/install/, names of
-    files, crates.txt, packages.txt, statement/kit_words.txt (the kit's), tests/house/words.txt (the world's). Of a text of letters, digits and
-    `_ : . < > ( )` alone, each name counts, but for digests and what begins with a digit; of any other text, each name with `_` or a capital
-    within, but for paths and options. A word in capitals alone is a placeholder. A word at the front of a line of a crate's "Its
-    words" is defined in that crate, or the line names another crate.
-  - A path exists: what begins with a folder of ours, or ends as our files do. `NAME` and `*` stand for anything, and what is below out/ is
-    passed over. So does the target of a link, that of a `make`, the module of a `python3 -m`, and a flag beside a command of ours.
+  - A clause or signature in a block of Rust stands so in the code of the page's crate (for docs/: of any), within the
+    function quoted before it. White space and comments do not count. `..` marks what is cut, with the brackets that it
+    leaves open; so does `(.. words ..)`.
+  - A word in backticks is a word of the sources: code, definitions and proofs without their comments, Python, Makefile,
+    operations/install/, names of files, crates.txt, packages.txt, statement/kit_words.txt (the kit's),
+    tests/house/words.txt (the world's). Of a text of letters, digits and `_ : . < > ( )` alone, each name counts, but
+    for digests and what begins with a digit; of any other text, each name with `_` or a capital within, but for paths
+    and options. A word in capitals alone is a placeholder. A word at the front of a line of a crate's "Its words" is
+    defined in that crate, or the line names another crate.
+  - A path exists: what begins with a folder of ours, or ends as our files do. `NAME` and `*` stand for anything, and
+    what is below out/ is passed over. So does the target of a link, that of a `make`, the module of a `python3 -m`, and
+    a flag beside a command of ours.
   - A figure of a limit is the code's, and some page tells it (limits.py).
   - No word stands there that readers stumble at (strange.txt).
 """
@@ -27,8 +30,10 @@ STRANGE = Path(__file__).with_name("strange.txt")
 # What is found on a page: where, and what is wrong.
 Found = Iterator[tuple[int, str]]
 CLAUSE, CUT = r"^ *(?:pub |fn |requires\b|ensures\b)", r"(?:(?!\b(?:ensures|requires|fn)\b)[\s\S])*?"
-FILE = re.compile(r"(?<![\w/.:~%-])(?:(?:crates|docs|tests|gate|statement|bench|examples|install|operations|specs|src|proofs|must-fail)/[\w./*-]*"
+FILE = re.compile(r"(?<![\w/.:~%-])(?:(?:crates|docs|tests|gate|statement|bench|examples|install|operations"
+                  r"|specs|src|proofs|must-fail)/[\w./*-]*"
                   r"|[\w*-]+(?:/[\w*-]+)*\.(?:md|py|rt|antt|sh|svg|session|disks|edit|txt|http))(?![\w/])")
+MAKE = re.compile(r"(?:^|[(;&] ?|=\S+ )make ([a-z][\w.-]*)")
 OURS = re.compile(r"\brs_source\b|\bmake\b|\b(?:gate|statement|operations)/|\b(?:tests|bench)\.\w|^--"
                   r"|\bropepeach (?:fill|mirror|look|size|why|health|collection|grow|takeover)\b")
 
@@ -42,18 +47,20 @@ def pattern(quoted: str) -> re.Pattern[str]:
     """What finds a quoted piece of code, whatever its spaces, line breaks and cuts."""
     tokens = re.findall(r"\.\.|\w+|[^\w\s]", re.sub(r"\(\.\. [^()]* \.\.\)", "..", quoted).rstrip("; \n"))
     marks = {"..": CUT, ")": r",?\s*\)", "}": r"[)\s]*\}"}
-    return re.compile(r"\s*".join(marks.get(it) or (rf"\b{it}\b" if it[0].isalnum() else re.escape(it)) for it in tokens))
+    return re.compile(r"\s*".join(marks.get(token) or (rf"\b{token}\b" if token[0].isalnum() else re.escape(token))
+                                  for token in tokens))
 
 
 def clauses(repo: Repository, page: Path, text: str) -> Found:
     """Quoted clauses that no source has."""
-    for block in (it for it in FENCE.finditer(text) if it[1] == "rust"):
+    for block in (block for block in FENCE.finditer(text) if block[1] == "rust"):
         scope = texts = repo.texts(*crate_of(page))
         for part in re.finditer(rf"(?ms){CLAUSE}.*?(?={CLAUSE}|\Z)", blanked(COMMENT, block[2])):
             wanted = pattern(part[0])
             is_head = part[0].split()[0] in ("pub", "fn")
             # What stands behind each place where it is found, up to the next function.
-            found = [re.split(r"\bfn\b", it[place.end() :], maxsplit=1)[0] for it in (texts if is_head else scope) for place in wanted.finditer(it)]
+            found = [re.split(r"\bfn\b", text[place.end() :], maxsplit=1)[0] for text in (texts if is_head else scope)
+                     for place in wanted.finditer(text)]
             scope = (found or texts) if is_head else scope
             if not found:
                 yield block.start(2) + part.start(), f"no source has it so: {' '.join(part[0].split())}"
@@ -75,33 +82,40 @@ def own_words(repo: Repository, page: Path, text: str) -> Found:
     for line in re.finditer(r"(?m)^- ((?:`[^`]+`(?:, )?)+).*(?:\n  .*)*", part[1] if part else ""):
         firsts = [WORD.match(span[1]) for span in SPAN.finditer(line[1])]
         for word in (first[0] for first in firsts if first):
-            defined = rf"(?m)^(?:(?:pub|record|data|abbrev) )*{word}\b|^ +(?:pub )?{word} :|\b(?:fn|struct|enum|trait|const|type) {word}\b"
-            if part and not re.search(defined, code) and not set(re.findall(r"\brs_\w+", line[0])) - set(crate_of(page)):
+            defined = (rf"(?m)^(?:(?:pub|record|data|abbrev) )*{word}\b|^ +(?:pub )?{word} :"
+                       rf"|\b(?:fn|struct|enum|trait|const|type) {word}\b")
+            others = set(re.findall(r"\brs_\w+", line[0])) - set(crate_of(page))
+            if part and not re.search(defined, code) and not others:
                 yield part.start(1) + line.start(), f"{page.parent.name} does not define {word}"
 
 
 def paths(repo: Repository, page: Path, text: str) -> Found:
     """Paths and links that lead to nothing."""
-    for it in FILE.finditer(text):
-        path, near = it[0].rstrip("./"), re.findall(r"\brs_\w+", text[max(0, it.start() - 30) : it.start()])
-        ends = [f"{crate}/{path}" for crate in crate_of(page) + near if crate_of(page) and path.startswith(("src/", "specs/", "proofs/"))]
+    for match in FILE.finditer(text):
+        path, near = match[0].rstrip("./"), re.findall(r"\brs_\w+", text[max(0, match.start() - 30) : match.start()])
+        ends = [f"{crate}/{path}" for crate in crate_of(page) + near
+                if crate_of(page) and path.startswith(("src/", "specs/", "proofs/"))]
         if "out/" not in path and not any(map(repo.has, ends or [path])):
-            yield it.start(), f"there is no {path}"
-    for it in re.finditer(r"\]\(([^)#:\s]+)(?:#[^)]*)?\)", prose(text)):
-        if not (page.parent / it[1]).exists():
-            yield it.start(), f"a link to nothing: {it[1]}"
+            yield match.start(), f"there is no {path}"
+    for match in re.finditer(r"\]\(([^)#:\s]+)(?:#[^)]*)?\)", prose(text)):
+        if not (page.parent / match[1]).exists():
+            yield match.start(), f"a link to nothing: {match[1]}"
 
 
 def commands(repo: Repository, page: Path, text: str) -> Found:
     """Targets, modules and flags that are not there."""
-    lines = [(block.start(2) + it.start(), it[0]) for block in FENCE.finditer(text) for it in re.finditer(r".+", block[2])]
-    for at, code in lines + [(it.start(), it[1]) for it in SPAN.finditer(prose(text))]:
+    lines = [(block.start(2) + line.start(), line[0]) for block in FENCE.finditer(text)
+             for line in re.finditer(r".+", block[2])]
+    for at, code in lines + [(span.start(), span[1]) for span in SPAN.finditer(prose(text))]:
         code = re.sub(r"\s#.*", "", code).strip("$ ")
-        targets = [it for it in re.findall(r"(?:^|[(;&] ?|=\S+ )make ([a-z][\w.-]*)", code) if it not in repo.targets]
-        modules = re.findall(r"-m ((?:tests|bench|operations)\b[\w.]*\w)", code) + [it for it in targets if re.match(r"(?:operations\.)?tests\.", it)]
-        yield from ((at, f"no target of the Makefile: {it}") for it in targets if it not in modules)
-        yield from ((at, f"there is no module {it}") for it in modules if not repo.has(it.replace(".", "/")))
-        yield from ((at, f"no source names the flag {it}") for it in FLAG.findall(code) if OURS.search(code) and it not in repo.flags)
+        targets = [target for target in MAKE.findall(code) if target not in repo.targets]
+        modules = re.findall(r"-m ((?:tests|bench|operations)\b[\w.]*\w)", code)
+        modules += [target for target in targets if re.match(r"(?:operations\.)?tests\.", target)]
+        yield from ((at, f"no target of the Makefile: {target}") for target in targets if target not in modules)
+        yield from ((at, f"there is no module {module}") for module in modules
+                    if not repo.has(module.replace(".", "/")))
+        yield from ((at, f"no source names the flag {flag}") for flag in FLAG.findall(code)
+                    if OURS.search(code) and flag not in repo.flags)
 
 
 def strange(repo: Repository, page: Path, text: str) -> Found:
@@ -118,7 +132,7 @@ LOOKS: tuple[Callable[[Repository, Path, str], Found], ...] = clauses, words, ow
 
 def main(root: Path) -> int:
     """Looks at all pages of a repository, and gives the status."""
-    repo, texts = Repository(root), {it: it.read_text() for kind in PAGES for it in sorted(root.glob(kind))}
+    repo, texts = Repository(root), {path: path.read_text() for kind in PAGES for path in sorted(root.glob(kind))}
     found: list[tuple[Path | None, int, str]] = []
     found += [(page, at, what) for page, text in texts.items() for look in LOOKS for at, what in look(repo, page, text)]
     found += limits.wrong(root, texts)

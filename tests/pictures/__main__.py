@@ -1,6 +1,7 @@
 """Draws the pictures of disks in docs/ again on the proved program, and compares them byte for byte (album.py).
 
-usage: python3 -m tests.pictures [PROGRAM] [--draw]     the built program, where none is given; --draw keeps what it draws
+usage: python3 -m tests.pictures [PROGRAM] [--draw]     the built program, where none is given; --draw keeps what it
+                                                        draws
 Exit status 1 where a picture differs (`make pictures` draws them anew), or where something wrong is not noticed.
 """
 

@@ -17,6 +17,7 @@ CLOCK = 951_782_400_000
 
 
 def put(name, size):
+    """The line of a put of this many bytes, and its label."""
     body = (name.encode() * size).hex() or "-"
     return f"put {name} {body} text/plain", f"put {name}, {size:,} bytes"
 
@@ -29,7 +30,7 @@ LINES += [("publish", "publish"), put("d", 2000), put("a", 0), ("publish", "publ
 Part = collections.namedtuple("Part", "kind word first blocks is_published", defaults=[False])
 # What a strip shows: its label, its parts, the blocks that were written, those that were used before it and
 # no more, and the block of the slot with the root.
-Strip = collections.namedtuple("Strip", "told parts written left root")
+Strip = collections.namedtuple("Strip", "label parts written freed root")
 
 
 def slots(disk):
@@ -49,25 +50,26 @@ def parts_of(disk):
     source = disk_reader.source_of(disk)
     if why := disk_reader.fault(disk, source):
         raise Unrecorded(why)
-    catalogue, published = ([it.entry for it in pages] for pages in (source.catalogue, source.published))
+    catalogue, published = ([page.entry for page in pages] for pages in (source.catalogue, source.published))
     found = slots(disk) + [Part("dir", "dir", *source.directory[:2])]
-    found += [Part("rec", "rec", *it[:2], it in published) for it in catalogue]
-    found += [Part("chg", "chg", *it.entry[:2]) for it in source.changes]
-    found += [Part("pub", "pub", *it[:2]) for it in published if it not in catalogue]
+    found += [Part("rec", "rec", *entry[:2], entry in published) for entry in catalogue]
+    found += [Part("chg", "chg", *page.entry[:2]) for page in source.changes]
+    found += [Part("pub", "pub", *entry[:2]) for entry in published if entry not in catalogue]
     bodies = [record for page in source.catalogue for record in page.items if record.blocks]
-    found += [Part("body", it.name.decode(), it.first, it.blocks) for it in bodies]
-    return sorted(found, key=lambda it: it.first)
+    found += [Part("body", record.name.decode(), record.first, record.blocks) for record in bodies]
+    return sorted(found, key=lambda part: part.first)
 
 
 def blocks_of(parts):
-    return {block for it in parts for block in range(it.first, it.first + it.blocks)}
+    """The blocks of some parts."""
+    return {block for part in parts for block in range(part.first, part.first + part.blocks)}
 
 
 def commands_of(calls):
     """The calls of each answered line."""
     found, begun = [], 0
-    for end, it in enumerate(calls):
-        if it.kind == ANSWER:
+    for end, call in enumerate(calls):
+        if call.kind == ANSWER:
             found.append(calls[begun:end])
             begun = end + 1
     return found
@@ -75,15 +77,15 @@ def commands_of(calls):
 
 def written_by(calls):
     """The blocks that some calls write into."""
-    writes = [it for it in calls if it.kind == WRITE]
-    return {block for it in writes for block in range(it.at // BLOCK, (it.at + len(it.data) - 1) // BLOCK + 1)}
+    writes = [call for call in calls if call.kind == WRITE]
+    return {block for call in writes for block in range(call.at // BLOCK, (call.at + len(call.data) - 1) // BLOCK + 1)}
 
 
-def strip_of(told, before, disk, calls):
+def strip_of(label, before, disk, calls):
     """The strip of a disk that some calls left, where these parts lay before."""
     parts = parts_of(disk)
-    root = next(it.first for it in parts if it.word.endswith("*"))
-    return Strip(told, parts, written_by(calls), blocks_of(before) - blocks_of(parts), root)
+    root = next(part.first for part in parts if part.word.endswith("*"))
+    return Strip(label, parts, written_by(calls), blocks_of(before) - blocks_of(parts), root)
 
 
 def strips(program, room, changed):
@@ -94,13 +96,13 @@ def strips(program, room, changed):
     lines = [f"at {CLOCK}", *(line for line, _ in LINES)]
     answers, _, _ = crash_model.run(state, lines)
     found = [strip_of("format", [], disk, formatting)]
-    for (_, told), calls in zip(LINES, commands_of(recorder.run(disk, lines, answers))[1:], strict=True):
+    for (_, label), calls in zip(LINES, commands_of(recorder.run(disk, lines, answers))[1:], strict=True):
         before, calls = found[-1].parts, changed(disk, calls)
         disk = replayed(disk, calls)
-        kept = {it for it in blocks_of(before) if it > 1 or found[-1].root == it}
-        found.append(strip_of(told, before, disk, calls))
-        if wrong := kept & found[-1].written:
-            raise Unrecorded(f"{told}: it writes into used blocks {sorted(wrong)}")
+        in_use = {block for block in blocks_of(before) if block > 1 or found[-1].root == block}
+        found.append(strip_of(label, before, disk, calls))
+        if wrong := in_use & found[-1].written:
+            raise Unrecorded(f"{label}: it writes into used blocks {sorted(wrong)}")
     return found
 
 
@@ -131,12 +133,12 @@ def draw_cross(picture, x, y):
 def draw_strip(picture, strip, number, y):
     """One strip, with its label on its left, and the number of free blocks on its right."""
     picture.text(30, y + 18, str(number), 12, "end", fill=SOFT)
-    picture.text(40, y + 18, strip.told, 13)
+    picture.text(40, y + 18, strip.label, 13)
     used = blocks_of(strip.parts)
     for block in range(BLOCKS):
         if block not in used:
             picture.box(LEFT + block * CELL, y, CELL, TALL, FILLS["free"], EDGE)
-        if block in strip.left:
+        if block in strip.freed:
             draw_cross(picture, LEFT + block * CELL, y)
     for part in strip.parts:
         draw_part(picture, part, LEFT + part.first * CELL, y)
@@ -155,6 +157,7 @@ COLUMNS = (40, 320, 500, 690)
 
 
 def draw_legend(picture, y):
+    """What the colours and the words of the picture mean."""
     for column, row, part, meaning in LEGEND:
         x, below = COLUMNS[column], y + row * 34
         picture.box(x, below, CELL, TALL, FILLS["free"], EDGE)
@@ -168,6 +171,7 @@ def draw_legend(picture, y):
 
 
 def as_recorded(disk, calls):
+    """The calls as they were recorded."""
     return calls
 
 
@@ -175,10 +179,12 @@ def draw(program, room, changed=as_recorded):
     """The picture, of the recorded calls or of what they are changed into, command by command."""
     found = strips(program, room, changed)
     height = TOP + len(found) * STEP + 122
-    told = "; ".join(f"{it.told}: writes blocks {', '.join(map(str, sorted(it.written)))}" for it in found[1:])
-    told = (f"One strip of {BLOCKS} blocks for a new disk and for the disk after each of ten commands. {told}. "
-            "But for the slots, each block that a command writes was free before it.")
-    picture = Picture(900, height, "The blocks of a disk through ten commands", told)
+    commands = "; ".join(f"{strip.label}: writes blocks {', '.join(map(str, sorted(strip.written)))}"
+                         for strip in found[1:])
+    description = (f"One strip of {BLOCKS} blocks for a new disk and for the disk after each of ten commands. "
+                   f"{commands}. "
+                   "But for the slots, each block that a command writes was free before it.")
+    picture = Picture(900, height, "The blocks of a disk through ten commands", description)
     picture.text(40, 34, "The blocks of a disk through ten commands", 17, font_weight="bold")
     picture.text(40, 56, f"{BLOCKS} blocks of 512 bytes, as the program left them. But for the slots 0 and 1, "
                          "a command writes into free blocks alone,", 12, fill=SOFT)

@@ -22,7 +22,7 @@ LINES = ["at 951782400000", "put a 68656c6c6f text/plain", "put b " + "77" * 600
 FILLER, GREATEST = b"\xa5", b"\x01" + b"\xff" * 8
 # What a row shows: the label of the call, the blocks that it writes, the places that are in question, the
 # generations that are settled in the slots, and how many images tell the old state and the new one.
-Row = collections.namedtuple("Row", "told written places generations old new")
+Row = collections.namedtuple("Row", "label written places generations old new")
 
 
 def pieces(places):
@@ -37,35 +37,35 @@ def pieces(places):
     return found
 
 
-def choices(piece, settled, kept, is_alone):
+def choices(piece, settled, latest, is_alone):
     """The bytes that a crash is taken to leave in a run of places."""
     first, count = piece[0], len(piece)
     if first in (0, BLOCK) and count == 1:
         few = {settled[first : first + 1], b"\0", b"\1", FILLER}
-        return [bytes([it]) for it in range(256)] if is_alone else sorted(few)
-    found = [settled[first : first + count], kept[first : first + count], FILLER * count]
+        return [bytes([byte]) for byte in range(256)] if is_alone else sorted(few)
+    found = [settled[first : first + count], latest[first : first + count], FILLER * count]
     is_slot = first in (1, BLOCK + 1)
-    return found + [GREATEST + kept[first + 9 : first + count]] if is_slot else found
+    return found + [GREATEST + latest[first + 9 : first + count]] if is_slot else found
 
 
 def images(moment):
     """The images of a crash at a moment."""
-    runs, kept = pieces(crash_images.places(moment)), crash_images.kept(moment, None)
-    for chosen in itertools.product(*(choices(it, moment.settled, kept, len(runs) == 1) for it in runs)):
+    runs, latest = pieces(crash_images.places(moment)), crash_images.kept(moment, None)
+    for chosen in itertools.product(*(choices(piece, moment.settled, latest, len(runs) == 1) for piece in runs)):
         yield over(moment.settled, [(run[0], data) for run, data in zip(runs, chosen)])
 
 
-def told_by(image):
+def state_in(image):
     """The state that an image tells, as far as it is compared: what is held, with the bytes, and what has changed."""
     source = disk_reader.source_of(image)
     if why := disk_reader.fault(image, source):
         raise disk_reader.Unread(why)
-    records = [it for page in source.catalogue for it in page.items]
-    held = [(it, image[it.first * BLOCK : it.first * BLOCK + it.length]) for it in records]
-    return held, [it for page in source.changes for it in page.items], source.last, source.number
+    records = [record for page in source.catalogue for record in page.items]
+    resources = [(record, image[record.first * BLOCK : record.first * BLOCK + record.length]) for record in records]
+    return resources, [change for page in source.changes for change in page.items], source.last, source.number
 
 
-def told_of(call, state):
+def label_of(call, state):
     """The label of a call. The parts are written in the order of docs/DISK.md."""
     if call.kind == SYNC:
         return "sync"
@@ -74,21 +74,21 @@ def told_of(call, state):
         return f"write {call.data[0]} at byte {call.at}, the gate"
     if call.at < 2 * BLOCK:
         return f"write bytes {call.at % BLOCK} to {call.at % BLOCK + size - 1}, the root"
-    part = next(it for it in state if it.first == first)
+    part = next(part for part in state if part.first == first)
     words = {"body": f"the body of {part.word}", "rec": "the records", "chg": "the changes", "dir": "the directory"}
     return f"write {words[part.kind]}, {size} bytes"
 
 
-def row_of(moment, told, written, old, new):
+def row_of(moment, label, written, old, new):
     """The images of a moment, each by what it tells."""
     counts = collections.Counter()
     for image in images(moment):
-        found = told_by(image)
+        found = state_in(image)
         if found not in (old, new):
-            raise Unrecorded(f"{told}: an image tells neither the old state nor the new one")
+            raise Unrecorded(f"{label}: an image tells neither the old state nor the new one")
         counts["old" if found == old else "new"] += 1
     generations = [int.from_bytes(moment.settled[at + 2 : at + 10], "big") for at in (0, BLOCK)]
-    return Row(told, written, crash_images.places(moment), generations, counts["old"], counts["new"])
+    return Row(label, written, crash_images.places(moment), generations, counts["old"], counts["new"])
 
 
 def recorded(program, room, changed):
@@ -97,18 +97,18 @@ def recorded(program, room, changed):
     disk = replayed(b"", recorder.format(BLOCKS * BLOCK, BASE, LIMIT))
     answers, _, _ = crash_model.run(crash_model.State(BASE, LIMIT), LINES)
     *before, calls = commands_of(changed(recorder.run(disk, LINES, answers)))
-    disk = replayed(disk, [it for command in before for it in command])
+    disk = replayed(disk, [call for command in before for call in command])
     return disk, calls, replayed(disk, calls)
 
 
 def rows(disk, calls, after):
     """A row for the disk before the calls, one for each call, and one for the disk after them."""
-    old, new, parts = told_by(disk), told_by(after), parts_of(after)
+    old, new, parts = state_in(disk), state_in(after), parts_of(after)
     moments = list(crash_images.moments(disk, calls))
     first = crash_images.Moment(0, disk, [], 0)
     found = [row_of(first, "before", set(), old, new)]
     for call, moment in zip(calls, moments):
-        found.append(row_of(moment, told_of(call, parts), written_by([call]), old, new))
+        found.append(row_of(moment, label_of(call, parts), written_by([call]), old, new))
     return found + [row_of(moments[-1], "after it: answered", set(), old, new)]
 
 
@@ -138,10 +138,10 @@ def draw_block(picture, block, part, word, y):
 def draw_row(picture, row, number, parts, y):
     """One row: the call, the blocks, and what images tell."""
     picture.text(30, y + 17, number, 12, "end", fill=SOFT)
-    picture.text(40, y + 17, row.told, 12)
+    picture.text(40, y + 17, row.label, 12)
     of_block = {block: part for part in parts for block in blocks_of([part])}
     for block in range(BLOCKS):
-        inside = [it % BLOCK for it in row.places if it // BLOCK == block]
+        inside = [place % BLOCK for place in row.places if place // BLOCK == block]
         part = of_block.get(block)
         word = part.word if part else ""
         if block < 2:
@@ -176,9 +176,9 @@ def draw(program, room, changed=list):
     picture.lines(40, 54, TOLD, 12, fill=SOFT)
     for block in range(BLOCKS):
         picture.text(LEFT + block * CELL + CELL / 2, TOP - 6, str(block), 10, "middle", True, SOFT)
-    for x, told, held in ((OLD, "the old state", "holds a"), (NEW, "the new state", "holds a, b")):
-        picture.text(x + 50, TOP - 20, told, 12, "middle", font_weight="bold")
-        picture.text(x + 50, TOP - 6, held, 11, "middle", fill=SOFT)
+    for x, heading, content in ((OLD, "the old state", "holds a"), (NEW, "the new state", "holds a, b")):
+        picture.text(x + 50, TOP - 20, heading, 12, "middle", font_weight="bold")
+        picture.text(x + 50, TOP - 6, content, 11, "middle", fill=SOFT)
     for number, row in enumerate(found):
         is_last = number == len(found) - 1
         count = str(number) if 0 < number <= len(calls) else ""
@@ -189,9 +189,9 @@ def draw(program, room, changed=list):
 
 def description(found):
     """The picture in words."""
-    counts = [f"{it.told}: {it.old} images tell the old state, {it.new} the new one" for it in found[1:-1]]
-    told = "; ".join(f"{number}, {it}" for number, it in enumerate(counts, 1))
+    counts = [f"{row.label}: {row.old} images tell the old state, {row.new} the new one" for row in found[1:-1]]
+    text = "; ".join(f"{number}, {count}" for number, count in enumerate(counts, 1))
     return ("A row of 16 blocks for each of the ten calls of the disk that a put makes, with the blocks that are in "
             "question within the call, and how many images of a crash within it tell the state before the put or the "
-            f"one after it. {told}. Before the first call the one image tells the old state, and once the put is "
+            f"one after it. {text}. Before the first call the one image tells the old state, and once the put is "
             "answered the one image tells the new state.")

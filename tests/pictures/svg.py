@@ -24,11 +24,13 @@ def number(value):
 
 
 def attributes(pairs):
-    told = {name: value if isinstance(value, str) else number(value) for name, value in pairs.items()}
-    return "".join(f" {name.replace('_', '-')}={quoteattr(value)}" for name, value in told.items())
+    """The attributes of an element."""
+    attributes = {name: value if isinstance(value, str) else number(value) for name, value in pairs.items()}
+    return "".join(f" {name.replace('_', '-')}={quoteattr(value)}" for name, value in attributes.items())
 
 
 def spelled(points):
+    """Points as SVG spells them."""
     return " ".join(f"{number(x)},{number(y)}" for x, y in points)
 
 
@@ -41,12 +43,15 @@ class Picture:
         self.box(0.5, 0.5, width - 1, height - 1, PAPER, EDGE, rx=6)
 
     def element(self, name, **pairs):
+        """Adds an element."""
         self.parts.append(f"<{name}{attributes(pairs)}/>")
 
     def box(self, x, y, width, height, fill, stroke="none", **more):
+        """Adds a rectangle."""
         self.element("rect", x=x, y=y, width=width, height=height, fill=fill, stroke=stroke, **more)
 
     def line(self, x1, y1, x2, y2, stroke=SOFT, **more):
+        """Adds a line."""
         self.element("line", x1=x1, y1=y1, x2=x2, y2=y2, stroke=stroke, **more)
 
     def text(self, x, y, text, size=12, anchor="start", is_code=False, fill=INK, **more):
@@ -85,5 +90,5 @@ class Picture:
         size = {"width": self.width, "height": self.height, "viewBox": f"0 0 {self.width} {self.height}"}
         usual = attributes({**size, "font_family": FONTS[False], "fill": INK})
         head = f'{HEAD}<svg xmlns="http://www.w3.org/2000/svg" version="1.1"{usual}>'
-        told = [f"<title>{escape(self.title)}</title>", f"<desc>{escape(self.description)}</desc>"]
-        return "\n".join([head, *told, *self.parts, "</svg>\n"])
+        labels = [f"<title>{escape(self.title)}</title>", f"<desc>{escape(self.description)}</desc>"]
+        return "\n".join([head, *labels, *self.parts, "</svg>\n"])

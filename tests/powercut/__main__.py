@@ -1,20 +1,22 @@
 """Cuts the power below real file systems, and looks at what the program opens then.
 
-The program works on a file of ext4, XFS or btrfs. The file system lies on a loop device over a file that a small FUSE file system shows, which logs
-each write and each flush in its order (device.c). An image of a cut has all up to the last flush that had ended, and of what came after it any
-choice, in any order, torn at sectors (cut_images.py). Each image is mounted, which replays the journal, and the program opens its file: what it
-serves has to be, to the byte, the state after a prefix of the commands with each one that was acknowledged (histories.py). Some images are cut again
-amid their replay. The commands are puts, groups, deletes, publications that drop history, `format`, `copy`, a file that is made longer, and requests
-to `serve` (lives.py). The long form also has long recordings, a full file system, calls on the device that fail, writes that it takes and loses, and
-sectors of garbage (parts.py). First come programs and devices that lose what was acknowledged (kinds.py), which this test has to see.
+The program works on a file of ext4, XFS or btrfs. The file system lies on a loop device over a file that a small FUSE
+file system shows, which logs each write and each flush in its order (device.c). An image of a cut has all up to the
+last flush that had ended, and of what came after it any choice, in any order, torn at sectors (cut_images.py). Each
+image is mounted, which replays the journal, and the program opens its file: what it serves has to be, to the byte, the
+state after a prefix of the commands with each one that was acknowledged (histories.py). Some images are cut again amid
+their replay. The commands are puts, groups, deletes, publications that drop history, `format`, `copy`, a file that is
+made longer, and requests to `serve` (lives.py). The long form also has long recordings, a full file system, calls on
+the device that fail, writes that it takes and loses, and sectors of garbage (parts.py). First come programs and devices
+that lose what was acknowledged (kinds.py), which this test has to see.
 
-It needs root, /dev/fuse, loop devices, libfuse3-dev with pkg-config, and the makers of the file systems; what it cannot try, it names. All mounts
-are in a name space of their own, and end with it.
+It needs root, /dev/fuse, loop devices, libfuse3-dev with pkg-config, and the makers of the file systems; what it cannot
+try, it names. All mounts are in a name space of their own, and end with it.
 
 usage: python3 -m tests.powercut [PROGRAM] [--short] [--images N] [--file-system NAME] [--seed N] [--picture FILE]
-`--images` is about how many images of the file systems that have to keep the promise there are in all, and NAME one of kinds.py alone. `--picture`
-draws what power cuts leave of a put, and does nothing else (worst.py). The last line counts the images, and the exit status is 1 where one is not as
-it has to be.
+`--images` is about how many images of the file systems that have to keep the promise there are in all, and NAME one of
+kinds.py alone. `--picture` draws what power cuts leave of a put, and does nothing else (worst.py). The last line counts
+the images, and the exit status is 1 where one is not as it has to be.
 """
 import argparse
 import os
@@ -32,7 +34,8 @@ from tests.skipped import skipped
 
 INSIDE = "CHECK_POWERCUT_INSIDE"
 SEED, IMAGES = 20261128, 20_000
-# The short form: how many seconds it goes on making images, and how many images it makes at most of each file system and of the control.
+# The short form: how many seconds it goes on making images, and how many images it makes at most of each file system
+# and of the control.
 SECONDS, SHORT, OF_CONTROL = 45, 150, 60
 # Where all lies, in memory: what is mounted there is seen by nobody else, and goes with this program.
 ROOM = ROOT / "out/powercut"
@@ -41,6 +44,7 @@ NAMESPACE = ["unshare", "--mount", "--propagation", "private", "--pid", "--fork"
 
 
 def arguments():
+    """The options of the command line."""
     flags = "[--short] [--images N] [--file-system NAME] [--seed N] [--picture FILE]"
     words = argparse.ArgumentParser(usage=f"python3 -m tests.powercut [PROGRAM] {flags}")
     words.add_argument("program", nargs="?", default=PROGRAM)
@@ -54,12 +58,14 @@ def arguments():
 
 def missing():
     """What this machine has not, without which nothing is tried."""
-    found = [it for it in TOOLS if not shutil.which(it)] + [it for it in ("/dev/fuse", "/dev/loop-control") if not os.path.exists(it)]
+    found = [tool for tool in TOOLS if not shutil.which(tool)]
+    found += [device for device in ("/dev/fuse", "/dev/loop-control") if not os.path.exists(device)]
     if os.getuid():
         return ["root"]
     if not found and subprocess.run(["pkg-config", "--exists", "fuse3"]).returncode:
         found.append("libfuse3-dev")
-    if not found and subprocess.run([*NAMESPACE, "mount", "-t", "tmpfs", "tmpfs", "/tmp"], capture_output=True).returncode:
+    if not found and subprocess.run([*NAMESPACE, "mount", "-t", "tmpfs", "tmpfs", "/tmp"],
+                                    capture_output=True).returncode:
         found.append("right to mount")
     return found
 
@@ -71,7 +77,8 @@ def is_mounted_here(name, runner):
         print(f"{name}: NOT TRIED, as there is no {kind.make[0]} here")
         return False
     try:
-        device = machine.Device(runner.server, runner.room, kinds.made(kind, os.path.join(runner.room, "bytes")), kind.sector)
+        device = machine.Device(runner.server, runner.room, kinds.made(kind, os.path.join(runner.room, "bytes")),
+                                kind.sector)
     except subprocess.CalledProcessError as fault:
         print(f"{name}: NOT TRIED, as it cannot be made here: {fault.stderr.decode(errors='replace').strip()}")
         return False
@@ -90,50 +97,62 @@ def is_mounted_here(name, runner):
 
 def short(runner):
     """A control, ext4 and one other. Each has its share of the time, and what those before it left."""
-    names, started = [it for it in ("ext4", "btrfs-4096", "xfs") if is_mounted_here(it, runner)][:2], time.monotonic()
-    some = [parts.control(kinds.CONTROLS["no-last-sync"], "ext4", OF_CONTROL, is_behind=True)] if "ext4" in names else []
+    names = [name for name in ("ext4", "btrfs-4096", "xfs") if is_mounted_here(name, runner)][:2]
+    started = time.monotonic()
+    some = []
+    if "ext4" in names:
+        some = [parts.control(kinds.CONTROLS["no-last-sync"], "ext4", OF_CONTROL, is_behind=True)]
     some += [part for name in names for part in parts.promised(name, SHORT)]
     for number, part in enumerate(some, 1):
         runner.until = started + SECONDS * number / len(some)
         yield part
 
 
-def long(runner, given):
+def long(runner, options):
     """Each control, each file system, and all else."""
-    names = [it for it in ([given.file_system] if given.file_system else kinds.KINDS) if it in kinds.KINDS and is_mounted_here(it, runner)]
+    names = [name for name in ([options.file_system] if options.file_system else kinds.KINDS)
+             if name in kinds.KINDS and is_mounted_here(name, runner)]
     for name in names:
-        yield from parts.controls(name, min(max(given.images // 10, OF_CONTROL), 300))
+        yield from parts.controls(name, min(max(options.images // 10, OF_CONTROL), 300))
     for name in names:
-        yield from parts.promised(name, given.images // len(names))
+        yield from parts.promised(name, options.images // len(names))
     for name in names:
-        yield from parts.others(name, max(given.images // 40, 20))
-    yield from (it for it in parts.settings(given.images // 20) if given.file_system in (None, it.title) and is_mounted_here(it.title, runner))
+        yield from parts.others(name, max(options.images // 40, 20))
+    yield from (part for part in parts.settings(options.images // 20)
+                if options.file_system in (None, part.title) and is_mounted_here(part.title, runner))
 
 
-def look(given, room):
+def look(options, room):
     """All parts in a room, and the exit status."""
-    if given.picture:
-        Path(given.picture).write_text(worst.drawn(machine.compiled(room), room, os.path.abspath(given.program)).spelled())
+    if options.picture:
+        Path(options.picture).write_text(worst.drawn(machine.compiled(room), room,
+                                                     os.path.abspath(options.program)).spelled())
         return 0
-    seed = (SEED if given.short else random.randrange(10**9)) if given.seed is None else given.seed
+    seed = (SEED if options.short else random.randrange(10**9)) if options.seed is None else options.seed
     print(f"seed {seed}", flush=True)
-    runner = parts.Runner(room, machine.compiled(room), os.path.abspath(given.program), seed)
-    kept, seen = [], []
-    for part in short(runner) if given.short else long(runner, given):
+    runner = parts.Runner(room, machine.compiled(room), os.path.abspath(options.program), seed)
+    safe, controls = [], []
+    for part in short(runner) if options.short else long(runner, options):
         runner.run(part)
-        kept += runner.results[-1:] if part.wanted in parts.KEPT else []
-        seen += runner.results[-1:] if part.wanted == parts.SOME_LOST else []
+        safe += runner.results[-1:] if part.wanted in parts.KEPT else []
+        controls += runner.results[-1:] if part.wanted == parts.SOME_LOST else []
     if not runner.results:
         return skipped("powercut", "no file system can be had here")
-    counted = [sum((it.outcomes for it in some), start=parts.collections.Counter()) for some in (kept, seen)]
-    wrong = [it.title for it in runner.results if it.fault]
-    print(f"powercut: {sum(counted[0].values())} images, {in_words(counted[0])}; {len(seen)} controls, {sum(counted[1].values())} images, "
-          f"{in_words(counted[1])}; {len(wrong)} of {len(runner.results)} parts wrong")
+    wrong = [result.title for result in runner.results if result.fault]
+    print(f"powercut: {counted(safe)}; {len(controls)} controls, {counted(controls)}; "
+          f"{len(wrong)} of {len(runner.results)} parts wrong")
     return 1 if wrong else 0
 
 
+def counted(results):
+    """How many images some parts had, and what came of them."""
+    outcomes = sum((result.outcomes for result in results), start=parts.collections.Counter())
+    return f"{sum(outcomes.values())} images, {in_words(outcomes)}"
+
+
 def main():
-    given = arguments()
+    """Goes into a name space of its own, and does all there."""
+    options = arguments()
     os.environ["PATH"] += ":/usr/sbin:/sbin"
     if INSIDE not in os.environ:
         if lacking := missing():
@@ -143,7 +162,7 @@ def main():
         os.execvp(NAMESPACE[0], [*NAMESPACE, sys.executable, "-m", "tests.powercut", *sys.argv[1:]])
     ROOM.mkdir(parents=True, exist_ok=True)
     machine.mount("tmpfs", ROOM, "tmpfs")
-    return look(given, ROOM)
+    return look(options, ROOM)
 
 
 if __name__ == "__main__":

@@ -5,7 +5,9 @@ An image is spelled as the pieces that are written over the settled bytes, each 
 
 
 def sectors(write, size):
-    return [(at, write.data[at - write.at : at - write.at + size]) for at in range(write.at, write.at + len(write.data), size)]
+    """The sectors of a write, each with its place."""
+    return [(at, write.data[at - write.at : at - write.at + size])
+            for at in range(write.at, write.at + len(write.data), size)]
 
 
 def lost(writes, rng, size):
@@ -15,17 +17,19 @@ def lost(writes, rng, size):
 
 def kept(writes, rng, size):
     """All of it, in its order."""
-    return [(it.at, it.data) for it in writes]
+    return [(write.at, write.data) for write in writes]
 
 
 def all_but_one(writes, rng, size):
+    """All writes but one."""
     out = rng.randrange(len(writes))
-    return [(it.at, it.data) for number, it in enumerate(writes) if number != out]
+    return [(write.at, write.data) for number, write in enumerate(writes) if number != out]
 
 
 def one_alone(writes, rng, size):
-    it = rng.choice(writes)
-    return [(it.at, it.data)]
+    """One write alone."""
+    write = rng.choice(writes)
+    return [(write.at, write.data)]
 
 
 def the_first(writes, rng, size):
@@ -42,14 +46,14 @@ def the_last(writes, rng, size):
 
 def some_writes(writes, rng, size):
     """Some writes whole, in any order."""
-    chosen = [it for it in writes if rng.random() < 0.5]
+    chosen = [write for write in writes if rng.random() < 0.5]
     return kept(rng.sample(chosen, len(chosen)), rng, size)
 
 
 def some_sectors(writes, rng, size):
     """Some sectors, in any order."""
     part = rng.choice((0.1, 0.5, 0.9))
-    chosen = [it for write in writes for it in sectors(write, size) if rng.random() < part]
+    chosen = [sector for write in writes for sector in sectors(write, size) if rng.random() < part]
     return rng.sample(chosen, len(chosen))
 
 
@@ -61,17 +65,17 @@ def some_torn(writes, rng, size):
         if choice < 0.4:
             found.append((write.at, write.data))
         elif choice < 0.7:
-            found += [it for it in sectors(write, size) if rng.random() < 0.5]
+            found += [sector for sector in sectors(write, size) if rng.random() < 0.5]
     return found
 
 
 def with_garbage(writes, rng, size):
     """Some writes, and anything at all in one sector of one that was under way, or, where none was, of any."""
-    under_way = [it for it in writes if not it.has_ended] or writes
+    under_way = [write for write in writes if not write.has_ended] or writes
     spoiled = rng.choice(under_way)
     at, data = rng.choice(sectors(spoiled, size))
     before = kept(writes[: writes.index(spoiled)], rng, size) if rng.random() < 0.5 else some_writes(writes, rng, size)
-    torn = [it for it in sectors(spoiled, size) if it[0] < at]
+    torn = [sector for sector in sectors(spoiled, size) if sector[0] < at]
     return [*before, *torn, (at, rng.randbytes(len(data)))]
 
 

@@ -4,7 +4,8 @@ import subprocess
 
 # How a file system is made and mounted, the bytes of its device, and how many of them a power cut tears at.
 Kind = collections.namedtuple("Kind", "system size make options sector")
-# No table is filled in later, so that the log has little that is not of the program. There is room for a second superblock.
+# No table is filled in later, so that the log has little that is not of the program. There is room for a second
+# superblock.
 EXT4 = ["mkfs.ext4", "-q", "-b", "4096", "-N", "1024", "-J", "size=4", "-E", "lazy_itable_init=0,lazy_journal_init=0"]
 FAST = ["-O", "fast_commit"]
 XFS, BTRFS = ["mkfs.xfs", "-q"], ["mkfs.btrfs", "-q"]
@@ -47,9 +48,9 @@ int fsync(int fd) {
     return is_last ? 0 : syscall(SYS_fsync, fd);
 }
 """
-# What is wrong, told for a reader; the file system, or the name of one without barriers; the library before the program's; and how many writes
-# the device keeps in its cache though it answers flushes.
-Control = collections.namedtuple("Control", "told kinds library cache")
+# What is wrong, for a reader; the file system, or the name of one without barriers; the library before the program's;
+# and how many writes the device keeps in its cache though it answers flushes.
+Control = collections.namedtuple("Control", "title kinds library cache")
 # (a cache that hides, and a system that sends no flush, are given the room of a small device)
 CACHE = 64
 CONTROLS = {

@@ -9,38 +9,39 @@ SIZE = 262_144
 
 
 class Life:
-    """Commands of each kind: puts, groups, deletes, publications that drop history, `format`, a longer file, `copy`, and requests."""
+    """Puts, groups, deletes, publications that drop history, `format`, a longer file, `copy`, and requests."""
 
     def __init__(self, commands, is_served=True):
         self.commands, self.is_served = commands, is_served
 
-    def __call__(self, it):
+    def __call__(self, recording):
         count = self.commands // 4
-        it.format("a.disk", SIZE)
-        it.run("a.disk", lines_at_random(it.rng, count))
-        it.longer("a.disk", 2 * SIZE)
-        it.run("a.disk", lines_at_random(it.rng, count))
-        it.copy("a.disk", "b.disk", 2 * SIZE)
-        it.run("b.disk", lines_at_random(it.rng, count))
+        recording.format("a.disk", SIZE)
+        recording.run("a.disk", lines_at_random(recording.rng, count))
+        recording.longer("a.disk", 2 * SIZE)
+        recording.run("a.disk", lines_at_random(recording.rng, count))
+        recording.copy("a.disk", "b.disk", 2 * SIZE)
+        recording.run("b.disk", lines_at_random(recording.rng, count))
         if self.is_served:
-            it.serve("a.disk", requests_at_random(it.rng, count))
+            recording.serve("a.disk", requests_at_random(recording.rng, count))
 
 
 class Full:
-    """A full file system: puts of bodies that need room until one meets `Device`, an opening, then room, and puts again."""
+    """A full file system: puts that need room until one meets `Device`, an opening, then room, and puts again."""
 
     def __init__(self, commands):
         self.commands = commands
 
-    def __call__(self, it):
-        it.format("a.disk", 4 * SIZE)
-        it.run("a.disk", lines_at_random(it.rng, self.commands // 2))
-        filled = it.path("filled")
+    def __call__(self, recording):
+        recording.format("a.disk", 4 * SIZE)
+        recording.run("a.disk", lines_at_random(recording.rng, self.commands // 2))
+        filled = recording.path("filled")
         fill(filled)
-        it.run("a.disk", [f"put long{number} {it.rng.randbytes(40_000).hex()} text/plain" for number in range(20)])
-        it.opened("a.disk")
+        recording.run("a.disk", [f"put long{number} {recording.rng.randbytes(40_000).hex()} text/plain"
+                                 for number in range(20)])
+        recording.opened("a.disk")
         os.truncate(filled, os.path.getsize(filled) // 2)
-        it.run("a.disk", lines_at_random(it.rng, self.commands // 2))
+        recording.run("a.disk", lines_at_random(recording.rng, self.commands // 2))
 
 
 def fill(path):
@@ -55,19 +56,20 @@ def fill(path):
 
 
 class Faulty:
-    """A call on the device that fails amid the commands, or each one from there on; then a stop, and an opening where there can be one."""
+    """A call on the device fails amid the commands, or each from there on; then a stop, and an opening if it can be."""
 
     def __init__(self, commands, which, often):
         self.commands, self.which, self.often = commands, which, often
 
-    def __call__(self, it):
-        it.format("a.disk", SIZE)
-        it.run("a.disk", lines_at_random(it.rng, self.commands // 2))
-        it.device.order(**{self.which: it.rng.randrange(1, 6 if self.which == "FAIL_READ" else self.commands)})
-        it.run("a.disk", lines_at_random(it.rng, self.commands // 2))
+    def __call__(self, recording):
+        recording.format("a.disk", SIZE)
+        recording.run("a.disk", lines_at_random(recording.rng, self.commands // 2))
+        limit = 6 if self.which == "FAIL_READ" else self.commands
+        recording.device.order(**{self.which: recording.rng.randrange(1, limit)})
+        recording.run("a.disk", lines_at_random(recording.rng, self.commands // 2))
         if self.often:
-            it.device.order(**{self.which: EACH})
-            it.opened("a.disk")
-        it.device.order(**{self.which: 0})
-        if it.opened("a.disk"):
-            it.run("a.disk", lines_at_random(it.rng, self.commands // 4))
+            recording.device.order(**{self.which: EACH})
+            recording.opened("a.disk")
+        recording.device.order(**{self.which: 0})
+        if recording.opened("a.disk"):
+            recording.run("a.disk", lines_at_random(recording.rng, self.commands // 4))

@@ -1,4 +1,4 @@
-"""What a program does on a file system whose device is logged, with the place of the log at which each thing was asked for and acknowledged."""
+"""What a program does on a logged device, and where in the log each thing was asked for and acknowledged."""
 import contextlib
 import http.client
 import os
@@ -20,8 +20,8 @@ FAULTS = ("refused Device", "refused Closed", "")
 class Recording:
     """A program at work on the mounted file system of a device.
 
-    `environment` is that of the program, and `clock` that of a server. `histories` has the history of each file by its name, `commands` counts what
-    was done, and `refused` has how the program answered where it went on no more.
+    `environment` is that of the program, and `clock` that of a server. `histories` has the history of each file by its
+    name, `commands` counts what was done, and `refused` has how the program answered where it went on no more.
     """
 
     def __init__(self, program, device, rng, environment=None, clock=None):
@@ -30,15 +30,18 @@ class Recording:
         self.histories, self.commands, self.refused = {}, 0, []
 
     def path(self, name):
+        """The path of a file on the file system."""
         return self.device.top / name
 
     def once(self, *words):
         """One run of the program that prints a line, and the places of the log before it and after its end."""
         begun = self.device.place()
-        ran = subprocess.run([self.program, *words], env=self.environment, capture_output=True, text=True, timeout=SECONDS)
-        return ran.stdout, ran.stderr, begun, self.device.place()
+        finished = subprocess.run([self.program, *words], env=self.environment, capture_output=True, text=True,
+                                  timeout=SECONDS)
+        return finished.stdout, finished.stderr, begun, self.device.place()
 
     def format(self, name, size, limit=3):
+        """Makes a new source on a file."""
         history = self.histories.setdefault(name, History())
         output, message, *places = self.once("format", self.path(name), str(size), BASE, str(limit))
         if output != f"formatted {size}\n":
@@ -46,6 +49,7 @@ class Recording:
         history.add(*places, State(BASE, limit))
 
     def copy(self, old, new, size):
+        """Copies a source to a new file."""
         history = self.histories.setdefault(new, History())
         output, message, *places = self.once("copy", self.path(old), self.path(new), str(size))
         if output != f"copied {size}\n":
@@ -53,27 +57,29 @@ class Recording:
         history.add(*places, self.histories[old].state())
 
     def longer(self, name, size):
+        """Makes a file longer."""
         os.truncate(self.path(name), size)
 
     def run(self, name, lines):
-        """A run of the program that is given lines one after the other, up to the first that is not done for a fault of the device."""
+        """A run of the program on lines, one after the other, up to the first that fails by a fault of the device."""
         now = 0
         words, pipe = [self.program, "run", self.path(name)], subprocess.PIPE
-        with subprocess.Popen(words, env=self.environment, stdin=pipe, stdout=pipe, stderr=subprocess.DEVNULL, bufsize=0) as ran:
+        with subprocess.Popen(words, env=self.environment, stdin=pipe, stdout=pipe, stderr=subprocess.DEVNULL,
+                              bufsize=0) as process:
             for line in lines:
                 self.noise()
                 if line.startswith("at "):
                     now = int(line[3:])
                 begun = self.device.place()
                 with self.device.patience():
-                    answer = answer_to(ran, line)
+                    answer = answer_to(process, line)
                 if answer not in ("ok", "refused Full"):
                     self.noted(name, line, now, answer, begun)
                 if answer in FAULTS:
                     break
 
     def noted(self, name, line, now, answer, begun):
-        """Notes a command that was answered, which has to be as the model answers it, or by a fault of the device, when it may stand or not."""
+        """Notes an answer, which has to be the model's or a fault of the device, when the command may stand or not."""
         acknowledged, history = self.device.place(), self.histories[name]
         wanted, then = history.state().after(line, now)
         if answer in FAULTS:
@@ -88,10 +94,11 @@ class Recording:
     def opened(self, name):
         """Opens a file and asks what it holds, after a command whose end nobody knows. What is told then stays."""
         history, begun = self.histories[name], self.device.place()
-        ran = subprocess.run([self.program, "run", self.path(name)], env=self.environment, input=b"status\n", capture_output=True, timeout=SECONDS)
-        numbers = history.numbers_of(ran.stdout)
-        if not numbers and ran.stderr != b"rs_source: Device\n":
-            raise Differs(f"an opening behind a fault tells {ran.stdout!r} {ran.stderr!r}")
+        finished = subprocess.run([self.program, "run", self.path(name)], env=self.environment, input=b"status\n",
+                                  capture_output=True, timeout=SECONDS)
+        numbers = history.numbers_of(finished.stdout)
+        if not numbers and finished.stderr != b"rs_source: Device\n":
+            raise Differs(f"an opening behind a fault tells {finished.stdout!r} {finished.stderr!r}")
         if numbers:
             history.add(begun, self.device.place(), history.events[numbers[-1]].state)
         else:
@@ -99,7 +106,7 @@ class Recording:
         return bool(numbers)
 
     def serve(self, name, requests):
-        """A server that answers these requests, each a method, a path, a body, and the line of a script that does the same."""
+        """Serves requests, each a method, a path, a body, and the line of a script that does the same."""
         clock, step = FIRST + 10**9, 7
         environment = {**self.clock, "CLOCK": str(clock), "STEP": str(step)}
         if self.environment:
@@ -112,7 +119,7 @@ class Recording:
                 self.noise()
                 state, begun = history.state(), self.device.place()
                 with self.device.patience():
-                    status = asked(port, method, path, body, kind)
+                    status = ask(port, method, path, body, kind)
                 acknowledged = self.device.place()
                 _, then = state.after(line, clock + step * number)
                 if (status < 300) != (then is not None):
@@ -122,7 +129,9 @@ class Recording:
                     self.commands += 1
 
     def noise(self):
-        """Now and then something else is done on the file system: files come, grow, get another name and go, and now and then all is synced."""
+        """Now and then something else is done on the file system: files come, grow, get another name and go, and now
+        and then all is synced.
+        """
         choice, name = self.rng.random(), self.path(f"noise{self.rng.randrange(8)}")
         with contextlib.suppress(OSError):
             if choice < 0.15:
@@ -136,16 +145,17 @@ class Recording:
                 subprocess.run(["sync", "-f", self.device.top], stderr=subprocess.DEVNULL, timeout=SECONDS)
 
 
-def answer_to(ran, line):
+def answer_to(process, line):
     """What a running program answers to a line, or nothing if it has ended."""
     try:
-        ran.stdin.write(line.encode() + b"\n")
-        return ran.stdout.readline().decode().rstrip("\n")
+        process.stdin.write(line.encode() + b"\n")
+        return process.stdout.readline().decode().rstrip("\n")
     except BrokenPipeError:
         return ""
 
 
-def asked(port, method, path, body, kind):
+def ask(port, method, path, body, kind):
+    """The status of the response to a request."""
     connection = http.client.HTTPConnection("127.0.0.1", port, timeout=SECONDS)
     with contextlib.closing(connection):
         connection.request(method, path, body, {"Content-Type": kind} if kind else {})
@@ -155,6 +165,7 @@ def asked(port, method, path, body, kind):
 
 
 def change_at_random(rng, names):
+    """A random line that puts or deletes one of so many names."""
     name, length = f"n{rng.randrange(names)}", rng.choice(LENGTHS)
     if rng.random() < 0.2:
         return f"delete {name}"
@@ -167,7 +178,8 @@ def lines_at_random(rng, count, names=9):
     for _ in range(count):
         choice = rng.random()
         changes = [change_at_random(rng, names) for _ in range(rng.choice((1, 2, 3)))]
-        lines.append("publish" if choice < 0.2 else "\n".join([f"group {len(changes)}", *changes]) if choice < 0.35 else changes[0])
+        lines.append("publish" if choice < 0.2 else "\n".join([f"group {len(changes)}", *changes])
+                     if choice < 0.35 else changes[0])
     return lines
 
 
@@ -177,7 +189,8 @@ def requests_at_random(rng, count, names=9):
     for line in lines_at_random(rng, count, names)[1:]:
         words = line.split(" ", 3)
         if words[0] == "put":
-            found.append(("PUT", f"/resource/{words[1]}", b"" if words[2] == "-" else bytes.fromhex(words[2]), words[3], line))
+            found.append(("PUT", f"/resource/{words[1]}", b""
+                          if words[2] == "-" else bytes.fromhex(words[2]), words[3], line))
         elif words[0] == "delete":
             found.append(("DELETE", f"/resource/{words[1]}", None, None, line))
         elif words[0] == "publish":

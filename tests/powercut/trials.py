@@ -27,10 +27,13 @@ class Trial:
         self.bytes = kinds.made(kind, os.path.join(room, "bytes"))
         self.device = machine.Device(server, room, self.bytes, kind.sector)
         self.recording = Recording(program, self.device, self.rng, environment, clock)
-        self.log, self.outcomes, self.cuts, self.told = b"", collections.Counter(), 0, []
+        self.log, self.outcomes, self.cuts, self.messages = b"", collections.Counter(), 0, []
 
     def record(self, life):
-        """Records what a life does. Something may fail where faults are planted; the file system is unmounted all the same."""
+        """Records what a life does.
+
+        Something may fail where faults are planted; the file system is unmounted all the same.
+        """
         self.device.order(HOLD=50)
         with self.device.mounted(self.kind.system, self.kind.options):
             life(self.recording)
@@ -38,11 +41,13 @@ class Trial:
         self.log = self.device.log.read_bytes()
 
     def places(self, count, is_behind):
-        """Places to cut at, in their order, all right behind an acknowledgement, or a third there, a third within a command, a third anywhere."""
-        ends = [it.end for it in entries(self.log)]
-        events = [it for history in self.recording.histories.values() for it in history.events[1:]]
-        within = [end for it in events for end in ends if it.begun < end <= (it.acknowledged or it.begun)]
-        behind = [it.acknowledged for it in events if it.acknowledged]
+        """Places to cut at, in their order, all right behind an acknowledgement, or a third there, a third within a
+        command, a third anywhere.
+        """
+        ends = [entry.end for entry in entries(self.log)]
+        events = [event for history in self.recording.histories.values() for event in history.events[1:]]
+        within = [end for event in events for end in ends if event.begun < end <= (event.acknowledged or event.begun)]
+        behind = [event.acknowledged for event in events if event.acknowledged]
         chosen = [behind] if is_behind else [ends, within or ends, behind or ends]
         return sorted(self.rng.choice(self.rng.choice(chosen)) for _ in range(count))
 
@@ -65,59 +70,61 @@ class Trial:
             settled.close()
 
     def look_without_one(self, count, is_over):
-        """Images of the end, or of a place before it, in which all is kept but one write, which the device took and lost."""
-        writes = [it for it in entries(self.log) if it.kind == b"W"]
+        """Images of the end, or of a place before it, with all but one write, which the device took and lost."""
+        writes = [entry for entry in entries(self.log) if entry.kind == b"W"]
         for _ in range(count):
             if is_over():
                 break
             lost = self.rng.randrange(len(writes))
             last = len(writes) if self.rng.random() < 0.5 else self.rng.randrange(lost + 1, len(writes) + 1)
             place = len(self.log) if last == len(writes) else writes[last].end
-            kept = [(it.at, it.data) for number, it in enumerate(writes[:last]) if number != lost]
-            allowed = {name: it.allowed(place) for name, it in self.recording.histories.items()}
-            outcome, why, _ = self.opened(kept, allowed)
+            pieces = [(write.at, write.data) for number, write in enumerate(writes[:last]) if number != lost]
+            allowed = {name: history.allowed(place) for name, history in self.recording.histories.items()}
+            outcome, why, _ = self.opened(pieces, allowed)
             self.count(Image(place, f"without write {lost}", None), outcome, why)
             self.cuts += 1
 
     def unnoticed(self):
         """What an image of the end is taken for, though it was not done."""
-        kept, found = [(it.at, it.data) for it in entries(self.log) if it.kind == b"W"], []
+        pieces, found = [(entry.at, entry.data) for entry in entries(self.log) if entry.kind == b"W"], []
         name, history = next(iter(self.recording.histories.items()))
         for wrong in wrong_histories.WRONG:
             self.recording.histories[name] = wrong(history) or history
-            outcome, _, _ = self.opened(kept, {it: other.allowed(len(self.log)) for it, other in self.recording.histories.items()})
+            outcome, _, _ = self.opened(pieces, {key: other.allowed(len(self.log))
+                                                 for key, other in self.recording.histories.items()})
             found += [wrong.__name__] if outcome == HELD and self.recording.histories[name] is not history else []
         self.recording.histories[name] = history
         return found
 
     def look_at(self, image):
         """Looks at an image, and at some cuts of its own replay."""
-        allowed = {name: it.allowed(image.place) for name, it in self.recording.histories.items()}
-        outcome, why, told = self.opened(image.pieces, allowed)
+        allowed = {name: history.allowed(image.place) for name, history in self.recording.histories.items()}
+        outcome, why, states = self.opened(image.pieces, allowed)
         self.count(image, outcome, why)
         if outcome == HELD and self.rng.random() < CUT_AGAIN:
-            self.cut_again(image, allowed, told)
+            self.cut_again(image, allowed, states)
 
-    def cut_again(self, image, allowed, told):
+    def cut_again(self, image, allowed, states):
         """Cuts within the replay of an image, or within its opening."""
         log = self.device.log.read_bytes()
-        ends = [it.end for it in entries(log)]
+        ends = [entry.end for entry in entries(log)]
         if not ends:
             return
         place, pieces = self.rng.choice(ends), list(image.pieces)
         settling = Settling(lambda at, data: pieces.append((at, data)), self.cache)
-        for it in entries(log):
-            if it.end > place:
+        for entry in entries(log):
+            if entry.end > place:
                 break
-            settling.go_on(it)
+            settling.go_on(entry)
         name, more = cut_images.image_of(settling.cut(place), self.rng, self.kind.sector, cut_images.CHOICES)
         # What was told once the program had opened the file stays.
-        allowed = {it: {number} if number is not None and place >= at else allowed[it] for it, (number, at) in told.items()}
+        allowed = {name: {number} if number is not None and place >= at else allowed[name]
+                   for name, (number, at) in states.items()}
         outcome, why, _ = self.opened(pieces + more, allowed)
         self.count(Image(image.place, f"{image.name}, again {name}", None), outcome, why)
 
     def opened(self, pieces, allowed):
-        """What comes of an image: the worst outcome of its files, why, and the event that each tells, with the place of the log then."""
+        """What comes of an image: the worst outcome of its files, why, and each one's event and place of the log."""
         self.device.begin(pieces)
         try:
             return self.mounted(allowed)
@@ -125,29 +132,31 @@ class Trial:
             if not self.device.is_repaired(self.kind.system):
                 return UNMOUNTED, str(fault), {}
         try:
-            outcome, why, told = self.mounted(allowed)
-            return REPAIRED if outcome == HELD else outcome, f"behind a repair: {why}", told
+            outcome, why, states = self.mounted(allowed)
+            return REPAIRED if outcome == HELD else outcome, f"behind a repair: {why}", states
         except machine.Unmounted as fault:
             return UNMOUNTED, f"{fault}, behind a repair", {}
 
     def mounted(self, allowed):
         """The same of what is on the device now."""
-        found, told = [(HELD, "")], {}
+        found, states = [(HELD, "")], {}
         with self.device.mounted(self.kind.system, self.kind.options) as top:
             for name, history in self.recording.histories.items():
                 with self.device.patience():
                     outcome, why, number = outcome_of(self.program, top / name, history, allowed[name])
-                told[name] = (number, self.device.place())
+                states[name] = (number, self.device.place())
                 found.append((outcome, f"{name}: {why}"))
-        return *max(found, key=lambda it: OUTCOMES.index(it[0])), told
+        return *max(found, key=lambda pair: OUTCOMES.index(pair[0])), states
 
     def count(self, image, outcome, why):
+        """Counts what came of an image, and notes why it is not held."""
         self.outcomes[outcome] += 1
-        if outcome != HELD and len(self.told) < TOLD_AT_MOST:
+        if outcome != HELD and len(self.messages) < TOLD_AT_MOST:
             where = f"cut at {image.place} of {len(self.log)}, {image.name}: " if image else ""
-            self.told.append(f"{where}{outcome}: {why}")
+            self.messages.append(f"{where}{outcome}: {why}")
 
     def close(self):
+        """Ends the device, and removes its bytes."""
         self.device.close()
         with contextlib.suppress(OSError):
             os.unlink(self.bytes)
@@ -155,4 +164,5 @@ class Trial:
 
 def in_words(outcomes):
     """The counts of outcomes, for a reader."""
-    return ", ".join(f"{outcomes[it]} {it}" for it in OUTCOMES if outcomes[it] or it in (HELD, LOST))
+    return ", ".join(f"{outcomes[outcome]} {outcome}" for outcome in OUTCOMES
+                     if outcomes[outcome] or outcome in (HELD, LOST))

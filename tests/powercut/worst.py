@@ -1,8 +1,9 @@
-"""The picture of the second put of docs/CRASH.md on ext4, and of what power cuts within each of its calls leave of the file.
+"""The picture of the second put of docs/CRASH.md on ext4, and of what power cuts within each of its calls leave of the
+file.
 
-The put is recorded with the place of the log before and behind each of its calls. Within each call the power is cut at several places, and images are
-made of each. The worst image of a call is the one that is torn most: of the blocks that were written so far some are as the put leaves them, and some
-are not. It is drawn.
+The put is recorded with the place of the log before and behind each of its calls. Within each call the power is cut at
+several places, and images are made of each. The worst image of a call is the one that is torn most: of the blocks that
+were written so far some are as the put leaves them, and some are not. It is drawn.
 """
 import collections
 import pathlib
@@ -43,8 +44,9 @@ int fsync(int fd) {
     return noted("sync", 0, 0, before, syscall(SYS_fsync, fd));
 }
 """
-# A call: its name, where it writes and how much, and the places of the log before and behind it. And what came of the images within it: how many
-# writes of the device were in question at most, how many images tell the old state and the new one, and the blocks of the file in the worst.
+# A call: its name, where it writes and how much, and the places of the log before and behind it. And what came of the
+# images within it: how many writes of the device were in question at most, how many images tell the old state and the
+# new one, and the blocks of the file in the worst.
 Call = collections.namedtuple("Call", "name at length before behind")
 Row = collections.namedtuple("Row", "call questions old new written worst")
 
@@ -54,14 +56,18 @@ def recorded(program, room, device, kind):
     notes, path = pathlib.Path(room, "notes"), device.top / "a.disk"
     environment = interposed(room, "notes", NOTES) | {"NOTES": str(notes), "DEVICE_LOG": str(device.log)}
     with device.mounted(kind.system, kind.options):
-        subprocess.run([program, "format", path, str(BLOCKS * BLOCK), "http://127.0.0.1:8080", "2"], check=True, capture_output=True)
-        subprocess.run([program, "run", path], input="\n".join(LINES[:2]).encode() + b"\n", check=True, capture_output=True)
+        subprocess.run([program, "format", path, str(BLOCKS * BLOCK), "http://127.0.0.1:8080", "2"], check=True,
+                       capture_output=True)
+        subprocess.run([program, "run", path], input="\n".join(LINES[:2]).encode() + b"\n", check=True,
+                       capture_output=True)
         before = path.read_bytes()
-        ran = subprocess.run([program, "run", path], input="\n".join(LINES[2:]).encode(), env=environment, check=True, capture_output=True)
-        if not ran.stdout.startswith(b"created "):
-            raise Differs(f"the second put is answered {ran.stdout!r}")
+        finished = subprocess.run([program, "run", path], input="\n".join(LINES[2:]).encode(), env=environment,
+                                  check=True, capture_output=True)
+        if not finished.stdout.startswith(b"created "):
+            raise Differs(f"the second put is answered {finished.stdout!r}")
         behind = path.read_bytes()
-    calls = [Call(it[0], *map(int, it[1:])) for it in (line.split() for line in notes.read_text().splitlines())]
+    noted = (line.split() for line in notes.read_text().splitlines())
+    calls = [Call(words[0], *map(int, words[1:])) for words in noted]
     return calls[-CALLS:], before, behind
 
 
@@ -69,38 +75,53 @@ def image_of(program, device, kind, pieces):
     """The bytes of the file in an image, and how many changes it tells."""
     device.begin(pieces)
     with device.mounted(kind.system, kind.options) as top:
-        ran = subprocess.run([program, "run", top / "a.disk"], input=b"status\n", capture_output=True, timeout=machine.SECONDS)
-        if ran.returncode:
-            raise Differs(f"an image is answered {ran.stderr!r}")
-        return (top / "a.disk").read_bytes(), int(ran.stdout.split()[3])
+        finished = subprocess.run([program, "run", top / "a.disk"], input=b"status\n", capture_output=True,
+                                  timeout=machine.SECONDS)
+        if finished.returncode:
+            raise Differs(f"an image is answered {finished.stderr!r}")
+        return (top / "a.disk").read_bytes(), int(finished.stdout.split()[3])
 
 
 def blocks_of(data):
+    """The blocks of some bytes."""
     return [data[at : at + BLOCK] for at in range(0, len(data), BLOCK)]
 
 
 def look(program, device, kind, settled, places, rng):
-    """The images of cuts at these places: how many writes are in question at most, and each file with the number of changes that is told."""
+    """The images of cuts at these places: how many writes are in question at most, and each file with its changes."""
     questions, images = 0, []
     for place in places:
         cut = settled.cut_at(place)
         questions = max(questions, len(cut.writes))
         for _ in range(max(IMAGES // len(places), 1) if cut.writes else 1):
-            images.append(image_of(program, device, kind, cut_images.image_of(cut, rng, kind.sector, cut_images.CHOICES)[1]))
+            images.append(image_of(program, device, kind,
+                                   cut_images.image_of(cut, rng, kind.sector, cut_images.CHOICES)[1]))
     return questions, images
 
 
 def compared(image, before, behind):
-    """What each block of a file is: `new`, as the put leaves it; `old`, as it was before; `other`; or nothing, where the put changes nothing."""
+    """What each block of a file is: `new`, as the put leaves it; `old`, as it was before; `other`; or nothing, where
+    the put changes nothing.
+    """
     blocks = zip(*map(blocks_of, (image, before, behind)))
-    return ["" if new == old else "new" if it == new else "old" if it == old else "other" for it, old, new in blocks]
+    return ["" if new == old else "new" if block == new else "old" if block == old else "other"
+            for block, old, new in blocks]
+
+
+def most_torn(comparisons, written):
+    """The comparison of the image that is torn most, of the blocks that were written."""
+    def tear(comparison):
+        arrived = sum(comparison[block] == "new" for block in written)
+        return min(arrived, len(written) - arrived), len(written) - arrived
+
+    return max(comparisons, key=tear)
 
 
 def rows(program, room, device, kind, bytes_):
     """What power cuts within each call leave."""
     calls, before, behind = recorded(program, room, device, kind)
     log, rng, found, written = device.log.read_bytes(), random.Random(CALLS), [], set()
-    settled, ends = Settled(bytes_, log), [it.end for it in entries(log)]
+    settled, ends = Settled(bytes_, log), [entry.end for entry in entries(log)]
     for call in calls:
         if call.name == "write":
             written = written | set(range(call.at // BLOCK, (call.at + call.length - 1) // BLOCK + 1))
@@ -109,15 +130,14 @@ def rows(program, room, device, kind, bytes_):
         counts = collections.Counter(changes for _, changes in images)
         if set(counts) - {1, 2}:
             raise Differs(f"images tell {sorted(counts)} changes")
-        told = [compared(image, before, behind) for image, _ in images]
-        arrived = [sum(it[block] == "new" for block in written) for it in told]
-        worst = max(zip(arrived, told), key=lambda it: (min(it[0], len(written) - it[0]), len(written) - it[0]))[1]
-        found.append(Row(call, questions, counts[1], counts[2], written, worst))
+        comparisons = [compared(image, before, behind) for image, _ in images]
+        found.append(Row(call, questions, counts[1], counts[2], written, most_torn(comparisons, written)))
     settled.close()
     return found
 
 
-def named(call):
+def name_of(call):
+    """The label of a call."""
     if call.name == "sync":
         return "sync"
     return f"write {call.length} byte{'s' * (call.length > 1)} at {call.at}"
@@ -127,7 +147,8 @@ def named(call):
 LEFT, TOP, CELL, TALL, STEP = 200, 118, 25, 22, 32
 COLOURS = {"new": FILLS["pub"], "old": FILLS["body"], "other": FILLS["dir"]}
 TOLD = [
-    "The put of b of docs/CRASH.md on a file of 16 blocks on ext4. Within each call the power is cut, and images are made",
+    "The put of b of docs/CRASH.md on a file of 16 blocks on ext4. Within each call the power is cut, and images are "
+    "made",
     "of what the device may have. Drawn is the file in one image of each call: the one that is torn most.",
 ]
 COLUMNS = [(672, "writes of the device", "in question, at most"), (775, "images that", "tell the old state")]
@@ -135,9 +156,12 @@ COLUMNS += [(866, "images that", "tell the new state")]
 
 
 def picture_of(found):
+    """The picture of these rows."""
     title = "What power cuts leave of a put"
-    told = [f"call {number}, {named(it.call)}: {it.old} images tell the old state and {it.new} the new one" for number, it in enumerate(found, 1)]
-    picture = Picture(920, TOP + STEP * len(found) + 60, title, "A row for each call of a put. " + "; ".join(told) + ".")
+    sentences = [f"call {number}, {name_of(row.call)}: {row.old} images tell the old state and {row.new} the new one"
+                 for number, row in enumerate(found, 1)]
+    picture = Picture(920, TOP + STEP * len(found) + 60, title,
+                      "A row for each call of a put. " + "; ".join(sentences) + ".")
     picture.text(30, 34, title, 17, font_weight="bold")
     picture.lines(30, 56, TOLD, 12, fill=SOFT)
     for block in range(BLOCKS):
@@ -153,16 +177,19 @@ def picture_of(found):
 def draw(picture, number, row, y):
     """One row."""
     picture.text(30, y + 15, str(number), 12, "end", fill=SOFT)
-    picture.text(40, y + 15, named(row.call), 12)
-    for block, told in enumerate(row.worst):
-        is_drawn = told and block in row.written
-        picture.box(LEFT + block * CELL, y, CELL, TALL, COLOURS[told] if is_drawn else FILLS["free"], INK if is_drawn else EDGE)
+    picture.text(40, y + 15, name_of(row.call), 12)
+    for block, state in enumerate(row.worst):
+        is_drawn = state and block in row.written
+        picture.box(LEFT + block * CELL, y, CELL, TALL, COLOURS[state] if is_drawn else FILLS["free"],
+                    INK if is_drawn else EDGE)
     for (x, *_), count in zip(COLUMNS, (row.questions, row.old, row.new)):
         picture.text(x, y + 15, str(count), 12, "middle")
 
 
 def legend(picture, y):
-    words = ["as the put leaves it", "as it was before the put", "anything else", "not written by the put, or not by now"]
+    """What the colours mean."""
+    words = ["as the put leaves it", "as it was before the put", "anything else",
+             "not written by the put, or not by now"]
     for x, fill, words in zip((40, 220, 430, 590), (*COLOURS.values(), FILLS["free"]), words):
         picture.box(x, y, CELL, TALL, fill, INK if fill != FILLS["free"] else EDGE)
         picture.text(x + CELL + 8, y + 15, words, 12)

@@ -1,7 +1,8 @@
 """The log of a device (device.c), and what a power cut leaves in question at each place of it.
 
-A write is settled by a flush that began after the write had ended, once that flush has ended well. All else that has begun is in question: one
-that is under way at the beginning of a flush is not settled by it, and a flush that fails settles nothing.
+A write is settled by a flush that began after the write had ended, once that flush has ended well. All else that has
+begun is in question: one that is under way at the beginning of a flush is not settled by it, and a flush that fails
+settles nothing.
 """
 import collections
 import os
@@ -9,8 +10,8 @@ import struct
 
 HEAD = struct.Struct("cc6xQQQ")
 GOOD, FAILED, LOST = b"g", b"f", b"l"
-# An entry of the log: what begins (W, F) or ends (w, f), how, the number of the call, its place on the device, its bytes where it is a write
-# that begins, and where the entry ends in the log.
+# An entry of the log: what begins (W, F) or ends (w, f), how, the number of the call, its place on the device, its
+# bytes where it is a write that begins, and where the entry ends in the log.
 Entry = collections.namedtuple("Entry", "kind result number at data end")
 # A write in question, and whether it has ended.
 Write = collections.namedtuple("Write", "at data has_ended")
@@ -32,37 +33,41 @@ def entries(log):
 class Settling:
     """What of a log is settled, entry by entry. `settle` is given the place and the bytes of what is.
 
-    `cache` is how many writes a device keeps in question that answers flushes and does nothing, or None where flushes are done.
+    `cache` is how many writes a device keeps in question that answers flushes and does nothing, or None where flushes
+    are done.
     """
 
     def __init__(self, settle, cache=None):
         self.settle, self.cache, self.writes, self.covered = settle, cache, {}, {}
 
     def go_on(self, entry):
+        """Takes the next entry of the log."""
         if entry.kind == b"W":
             self.writes[entry.number] = Write(entry.at, entry.data, False)
         elif entry.kind == b"w" and entry.result == LOST:
             del self.writes[entry.number]
         elif entry.kind == b"w":
             begun = self.writes.pop(entry.number)
-            kept = begun.data if entry.result == GOOD else begun.data[: len(begun.data) // 1024 * 512]
-            self.writes[entry.number] = Write(begun.at, kept, True)
+            data = begun.data if entry.result == GOOD else begun.data[: len(begun.data) // 1024 * 512]
+            self.writes[entry.number] = Write(begun.at, data, True)
         elif entry.kind == b"F":
-            self.covered[entry.number] = [number for number, it in self.writes.items() if it.has_ended]
+            self.covered[entry.number] = [number for number, write in self.writes.items() if write.has_ended]
         elif entry.kind == b"f":
             covered = self.covered.pop(entry.number)
             if entry.result == GOOD and self.cache is None:
                 self.settled(covered)
         if self.cache is not None:
-            self.settled([number for number, it in self.writes.items() if it.has_ended][: -self.cache or None])
+            self.settled([number for number, write in self.writes.items() if write.has_ended][: -self.cache or None])
 
     def settled(self, numbers):
+        """Settles these writes, in their order."""
         for number in numbers:
             if number in self.writes:
-                it = self.writes.pop(number)
-                self.settle(it.at, it.data)
+                write = self.writes.pop(number)
+                self.settle(write.at, write.data)
 
     def cut(self, place):
+        """A cut of the power at this place."""
         return Cut(place, list(self.writes.values()))
 
 
@@ -83,4 +88,5 @@ class Settled:
         return self.settling.cut(place)
 
     def close(self):
+        """Closes the file."""
         os.close(self.file)

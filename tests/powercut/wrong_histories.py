@@ -1,9 +1,12 @@
-"""Histories of a file that are not what was done, or None where one cannot be made of it. A test that takes an image for what one tells is blind."""
+"""Histories of a file that are not what was done, or None where one cannot be made of it. A test that takes an image
+for what one tells is blind.
+"""
 import copy
 import dataclasses
 
 
 def with_last_state(history, state):
+    """The history with another state after its last event."""
     changed = copy.copy(history)
     changed.events, changed.served = [*history.events[:-1], history.events[-1]._replace(state=state)], {}
     return changed
@@ -12,11 +15,11 @@ def with_last_state(history, state):
 def a_body_of_one_other_byte(history):
     """A resource has another last byte than was put, and the same digests."""
     state = history.state()
-    name, (body, entry) = max(state.held.items(), key=lambda it: len(it[1][0]), default=("", (b"", None)))
+    name, (body, entry) = max(state.held.items(), key=lambda item: len(item[1][0]), default=("", (b"", None)))
     if not body:
         return None
-    held = {**state.held, name: (body[:-1] + bytes([body[-1] ^ 1]), entry)}
-    return with_last_state(history, dataclasses.replace(state, held=held))
+    resources = {**state.held, name: (body[:-1] + bytes([body[-1] ^ 1]), entry)}
+    return with_last_state(history, dataclasses.replace(state, held=resources))
 
 
 def another_moment(history):
@@ -25,14 +28,15 @@ def another_moment(history):
     if not state.changes:
         return None
     *before, last = state.changes
-    return with_last_state(history, dataclasses.replace(state, changes=(*before, dataclasses.replace(last, moment=last.moment - 1))))
+    return with_last_state(
+        history, dataclasses.replace(state, changes=(*before, dataclasses.replace(last, moment=last.moment - 1))))
 
 
 def a_command_more(history):
     """One command more was acknowledged."""
     changed = copy.copy(history)
-    end = history.events[-1].acknowledged
-    changed.events = [*history.events, history.events[-1]._replace(begun=end, acknowledged=end, state=history.state().after("publish", 0)[1])]
+    last, end = history.state().after("publish", 0)[1], history.events[-1].acknowledged
+    changed.events = [*history.events, history.events[-1]._replace(begun=end, acknowledged=end, state=last)]
     return changed
 
 

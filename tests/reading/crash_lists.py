@@ -15,13 +15,14 @@ def gathered(path, served, base):
     """The facts of a list, and its children, from all parts where the path has an index."""
     root = ElementTree.fromstring(served[path])
     children = root.findall(SITEMAP + "url")
-    for it in root.findall(SITEMAP + "sitemap"):
-        children += ElementTree.fromstring(served[place(it, base)]).findall(SITEMAP + "url")
+    for pointer in root.findall(SITEMAP + "sitemap"):
+        children += ElementTree.fromstring(served[place(pointer, base)]).findall(SITEMAP + "url")
     return root.find(RS + "md").attrib, children
 
 
 def facts(element):
-    return {it: element.find(RS + "md").attrib[it] for it in ("hash", "length", "type")}
+    """The digests, the length and the type that an element gives."""
+    return {attribute: element.find(RS + "md").attrib[attribute] for attribute in ("hash", "length", "type")}
 
 
 def mirrored(served):
@@ -29,31 +30,31 @@ def mirrored(served):
     above = ElementTree.fromstring(served["/resourcelist.xml"]).find(RS + "ln").attrib["href"]
     base = above.removesuffix("/capabilitylist.xml")
     head, resources = gathered("/resourcelist.xml", served, base)
-    mine = {place(it, base): facts(it) for it in resources}
+    mine = {place(resource, base): facts(resource) for resource in resources}
     bounds, changes = gathered("/changelist.xml", served, base)
     if bounds["from"] > head["at"]:
         raise ValueError(f"the Change List begins at {bounds['from']}, after the Resource List of {head['at']}")
-    for it in changes:
-        change = it.find(RS + "md").attrib
+    for element in changes:
+        change = element.find(RS + "md").attrib
         if change["datetime"] <= head["at"]:
             continue
         if change["change"] == "deleted":
-            del mine[place(it, base)]
+            del mine[place(element, base)]
         else:
-            mine[place(it, base)] = facts(it)
+            mine[place(element, base)] = facts(element)
     return mine
 
 
 def fault(served, entries):
     """What is wrong with what is served, where this is known of all that is held, or nothing."""
-    wanted = {f"/resource/{name}": vars(it) for name, it in entries.items()}
-    bodies = {path: it for path, it in served.items() if path.startswith("/resource/")}
+    wanted = {f"/resource/{name}": vars(entry) for name, entry in entries.items()}
+    bodies = {path: body for path, body in served.items() if path.startswith("/resource/")}
     mine = mirrored(served)
     if not mine.keys() == wanted.keys() == bodies.keys():
         return f"the lists yield {sorted(mine)}, and {sorted(wanted)} are held"
-    for path, it in mine.items():
-        body, held = bodies[path], wanted[path]
+    for path, found in mine.items():
+        body, entry = bodies[path], wanted[path]
         digests = f"md5:{hashlib.md5(body).hexdigest()} sha-256:{hashlib.sha256(body).hexdigest()}"
-        if (it["hash"], it["length"], it["type"]) != (digests, str(len(body)), held["kind"]):
+        if (found["hash"], found["length"], found["type"]) != (digests, str(len(body)), entry["kind"]):
             return f"{path} is not as the lists tell it"
     return ""

@@ -24,6 +24,7 @@ def moment_text(moment):
 
 
 def escaped(text):
+    """A text with its special characters escaped."""
     return text.translate(str.maketrans(REFERENCES))
 
 
@@ -37,10 +38,12 @@ class Entry:
     moment: int
 
     def attributes(self):
+        """The attributes of the entry in a document."""
         return f'hash="{self.hash}" length="{self.length}" type="{escaped(self.kind)}"'
 
 
 def entry_of(kind, body, moment):
+    """The entry of a body that was put at a moment."""
     digests = f"md5:{hashlib.md5(body).hexdigest()} sha-256:{hashlib.sha256(body).hexdigest()}"
     return Entry(kind, len(body), digests, moment)
 
@@ -59,8 +62,8 @@ class Change:
 class State:
     """A source: what it holds, what has changed, and what it listed last. It stays as it is.
 
-    `first` is the number of the first part of the changes that are kept, and `begin` the moment of the last change before
-    them, or of formatting.
+    `first` is the number of the first part of the changes that are kept, and `begin` the moment of the last change
+    before them, or of formatting.
     """
 
     base: str
@@ -75,7 +78,10 @@ class State:
     begin: int = 0
 
     def after(self, line, now):
-        """The answer to a line, and the next state, or None where the line is refused. A group is one line with all of its lines."""
+        """The answer to a line, and the next state, or None where the line is refused.
+
+        A group is one line with all of its lines.
+        """
         if line.startswith("group "):
             return self.after_group(line.split("\n")[1:], now)
         words = line.split(" ", 3)
@@ -92,22 +98,25 @@ class State:
         return {name: entry for name, (_, entry) in self.held.items()}
 
     def after_put(self, name, body, kind, moment):
+        """The answer to a put at a moment, and the state after it."""
         what = "updated" if name in self.held else "created"
         entry = entry_of(kind, body, moment)
         changes = self.changes + (Change(what, name, moment, entry),)
-        held = {**self.held, name: (body, entry)}
-        then = dataclasses.replace(self, last=moment, held=held, changes=changes)
+        resources = {**self.held, name: (body, entry)}
+        then = dataclasses.replace(self, last=moment, held=resources, changes=changes)
         return f"{what} {moment_text(moment)}", then
 
     def after_delete(self, name, moment):
+        """The answer to a delete at a moment, and the state after it where it is done."""
         if name not in self.held:
             return "refused NotHeld", None
-        held = {it: value for it, value in self.held.items() if it != name}
+        resources = {other: value for other, value in self.held.items() if other != name}
         changes = self.changes + (Change("deleted", name, moment, None),)
-        then = dataclasses.replace(self, last=moment, held=held, changes=changes)
+        then = dataclasses.replace(self, last=moment, held=resources, changes=changes)
         return f"deleted {moment_text(moment)}", then
 
     def after_group(self, lines, now):
+        """The answer to a group of lines, and the state after it where it is done."""
         then = self
         for line in lines:
             answer, then = then.after(line, now)
@@ -116,18 +125,20 @@ class State:
         return f"grouped {len(lines)} {moment_text(max(now, self.last + 1))}", then
 
     def dropped_parts(self):
-        """How many parts the next publication drops: the full ones that end with a change not after the one before it."""
-        return sum(it.moment <= self.at for it in self.changes) // self.limit
+        """How many parts the next publication drops: full ones that end with a change not after the one before."""
+        return sum(change.moment <= self.at for change in self.changes) // self.limit
 
     def after_publish(self, moment):
+        """The answer to a publication at a moment, and the state after it."""
         count = self.dropped_parts()
-        gone, kept = self.changes[: count * self.limit], self.changes[count * self.limit :]
+        gone, remaining = self.changes[: count * self.limit], self.changes[count * self.limit :]
         begin = gone[-1].moment if gone else self.begin
         facts = {"last": moment, "number": self.number + 1, "at": moment, "listed": self.entries()}
-        then = dataclasses.replace(self, **facts, changes=kept, first=self.first + count, begin=begin)
+        then = dataclasses.replace(self, **facts, changes=remaining, first=self.first + count, begin=begin)
         return f"published {then.number} {moment_text(moment)}", then
 
     def status(self):
+        """The answer to `status`."""
         counts = f"resources {len(self.held)} changes {len(self.changes)} publication {self.number}"
         return f"{counts} last {moment_text(self.last)}\n".encode()
 
@@ -150,15 +161,17 @@ def document(root, links, facts, children):
     """The text of a document."""
     lines = [f'<rs:ln rel="{rel}" href="{href}"/>' for rel, href in links]
     lines += [f"<rs:md {facts}/>", *children]
-    return f"{HEAD}<{root} {SPACES}>\n" + "".join(it + "\n" for it in lines) + f"</{root}>\n"
+    return f"{HEAD}<{root} {SPACES}>\n" + "".join(line + "\n" for line in lines) + f"</{root}>\n"
 
 
 def resource(base, name, entry):
+    """The element of a resource in a list."""
     place, time = f"<loc>{base}/resource/{escaped(name)}</loc>", moment_text(entry.moment)
     return f"<url>{place}<lastmod>{time}</lastmod><rs:md {entry.attributes()}/></url>"
 
 
 def changed(base, change):
+    """The element of a change in a list."""
     place, time = f"<loc>{base}/resource/{escaped(change.name)}</loc>", moment_text(change.moment)
     facts = f'change="{change.what}" datetime="{time}"'
     if change.entry is None:
@@ -168,10 +181,12 @@ def changed(base, change):
 
 
 def chunks(items, limit):
+    """The items in parts, each but the last of the limit."""
     return [items[at : at + limit] for at in range(0, len(items), limit)]
 
 
 def pointed(base, path, facts):
+    """The element of a part in an index."""
     return f"<sitemap><loc>{base}{path}</loc><rs:md {facts}/></sitemap>"
 
 
@@ -181,13 +196,13 @@ def resource_documents(state):
     at = f'at="{moment_text(state.at)}"'
     facts = f'capability="resourcelist" {at}'
     names = sorted(state.listed, key=str.encode)
-    parts = chunks([resource(base, it, state.listed[it]) for it in names], state.limit)
+    parts = chunks([resource(base, name, state.listed[name]) for name in names], state.limit)
     if len(parts) <= 1:
         return {"/resourcelist.xml": document("urlset", [up], facts, sum(parts, []))}
     paths = [f"/resourcelist/{state.number}/{k}.xml" for k in range(len(parts))]
-    index = document("sitemapindex", [up], facts, [pointed(base, it, at) for it in paths])
+    index = document("sitemapindex", [up], facts, [pointed(base, path, at) for path in paths])
     links = [up, ("index", base + "/resourcelist.xml")]
-    texts = [document("urlset", links, facts, it) for it in parts]
+    texts = [document("urlset", links, facts, part) for part in parts]
     return {"/resourcelist.xml": index, **dict(zip(paths, texts))}
 
 
@@ -197,14 +212,14 @@ def change_documents(state):
     begin = f'from="{moment_text(state.begin)}"'
     parts = chunks(state.changes, state.limit)
     if len(parts) <= 1:
-        children = [changed(base, it) for it in state.changes]
+        children = [changed(base, change) for change in state.changes]
         return {"/changelist.xml": document("urlset", [up], CHANGES + begin, children)}
     links, found, index, bound = [up, ("index", base + "/changelist.xml")], {}, [], begin
     for k, part in enumerate(parts, state.first):
         end = moment_text(part[-1].moment)
         facts = bound + (f' until="{end}"' if len(part) == state.limit else "")
         path, bound = f"/changelist/{k}.xml", f'from="{end}"'
-        children = [changed(base, it) for it in part]
+        children = [changed(base, change) for change in part]
         found[path] = document("urlset", links, CHANGES + facts, children)
         index.append(pointed(base, path, facts))
     return {"/changelist.xml": document("sitemapindex", [up], CHANGES + begin, index), **found}
@@ -232,13 +247,14 @@ class Questions:
     """A script that asks for all that some states have, and the states by what they answer."""
 
     def __init__(self, states):
-        served = [all_served(it) for it in states]
-        self.paths = sorted({path for it in served for path in it})
-        self.script = b"status\n" + "".join(f"show {it}\n" for it in self.paths).encode()
+        served = [all_served(state) for state in states]
+        self.paths = sorted({path for paths in served for path in paths})
+        self.script = b"status\n" + "".join(f"show {path}\n" for path in self.paths).encode()
         answers = map(self.answer, states, served)
         self.states = {answer: number for number, answer in enumerate(answers)}
 
     def answer(self, state, served):
+        """What the questions are answered in this state."""
         return state.status() + b"".join(shown(path, served.get(path)) for path in self.paths)
 
     def difference(self, output):
@@ -247,7 +263,7 @@ class Questions:
         for answer, number in self.states.items():
             if answer.startswith(counts + b"\n"):
                 at = len(os.path.commonprefix([answer, output]))
-                found, wanted = (it[at : at + 40] for it in (output, answer))
+                found, wanted = (text[at : at + 40] for text in (output, answer))
                 return f"the counts of {number} commands, but {found!r}, not {wanted!r}"
         return f"the counts of no state: {counts[:100]!r}"
 
@@ -266,7 +282,7 @@ class Questions:
 
 def all_served(state):
     """Each document and each body, by its path."""
-    texts = {path: it.encode() for path, it in documents(state).items()}
+    texts = {path: text.encode() for path, text in documents(state).items()}
     return {**texts, **{f"/resource/{name}": body for name, (body, _) in state.held.items()}}
 
 

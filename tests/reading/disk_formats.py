@@ -10,14 +10,17 @@ CREATED, UPDATED, DELETED = 1, 2, 3
 
 
 def sha256(data):
+    """The SHA-256 of some data."""
     return hashlib.sha256(data).digest()
 
 
 def number(value, size=4):
+    """A number of this many bytes, the highest first."""
     return value.to_bytes(size, "big")
 
 
 def spelled(fields):
+    """The bytes of some fields."""
     return b"".join(fields.values())
 
 
@@ -49,6 +52,7 @@ def record_fields(name, body, moment, first, kind=b"text/plain"):
 
 
 def change_fields(what, name, moment, body=b"", kind=b"text/plain"):
+    """The fields of a change."""
     head = {"what": number(what, 1), **short_fields("name", name), "moment": number(moment, 8)}
     return head if what == DELETED else {**head, **body_fields(kind, body)}
 
@@ -70,8 +74,8 @@ def header_fields(last, publication=0, at=0, limit=2, base=BASE, start=0, first=
     """The kept changes begin at the start, unless the caller gives another moment."""
     head = {"limit": number(limit, 2), **short_fields("base", base), "start": number(start, 8)}
     head |= {"last": number(last, 8), "publication": number(publication, 8), "at": number(at, 8)}
-    kept = {"first": number(first, 8), "begin": number(start if begin is None else begin, 8)}
-    return head if version == OLD_VERSION else {**head, **kept}
+    bounds = {"first": number(first, 8), "begin": number(start if begin is None else begin, 8)}
+    return head if version == OLD_VERSION else {**head, **bounds}
 
 
 def slot_fields(gate, generation, first, data, version=VERSION):
@@ -81,7 +85,10 @@ def slot_fields(gate, generation, first, data, version=VERSION):
 
 
 def over(disk, parts):
-    """A disk with each of these bytes from its block on, the later over the earlier. What would lie past its end is left out."""
+    """A disk with each of these bytes from its block on, the later over the earlier.
+
+    What would lie past its end is left out.
+    """
     disk = bytearray(disk)
     for first, data in parts:
         at = min(first * BLOCK, len(disk))

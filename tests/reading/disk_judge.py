@@ -1,8 +1,8 @@
 """What any bytes are as a disk, by the rules of docs/DISK.md, written apart from the program.
 
-`told` says of some bytes that they are no source, that they are damaged, or that they open, and then what the source on them
-is. `damaged_names` are the held names whose body does not have its recorded SHA-256. `state_of` is the source as a state of
-crash_model.py, which has the text of each of its documents.
+`verdict_of` says of some bytes that they are no source, that they are damaged, or that they open, and then what the
+source on them is. `damaged_names` are the held names whose body does not have its recorded SHA-256. `state_of` is the
+source as a state of crash_model.py, which has the text of each of its documents.
 """
 import itertools
 import re
@@ -35,18 +35,22 @@ def hold(rule, holds):
 
 
 def is_lawful(pattern, shortest, longest, text):
+    """Whether a text has a lawful length and matches the pattern."""
     return shortest <= len(text) <= longest and pattern.fullmatch(text) is not None
 
 
 def items_of(pages):
-    return [it for page in pages for it in page.items]
+    """All items of some pages."""
+    return [item for page in pages for item in page.items]
 
 
 def strictly_rise(values):
+    """Whether each value is greater than the one before it."""
     return all(a < b for a, b in itertools.pairwise(values))
 
 
 def blocks_of(length):
+    """How many blocks this many bytes take."""
     return (length + BLOCK - 1) // BLOCK
 
 
@@ -60,34 +64,36 @@ def look_at_records(source, pages, latest):
     """The rules of a list of records, whose moments are at most the latest."""
     records = items_of(pages)
     hold("a list has 50,000 records at most", len(records) <= MOST_ITEMS)
-    hold("the names of records strictly ascend", strictly_rise([it.name for it in records]))
-    for it in records:
-        hold("the name of a record is lawful", is_lawful(NAME, 1, 240, it.name))
-        look_at_facts(it)
-        hold("the moment of a record is in its bounds", source.start < it.moment <= latest)
-        hold("a body has exactly the blocks of its length", it.blocks == blocks_of(it.length))
-        hold("no bytes begin in block 0", it.length > 0 or it.first == 0)
+    hold("the names of records strictly ascend", strictly_rise([record.name for record in records]))
+    for record in records:
+        hold("the name of a record is lawful", is_lawful(NAME, 1, 240, record.name))
+        look_at_facts(record)
+        hold("the moment of a record is in its bounds", source.start < record.moment <= latest)
+        hold("a body has exactly the blocks of its length", record.blocks == blocks_of(record.length))
+        hold("no bytes begin in block 0", record.length > 0 or record.first == 0)
 
 
 def look_at_changes(source):
     """The rules of the changes, and of the last moment, which the last of them may be."""
     changes = items_of(source.changes)
     hold("there are 50,000 changes at most", len(changes) <= MOST_ITEMS)
-    hold("the moments of changes strictly rise", strictly_rise([it.moment for it in changes]))
-    for it in changes:
-        hold("a change creates, updates or deletes", it.what in WHAT)
-        hold("the name of a change is lawful", is_lawful(NAME, 1, 240, it.name))
-        hold("the moment of a change is in its bounds", source.begin < it.moment <= source.last)
-        if it.what != DELETED:
-            look_at_facts(it)
-    newest = max([source.at, *(it.moment for it in changes)])
+    hold("the moments of changes strictly rise", strictly_rise([change.moment for change in changes]))
+    for change in changes:
+        hold("a change creates, updates or deletes", change.what in WHAT)
+        hold("the name of a change is lawful", is_lawful(NAME, 1, 240, change.name))
+        hold("the moment of a change is in its bounds", source.begin < change.moment <= source.last)
+        if change.what != DELETED:
+            look_at_facts(change)
+    newest = max([source.at, *(change.moment for change in changes)])
     hold("last is the greater of at and the last change's moment", source.last == newest)
 
 
 def look_at_begin(source):
     """The rules of the first part that is kept, and of the moment at which the kept changes begin."""
-    hold("the kept changes begin at the start or later, and no later than the publication", source.start <= source.begin <= source.at)
-    hold("no more parts were dropped than there are moments from start to begin", source.first <= source.begin - source.start)
+    hold("the kept changes begin at the start or later, and no later than the publication",
+         source.start <= source.begin <= source.at)
+    hold("no more parts were dropped than there are moments from start to begin",
+         source.first <= source.begin - source.start)
     hold("where no part was dropped begin is the start", source.first > 0 or source.begin == source.start)
 
 
@@ -98,7 +104,7 @@ def look(disk, source):
     hold("start <= at <= last, and last is a moment", source.start <= source.at <= source.last <= LAST_MOMENT)
     look_at_begin(source)
     pages = [*source.catalogue, *source.changes, *source.published]
-    hold("a page has an item", all(it.items for it in pages))
+    hold("a page has an item", all(page.items for page in pages))
     look_at_records(source, source.catalogue, source.last)
     look_at_records(source, source.published, source.at)
     look_at_changes(source)
@@ -106,7 +112,7 @@ def look(disk, source):
     hold(why, not why)
 
 
-def told(disk):
+def verdict_of(disk):
     """`NotASource` or `Damaged` and why, or `opens` and the source."""
     try:
         source = disk_reader.source_of(disk)
@@ -126,7 +132,7 @@ def body_of(disk, record):
 
 def damaged_names(disk, source):
     """The held names whose body does not have its recorded SHA-256, in their order."""
-    return [it.name.decode() for it in items_of(source.catalogue) if body_of(disk, it) is None]
+    return [record.name.decode() for record in items_of(source.catalogue) if body_of(disk, record) is None]
 
 
 def entry_of(item):
@@ -136,6 +142,7 @@ def entry_of(item):
 
 
 def change_of(item):
+    """A change as the model has it."""
     entry = None if item.what == DELETED else entry_of(item)
     return crash_model.Change(WHAT[item.what], item.name.decode(), item.moment, entry)
 
@@ -146,11 +153,11 @@ def state_of(disk, source):
         base=source.base.decode(),
         limit=source.limit,
         last=source.last,
-        held={it.name.decode(): (body_of(disk, it), entry_of(it)) for it in items_of(source.catalogue)},
-        changes=tuple(change_of(it) for it in items_of(source.changes)),
+        held={record.name.decode(): (body_of(disk, record), entry_of(record)) for record in items_of(source.catalogue)},
+        changes=tuple(change_of(change) for change in items_of(source.changes)),
         number=source.number,
         at=source.at,
-        listed={it.name.decode(): entry_of(it) for it in items_of(source.published)},
+        listed={record.name.decode(): entry_of(record) for record in items_of(source.published)},
         first=source.first,
         begin=source.begin,
     )

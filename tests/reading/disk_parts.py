@@ -5,14 +5,14 @@ from tests.reading.disk_formats import BASE, OLD_VERSION, VERSION, change_fields
 from tests.reading.disk_formats import slot_fields, spelled
 
 
-def record(*given, **named):
+def record(*arguments, **fields):
     """A record of a resource whose body lies from the block `first` on."""
-    return spelled(record_fields(*given, **named))
+    return spelled(record_fields(*arguments, **fields))
 
 
-def change(*given, **named):
+def change(*arguments, **fields):
     """A change: 1 created, 2 updated, 3 deleted."""
-    return spelled(change_fields(*given, **named))
+    return spelled(change_fields(*arguments, **fields))
 
 
 def page(kind, items):
@@ -25,15 +25,16 @@ def entry(first, data):
     return spelled(entry_fields(first, data))
 
 
-def directory(last, number=0, at=0, lists=((), (), ()), limit=2, base=BASE, start=0, first=0, begin=None, version=VERSION):
+def directory(last, number=0, at=0, lists=((), (), ()), limit=2, base=BASE, start=0, first=0, begin=None,
+              version=VERSION):
     """A directory. `lists` has the entries of the catalogue's, the changes' and the published pages."""
     head = struct.pack(">HB", limit, len(base)) + base + struct.pack(">QQQQ", start, last, number, at)
     if version != OLD_VERSION:
         head += struct.pack(">QQ", first, start if begin is None else begin)
     counts = struct.pack(">III", *map(len, lists))
-    return head + counts + b"".join(b"".join(it) for it in lists)
+    return head + counts + b"".join(b"".join(entries) for entries in lists)
 
 
-def slot(*given, **named):
+def slot(*arguments, **fields):
     """A slot that points to a directory."""
-    return spelled(slot_fields(*given, **named))
+    return spelled(slot_fields(*arguments, **fields))

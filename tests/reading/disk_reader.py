@@ -1,7 +1,8 @@
 """Reads a source off the bytes of a disk by the tables of docs/DISK.md, apart from the program.
 
-It takes the root of the open slot of the greater generation, the directory behind it, and each page that the directory names;
-lengths and SHA-256 have to agree. Which order the items have, and which blocks are used twice, is for the reader's caller.
+It takes the root of the open slot of the greater generation, the directory behind it, and each page that the directory
+names; lengths and SHA-256 have to agree. Which order the items have, and which blocks are used twice, is for the
+reader's caller.
 """
 import collections
 
@@ -14,7 +15,8 @@ Record = collections.namedtuple("Record", "name kind length md5 sha256 moment fi
 Change = collections.namedtuple("Change", "what name moment kind length md5 sha256", defaults=[None] * 4)
 Page = collections.namedtuple("Page", "entry items")
 # `directory` is its entry in the slot, and `version` what the slot says of its format.
-Source = collections.namedtuple("Source", "directory version limit base start last number at first begin catalogue changes published")
+Source = collections.namedtuple(
+    "Source", "directory version limit base start last number at first begin catalogue changes published")
 # The root that a slot says.
 Root = collections.namedtuple("Root", "generation version directory")
 # The versions that there are. A directory of the first has no first part and no begin: it keeps all changes.
@@ -38,18 +40,22 @@ class Fields:
         self.data, self.at = data, 0
 
     def taken(self, size):
+        """The next bytes."""
         self.at += size
         if self.at > len(self.data):
             raise Unread(f"a field ends at byte {self.at} of {len(self.data)}")
         return self.data[self.at - size : self.at]
 
     def number(self, size=4):
+        """The next number."""
         return int.from_bytes(self.taken(size), "big")
 
     def short(self):
+        """The next text, behind its length."""
         return self.taken(self.number(1))
 
     def entry(self):
+        """The next entry of a page."""
         return Entry(self.number(), self.number(), self.number(), self.taken(32))
 
     def facts(self):
@@ -57,13 +63,16 @@ class Fields:
         return self.short(), self.number(), self.taken(16), self.taken(32)
 
     def record(self):
+        """The next record."""
         return Record(self.short(), *self.facts(), self.number(8), self.number(), self.number())
 
     def change(self):
+        """The next change."""
         what, name, moment = self.number(1), self.short(), self.number(8)
         return Change(what, name, moment) if what == DELETED else Change(what, name, moment, *self.facts())
 
     def ended(self, what):
+        """Checks that nothing follows."""
         if self.at < len(self.data):
             raise Unread(f"{len(self.data) - self.at} bytes follow {what}")
 
@@ -99,7 +108,7 @@ def root(disk):
             if version not in VERSIONS:
                 raise NoRoot(f"an open slot has the version {version}")
             opened.append(Root(fields.number(8), version, fields.entry()))
-    if len({it.generation for it in opened}) != len(opened) or not opened:
+    if len({root.generation for root in opened}) != len(opened) or not opened:
         raise NoRoot("there is no open slot of the greater generation")
     return max(opened)
 
@@ -115,17 +124,18 @@ def source_of(disk):
     entries = [[fields.entry() for _ in range(count)] for count in counts]
     fields.ended("the directory")
     kinds = (RECORDS, CHANGES, RECORDS)
-    lists = [[page_of(disk, it, kind) for it in each] for each, kind in zip(entries, kinds)]
+    lists = [[page_of(disk, entry, kind) for entry in each] for each, kind in zip(entries, kinds)]
     return Source(entry, version, limit, base, start, last, number, at, first, begin, *lists)
 
 
 def extents(source):
     """The extents of all that the root reaches, a published page that is a catalogue page once."""
     lists = [source.catalogue, source.changes, source.published]
-    held = {page.entry for page in source.catalogue}
-    pages = [page.entry for it in lists for page in it if it is not source.published or page.entry not in held]
+    resources = {page.entry for page in source.catalogue}
+    pages = [page.entry for part in lists for page in part
+             if part is not source.published or page.entry not in resources]
     bodies = [record for page in source.catalogue for record in page.items]
-    return [(it.first, it.blocks) for it in [source.directory, *pages, *bodies] if it.blocks]
+    return [(extent.first, extent.blocks) for extent in [source.directory, *pages, *bodies] if extent.blocks]
 
 
 def fault(disk, source):

@@ -25,22 +25,25 @@ class Refused(Exception):
 
     @property
     def word(self):
+        """The word of the refusal."""
         return self.args[0]
 
 
 def is_document(path):
     """Whether this is a document's path, of one that there is or not: its numbers are those of 64 bits."""
     found = DOCUMENT.fullmatch(path)
-    return found is not None and all(int(it) < 2**64 for it in found.groups() if it)
+    return found is not None and all(int(number) < 2**64 for number in found.groups() if number)
 
 
 def name_of(text):
+    """A lawful name, or a refusal."""
     if not is_lawful(NAME, 1, 240, text):
         raise Refused("BadName")
     return text.decode()
 
 
 def type_of(text):
+    """A lawful media type, or a refusal."""
     if not is_lawful(TYPE, 3, 100, text):
         raise Refused("BadType")
     return text.decode()
@@ -54,6 +57,7 @@ class Source:
         self.state, self.size, self.texts = state, size, None
 
     def become(self, state):
+        """Takes another state."""
         self.state, self.texts = state, None
 
     def moment(self, now):
@@ -80,6 +84,7 @@ class Source:
         return answer
 
     def delete(self, name, now):
+        """The answer to a delete."""
         if name not in self.state.held:
             raise Refused("NotHeld")
         if len(self.state.changes) >= MOST_ITEMS:
@@ -95,13 +100,15 @@ class Source:
         then, answers = Source(self.state, 2 * LONGEST_BODY), []
         for name, *put in items:
             answers.append(then.put(name, put[0], len(put[1]), put[1], now) if put else then.delete(name, now))
-        written = [it for at, it in enumerate(items) if it[1:] and it[0] not in {name for name, *_ in items[at + 1 :]}]
+        written = [item for at, item in enumerate(items)
+                   if item[1:] and item[0] not in {name for name, *_ in items[at + 1 :]}]
         if any(len(body) > self.size // BLOCK * BLOCK for _, _, body in written):
             raise Refused("Full")
         self.become(then.state)
         return f"grouped {len(items)} {answers[0].split()[1]}"
 
     def publish(self, now):
+        """The answer to a publication."""
         moment = self.moment(now)
         if self.state.number >= LAST_NUMBER or self.state.first + self.state.dropped_parts() > LAST_PART:
             raise Refused("Exhausted")

@@ -15,7 +15,7 @@ FIELDS = {b"at": 2, b"put": 4, b"delete": 2, b"publish": 1, b"show": 2, b"status
 def lines_of(script):
     """The lines of a script: each ends with LF, of which one CR before it is a part, or at the end."""
     *ended, rest = script.split(b"\n")
-    lines = [it[:-1] if it.endswith(b"\r") else it for it in ended]
+    lines = [line[:-1] if line.endswith(b"\r") else line for line in ended]
     return [*lines, rest] if rest else lines
 
 
@@ -30,6 +30,7 @@ def fields_of(line):
 
 
 def body_of(text):
+    """The bytes of a body in hexadecimal, or a refusal."""
     if text == b"-":
         return b""
     if len(text) % 2 or not HEXADECIMAL.fullmatch(text):
@@ -56,68 +57,76 @@ class Judge:
     def __init__(self, source):
         self.source, self.now = source, 0
         # How many lines a group still takes, the items so far, and the first fault of its lines.
-        self.left, self.items, self.fault = 0, [], None
+        self.remaining, self.items, self.fault = 0, [], None
 
     def answer(self, line):
         """The answer to a line, with the line feed at its end. A group is answered with its last line."""
-        if self.left:
+        if self.remaining:
             return self.taken(line)
         try:
             answer = self.accepted(line)
             return b"" if answer is None else answer + b"\n"
-        except Refused as it:
-            return f"refused {it.word}\n".encode()
+        except Refused as refusal:
+            return f"refused {refusal.word}\n".encode()
 
     def end(self):
         """The answer to a group that the end of the input cuts."""
-        is_cut, self.left = self.left > 0, 0
+        is_cut, self.remaining = self.remaining > 0, 0
         return b"refused BadGroup\n" if is_cut else b""
 
     def group(self, text):
+        """Begins a group of this many lines."""
         if not COUNT.fullmatch(text) or not 1 <= int(text) <= MOST_GROUPED:
             raise Refused("BadGroup")
-        self.left, self.items, self.fault = int(text), [], None
+        self.remaining, self.items, self.fault = int(text), [], None
 
     def taken(self, line):
         """The answer to a line of a group."""
-        self.left -= 1
+        self.remaining -= 1
         try:
             self.items.append(item_of(line))
-        except Refused as it:
-            self.fault = self.fault or it
-        return b"" if self.left else self.grouped()
+        except Refused as refusal:
+            self.fault = self.fault or refusal
+        return b"" if self.remaining else self.grouped()
 
     def grouped(self):
+        """The answer to a group whose lines have all come."""
         try:
             if self.fault:
                 raise self.fault
             return self.source.group(self.items, self.now).encode() + b"\n"
-        except Refused as it:
-            return f"refused {it.word}\n".encode()
+        except Refused as refusal:
+            return f"refused {refusal.word}\n".encode()
 
     def accepted(self, line):
+        """The answer to a line, or a refusal."""
         if len(line) > LONGEST_LINE:
             raise Refused("LongLine")
         word, *fields = fields_of(line)
         return getattr(self, word.decode())(*fields)
 
     def at(self, text):
+        """The answer to a line that sets the time."""
         if not DIGITS.fullmatch(text) or int(text) > LAST_MOMENT:
             raise Refused("BadMoment")
         self.now = int(text)
         return b"ok"
 
     def put(self, name, text, kind):
+        """The answer to a put."""
         name, body, kind = name_of(name), body_of(text), type_of(kind)
         return self.source.put(name, kind, len(body), body, self.now).encode()
 
     def delete(self, name):
+        """The answer to a delete."""
         return self.source.delete(name_of(name), self.now).encode()
 
     def publish(self):
+        """The answer to a publication."""
         return self.source.publish(self.now).encode()
 
     def show(self, path):
+        """The answer to `show`."""
         if path.startswith(RESOURCE):
             data, _ = self.source.resource(name_of(path[len(RESOURCE) :]))
         else:
@@ -125,7 +134,9 @@ class Judge:
         return b"bytes %d\n%s" % (len(data), data)
 
     def status(self):
+        """The answer to `status`."""
         return self.source.state.status().rstrip(b"\n")
 
     def verify(self):
+        """The answer to `verify`."""
         return b"verified %d" % len(self.source.state.held)

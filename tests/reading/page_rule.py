@@ -1,10 +1,12 @@
-"""The page rule, as plain and slow as can be: a list in pages is a list of lists, and nothing is shared with the program.
+"""The page rule, as plain and slow as can be: a list in pages is a list of lists, and nothing is shared with the
+program.
 
 A command touches one page of a list at most and makes new lists of its items. All other pages stay the very lists that
 they were, so whoever keeps pages can tell by `is` which ones no command has touched.
 """
 
-# The most items of a page: above it a touched page of records is cut, into pages of the second number. A page of changes is never longer.
+# The most items of a page: above it a touched page of records is cut, into pages of the second number. A page of
+# changes is never longer.
 MOST, CUT = 64, 32
 
 
@@ -24,6 +26,7 @@ def home(pages, name):
 
 
 def holds(pages, name):
+    """Whether a page has an item of this name."""
     return any(name == item[0] for page in pages for item in page)
 
 
@@ -32,25 +35,28 @@ def bound(pages, item):
     if not pages:
         return [[item]]
     place = home(pages, item[0])
-    others = [it for it in pages[place] if it[0] != item[0]]
+    others = [other for other in pages[place] if other[0] != item[0]]
     return [*pages[:place], *cut(sorted([*others, item])), *pages[place + 1 :]]
 
 
 def unbound(pages, name):
     """A list of records without the one of this name, which it has."""
     place = home(pages, name)
-    others = [it for it in pages[place] if it[0] != name]
+    others = [other for other in pages[place] if other[0] != name]
     return [*pages[:place], *cut(others), *pages[place + 1 :]]
 
 
 def dropped(pages, count):
-    """A list of changes without its first ones. What is left of the page in which the cut falls is cut anew, the last page with the rest."""
+    """A list of changes without its first ones.
+
+    What is left of the page in which the cut falls is cut anew, the last page with the rest.
+    """
     while pages and len(pages[0]) <= count:
         count, pages = count - len(pages[0]), pages[1:]
     if not count:
         return pages
-    left = pages[0][count:]
-    return [*(left[at : at + MOST] for at in range(0, len(left), MOST)), *pages[1:]]
+    remaining = pages[0][count:]
+    return [*(remaining[at : at + MOST] for at in range(0, len(remaining), MOST)), *pages[1:]]
 
 
 def appended(pages, change):
@@ -61,10 +67,11 @@ def appended(pages, change):
 
 
 class Lists:
-    """The three lists of a source in pages. A record is its name and moment; a change is its name, what happened and its moment.
+    """The three lists of a source in pages. A record is its name and moment; a change is its name, what happened and
+    its moment.
 
-    Changes go in parts of `limit`, of which the first that is kept has the number `first`; they begin after `begin`, and `at` is the
-    moment of the latest publication.
+    Changes go in parts of `limit`, of which the first that is kept has the number `first`; they begin after `begin`,
+    and `at` is the moment of the latest publication.
     """
 
     def __init__(self, limit, catalogue=(), changes=(), published=(), last=0, at=0, first=0, begin=0):
@@ -91,7 +98,7 @@ class Lists:
     def publish(self):
         """Publishes, and drops the full parts of the changes that end no later than the publication before this one."""
         moments = [moment for page in self.changes for _, _, moment in page]
-        parts = sum(it <= self.at for it in moments) // self.limit
+        parts = sum(moment <= self.at for moment in moments) // self.limit
         if parts:
             self.changes = dropped(self.changes, parts * self.limit)
             self.first, self.begin = self.first + parts, moments[parts * self.limit - 1]

@@ -57,7 +57,7 @@ def response(status, date, kind, body, allowed=(), is_head=False):
     lines += [f"Allow: {', '.join(allowed)}"] if allowed else []
     lines += [f"Content-Type: {kind}"] if status not in (201, 204) else []
     lines += [f"Content-Length: {len(body)}"] if status != 204 else []
-    return "".join(f"{it}\r\n" for it in [*lines, ""]).encode() + (b"" if is_head else body)
+    return "".join(f"{line}\r\n" for line in [*lines, ""]).encode() + (b"" if is_head else body)
 
 
 def head_within(sent):
@@ -77,7 +77,7 @@ class Request:
 
     def values(self, name):
         """The values of all fields of this name."""
-        return [value for it, value in self.fields if it.lower() == name]
+        return [value for field, value in self.fields if field.lower() == name]
 
     def length(self):
         """What Content-Length says, or None."""
@@ -95,7 +95,7 @@ class Request:
 
     def waits(self, length):
         """Whether the client waits for the word to go on."""
-        is_asked = b"100-continue" in [it.lower() for it in self.values(b"expect")]
+        is_asked = b"100-continue" in [value.lower() for value in self.values(b"expect")]
         return is_asked and self.minor == 1 and length > 0
 
     def look(self):
@@ -147,12 +147,12 @@ class Judge:
                 return self.put(request, date, now)
             if request.path == b"/group":
                 return self.group(request, date, now)
-            return response(*self.asked(request, date, now), is_head=request.method == "HEAD")
-        except Refused as it:
+            return response(*self.answer_parts(request, date, now), is_head=request.method == "HEAD")
+        except Refused as refusal:
             is_head = request is not None and request.method == "HEAD"
-            return response(STATUS_OF[it.word], date, "text/plain", f"{it.word}\n".encode(), allowed, is_head)
+            return response(STATUS_OF[refusal.word], date, "text/plain", f"{refusal.word}\n".encode(), allowed, is_head)
 
-    def asked(self, request, date, now):
+    def answer_parts(self, request, date, now):
         """The status, the date, the type and the body that answer a request that has no body."""
         if request.method == "POST":
             return 200, date, "text/plain", self.source.publish(now).encode() + b"\n"
@@ -176,10 +176,10 @@ class Judge:
         try:
             if len(request.rest) < length:
                 raise Refused("ShortBody")
-            items = [line_judge.item_of(it) for it in line_judge.lines_of(request.rest[:length])]
+            items = [line_judge.item_of(line) for line in line_judge.lines_of(request.rest[:length])]
             return before + response(200, date, "text/plain", self.source.group(items, now).encode() + b"\n")
-        except Refused as it:
-            return before + response(STATUS_OF[it.word], date, "text/plain", f"{it.word}\n".encode())
+        except Refused as refusal:
+            return before + response(STATUS_OF[refusal.word], date, "text/plain", f"{refusal.word}\n".encode())
 
     def put(self, request, date, now):
         """The answer to a PUT: the word to go on comes before the source is asked."""
@@ -194,5 +194,5 @@ class Judge:
         try:
             is_new = self.source.put(name, kind, length, body, now).startswith("created")
             return before + response(201 if is_new else 204, date, "", b"")
-        except Refused as it:
-            return before + response(STATUS_OF[it.word], date, "text/plain", f"{it.word}\n".encode())
+        except Refused as refusal:
+            return before + response(STATUS_OF[refusal.word], date, "text/plain", f"{refusal.word}\n".encode())

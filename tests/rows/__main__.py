@@ -18,7 +18,7 @@ import sys
 import tempfile
 
 from tests.disks import disks
-from tests.program import MEMORY, PROGRAM, SECONDS, STILL_CLOCK, Differs, asked, compare, interposed
+from tests.program import MEMORY, PROGRAM, SECONDS, STILL_CLOCK, Differs, ask, compare, interposed
 from tests.rows.reader import ROWS, exchanges_of, steps_of, written_out
 
 
@@ -26,38 +26,39 @@ def check_script(program, row, room):
     """A script on a source in memory."""
     args = row.with_suffix(".args")
     words = args.read_text().splitlines() if args.exists() else MEMORY
-    given = b"".join(written_out(it) for it in row.read_bytes().splitlines(keepends=True))
-    ran = subprocess.run([program, *words], input=given, capture_output=True, cwd=room, timeout=SECONDS)
-    if ran.returncode or ran.stderr:
-        raise Differs(f"status {ran.returncode}: {ran.stderr.decode(errors='replace')}")
-    compare("output", row.with_suffix(".out").read_bytes(), ran.stdout)
+    script = b"".join(written_out(line) for line in row.read_bytes().splitlines(keepends=True))
+    finished = subprocess.run([program, *words], input=script, capture_output=True, cwd=room, timeout=SECONDS)
+    if finished.returncode or finished.stderr:
+        raise Differs(f"status {finished.returncode}: {finished.stderr.decode(errors='replace')}")
+    compare("output", row.with_suffix(".out").read_bytes(), finished.stdout)
 
 
-def told_by(program, words, given, room):
-    """What one command of a session writes: its output, its messages behind `! `, and a status other than 0 behind `? `."""
+def output_of(program, words, script, room):
+    """What a command of a session writes: output, messages behind `! `, and a status other than 0 behind `? `."""
     if words[0] == "rs_source":
-        ran = subprocess.run([program, *words[1:]], input=given, capture_output=True, cwd=room, timeout=SECONDS)
-        told = ran.stdout + b"".join(b"! " + it for it in ran.stderr.splitlines(keepends=True))
-        return told + (b"? %d\n" % ran.returncode if ran.returncode else b"")
+        finished = subprocess.run([program, *words[1:]], input=script, capture_output=True, cwd=room, timeout=SECONDS)
+        output = finished.stdout + b"".join(b"! " + line for line in finished.stderr.splitlines(keepends=True))
+        return output + (b"? %d\n" % finished.returncode if finished.returncode else b"")
     return disks.COMMANDS[words[0]](room, *words[1:]).encode()
 
 
 def run_steps(program, text, room):
     """Commands on files, one after another."""
-    for words, given, wanted in steps_of(text):
-        compare(ascii(shlex.join(words)), wanted, told_by(program, words, given, room))
+    for words, script, wanted in steps_of(text):
+        compare(ascii(shlex.join(words)), wanted, output_of(program, words, script, room))
 
 
 def check_session(program, row, room):
+    """Runs the steps of a session."""
     run_steps(program, row.read_bytes(), room)
 
 
 def opened(program, words, room):
     """Whether a disk of these words (its name and changes) is opened: `opens`, or the word that it is refused by."""
     disks.disk(room, words[0], "it.disk", *words[1:])
-    told = told_by(program, ["rs_source", "run", "it.disk"], b"", room).decode()
-    refused = re.fullmatch(r"! rs_source: (\w+)\n\? 1\n", told)
-    return refused[1] if refused else told or "opens"
+    output = output_of(program, ["rs_source", "run", "it.disk"], b"", room).decode()
+    refused = re.fullmatch(r"! rs_source: (\w+)\n\? 1\n", output)
+    return refused[1] if refused else output or "opens"
 
 
 def check_disks(program, row, room):
@@ -81,7 +82,7 @@ def check_exchanges(program, row, room):
         try:
             port = int(server.stdout.readline().rpartition(b":")[2])
             for number, (sent, wanted) in enumerate(exchanges, 1):
-                compare(f"request {number}, {sent[:60]!r}", wanted, asked(port, sent))
+                compare(f"request {number}, {sent[:60]!r}", wanted, ask(port, sent))
             if server.wait(SECONDS):
                 raise Differs(f"the server ended with status {server.returncode}")
         finally:
@@ -92,9 +93,10 @@ KINDS = {".in": check_script, ".session": check_session, ".disks": check_disks, 
 
 
 def main():
-    given = sys.argv[1:]
-    program = given.pop(0) if given and os.path.isfile(given[0]) else str(PROGRAM)
-    rows = [it for it in sorted(ROWS.iterdir()) if it.suffix in KINDS and (not given or it.stem in given)]
+    """Runs the rows that are named, or all, and gives the exit status."""
+    arguments = sys.argv[1:]
+    program = arguments.pop(0) if arguments and os.path.isfile(arguments[0]) else str(PROGRAM)
+    rows = [row for row in sorted(ROWS.iterdir()) if row.suffix in KINDS and (not arguments or row.stem in arguments)]
     failed = 0
     for row in rows:
         with tempfile.TemporaryDirectory() as room:

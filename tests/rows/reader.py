@@ -1,4 +1,7 @@
-"""Reads the worked rows: their places, the commands of a session, and the exchanges of HTTP. README.md says how they are written."""
+"""Reads the worked rows: their places, the commands of a session, and the exchanges of HTTP.
+
+README.md says how they are written.
+"""
 import pathlib
 import re
 import shlex
@@ -8,9 +11,9 @@ ENDS = {b" ": b"\r\n", b"+": b"\n", b"-": b""}
 
 
 def written_out(text):
-    """A line with each `{0xHEX}` in it written out as the bytes of its digits, and then each `{N text}` as N times the text."""
-    text = re.sub(rb"\{0x([0-9a-f]+)\}", lambda it: bytes.fromhex(it[1].decode()), text)
-    return re.sub(rb"\{(\d+) ([^{}]+)\}", lambda it: it[2] * int(it[1]), text)
+    """A line with each `{0xHEX}` written out as the bytes of its digits, then each `{N text}` as N times the text."""
+    text = re.sub(rb"\{0x([0-9a-f]+)\}", lambda match: bytes.fromhex(match[1].decode()), text)
+    return re.sub(rb"\{(\d+) ([^{}]+)\}", lambda match: match[2] * int(match[1]), text)
 
 
 def steps_of(text):
@@ -26,7 +29,7 @@ def steps_of(text):
             steps[-1][1].append(written_out(line[2:] or b"\n"))
         elif steps and not line.startswith(b"#"):
             steps[-1][2].append(written_out(line))
-    return [(words, b"".join(given), b"".join(wanted)) for words, given, wanted in steps]
+    return [(words, b"".join(script), b"".join(wanted)) for words, script, wanted in steps]
 
 
 def exchanges_of(text):
@@ -40,5 +43,6 @@ def exchanges_of(text):
             exchanges.append([b"", b""])
         mark = line[:1]
         end = ENDS[line[1:2] or b" "]
-        exchanges[-1][(b">", b"<").index(mark)] += written_out(line[3:] if line[1:2] in (b"+", b"-") else line[2:]) + end
+        text = line[3:] if line[1:2] in (b"+", b"-") else line[2:]
+        exchanges[-1][(b">", b"<").index(mark)] += written_out(text) + end
     return exchanges

@@ -1,7 +1,9 @@
-"""The calls on its file that a source has to make, by docs/DISK.md, docs/CRASH.md and docs/FILE-DISK.md, apart from the program.
+"""The calls on its file that a source has to make, by docs/DISK.md, docs/CRASH.md and docs/FILE-DISK.md, apart from the
+program.
 
-Each list has the texts of noted_calls.py. Where a part goes is found here: into the lowest run of free blocks of its size, one
-part after the other. How long a part is, and which pages are new, is read off the disk behind the command (disk_reader.py).
+Each list has the texts of noted_calls.py. Where a part goes is found here: into the lowest run of free blocks of its
+size, one part after the other. How long a part is, and which pages are new, is read off the disk behind the command
+(disk_reader.py).
 """
 import os
 
@@ -39,7 +41,7 @@ def pieces(call, name, at, length, size=None):
 
 
 def settled(name, length=None):
-    """How a file that was opened is looked at, taken for this process alone, given its length where it is new, settled and measured."""
+    """How an opened file is looked at, locked, given its length where it is new, settled and measured."""
     made = [] if length is None else [f"length {name} {length}"]
     dropping = f"advise {name} 0 0 {os.POSIX_FADV_DONTNEED}"
     return [f"measure {name}", f"lock {name} {ALONE}", *made, f"sync {name}", dropping, f"measure {name}"]
@@ -58,18 +60,20 @@ def gate(name, at):
 def formatting(name, disk, folder="."):
     """How a source is made on a new file."""
     length = disk_reader.root(disk).directory.length
-    first = [f"write {name} {2 * BLOCK} {length}", f"write {name} 0 {BLOCK}", f"write {name} {BLOCK} {BLOCK}", f"sync {name}"]
+    first = [f"write {name} {2 * BLOCK} {length}", f"write {name} 0 {BLOCK}", f"write {name} {BLOCK} {BLOCK}",
+             f"sync {name}"]
     return [*making(name, len(disk), folder), *first, *gate(name, 0)]
 
 
 def opening(name, disk):
     """How a source is opened: a published page that is a catalogue page too is read once."""
     source = disk_reader.source_of(disk)
-    held = {it.entry for it in source.catalogue}
-    listed = [it for it in source.published if it.entry not in held]
-    entries = [source.directory, *(it.entry for it in [*source.catalogue, *source.changes, *listed])]
-    reads = [f"read {name} {it.first * BLOCK} {it.length}" for it in entries]
-    return [f"open {name}", *settled(name), f"sync {name}", f"read {name} 0 {SLOT}", f"read {name} {BLOCK} {SLOT}", *reads]
+    catalogue = {page.entry for page in source.catalogue}
+    listed = [page for page in source.published if page.entry not in catalogue]
+    entries = [source.directory, *(page.entry for page in [*source.catalogue, *source.changes, *listed])]
+    reads = [f"read {name} {entry.first * BLOCK} {entry.length}" for entry in entries]
+    return [f"open {name}", *settled(name), f"sync {name}", f"read {name} 0 {SLOT}", f"read {name} {BLOCK} {SLOT}",
+            *reads]
 
 
 def committing(name, before):
@@ -83,39 +87,43 @@ def committing(name, before):
 def changing(name, before, after, bodies=(), piece=None):
     """A command that is accepted and writes bodies of these lengths: one write for each part, and then the commit."""
     old, new = disk_reader.source_of(before), disk_reader.source_of(after)
-    kept = {it.entry for pages in (old.catalogue, old.changes, old.published) for it in pages}
-    pages = [it.entry.length for it in [*new.catalogue, *new.changes] if it.entry not in kept]
+    shared = {page.entry for pages in (old.catalogue, old.changes, old.published) for page in pages}
+    pages = [page.entry.length for page in [*new.catalogue, *new.changes] if page.entry not in shared]
     blocks = Blocks(len(before), disk_reader.extents(old))
     # The body of a put comes in pieces; what a plan has beside it goes behind it.
     placed = [(blocks.place(length), length, piece) for length in bodies]
     placed += [(blocks.place(length), length, None) for length in [*pages, new.directory.length]]
-    return [call for at, length, size in placed for call in pieces("write", name, at, length, size)] + committing(name, before)
+    writes = [call for at, length, size in placed for call in pieces("write", name, at, length, size)]
+    return writes + committing(name, before)
 
 
 def records_of(disk):
+    """The records of a disk."""
     return [record for page in disk_reader.source_of(disk).catalogue for record in page.items]
 
 
 def verifying(name, disk):
     """Each body is read once, in pieces."""
-    return [call for it in records_of(disk) for call in pieces("read", name, it.first * BLOCK, it.length, LOOKED)]
+    return [call for record in records_of(disk)
+            for call in pieces("read", name, record.first * BLOCK, record.length, LOOKED)]
 
 
 def showing(name, disk, resource):
     """The body of a resource that is held is read once, in pieces."""
-    found = [it for it in records_of(disk) if it.name == resource]
-    return [call for it in found for call in pieces("read", name, it.first * BLOCK, it.length, SHOWN)]
+    found = [record for record in records_of(disk) if record.name == resource]
+    return [call for record in found for call in pieces("read", name, record.first * BLOCK, record.length, SHOWN)]
 
 
 def copying_bodies(name, disk, to, blocks, last=None):
-    """How the bodies of a source are copied to a new file of these blocks, up to this one: each piece is written when it was read."""
+    """How bodies are copied to a new file of these blocks, up to this one: each piece is written when it was read."""
     calls = [*making(to, len(blocks.used) * BLOCK), f"write {to} 0 {GATE}", *gate(to, BLOCK)]
-    held = records_of(disk)
-    places = [blocks.place(it.length) for it in held]
-    for it, place in zip(held, places):
-        read, written = pieces("read", name, it.first * BLOCK, it.length, LOOKED), pieces("write", to, place, it.length, LOOKED)
+    records = records_of(disk)
+    places = [blocks.place(record.length) for record in records]
+    for record, place in zip(records, places):
+        read = pieces("read", name, record.first * BLOCK, record.length, LOOKED)
+        written = pieces("write", to, place, record.length, LOOKED)
         calls += [call for pair in zip(read, written) for call in pair]
-        if it.name == last:
+        if record.name == last:
             break
     return calls
 
@@ -124,7 +132,7 @@ def copying(name, disk, to, copy):
     """How a source that is open is copied to a new file."""
     new, blocks = disk_reader.source_of(copy), Blocks(len(copy))
     calls = copying_bodies(name, disk, to, blocks)
-    pages = [it.entry.length for it in [*new.catalogue, *new.changes, *new.published]]
+    pages = [page.entry.length for page in [*new.catalogue, *new.changes, *new.published]]
     for length in [*pages, new.directory.length]:
         calls += pieces("write", to, blocks.place(length), length)
     return [*calls, f"write {to} {GATE} {BLOCK - GATE}", f"sync {to}", *gate(to, 0)]
@@ -133,10 +141,10 @@ def copying(name, disk, to, copy):
 def closes(calls):
     """How the files that these calls have open are closed, in any order."""
     open_now = []
-    for it in calls:
-        name, path = it.split(" ")[:2] if " " in it else (it, "")
-        if name in ("open", "make") and not it.endswith(" fails"):
+    for call in calls:
+        name, path = call.split(" ")[:2] if " " in call else (call, "")
+        if name in ("open", "make") and not call.endswith(" fails"):
             open_now.append(f"close {path}")
         elif name == "close":
-            open_now.remove(it)
+            open_now.remove(call)
     return sorted(open_now)

@@ -1,17 +1,18 @@
 """Looks at the calls of the system that the proved program makes of its files, and shortens or fails some of them.
 
-No clause speaks of these calls, so this is how they are tested. `make build` makes the program. It runs with a C library
-that notes each call on a file, of all files in one list (noted_calls.py), takes and gives only a few bytes at once where it
-is told to, and fails a chosen call. What is looked at:
-  - how a file is made, opened and copied is exactly the list that docs/FILE-DISK.md and docs/DISK.md give (call_rules.py): it
-    is locked, given its length, synced, its copies in memory are dropped, and its folder is synced, before it is written;
+No clause speaks of these calls, so this is how they are tested. `make build` makes the program. It runs with a C
+library that notes each call on a file, of all files in one list (noted_calls.py), takes and gives only a few bytes at
+once where it is told to, and fails a chosen call. What is looked at:
+  - how a file is made, opened and copied is exactly the list that docs/FILE-DISK.md and docs/DISK.md give
+    (call_rules.py): it is locked, given its length, synced, its copies in memory are dropped, and its folder is synced,
+    before it is written;
   - so are the calls of each command, in a script and over HTTP (calls_of_commands.py);
-  - each call that fails is answered, and behind it nothing more is asked of the files than to close them, or, behind a look
-    at bodies, what the next command asks; the root on the file is then the one before that command or after it;
+  - each call that fails is answered, and behind it nothing more is asked of the files than to close them, or, behind a
+    look at bodies, what the next command asks; the root on the file is then the one before that command or after it;
   - where the system takes a part of a write, or gives a part of a read, the rest follows; where it takes no more, as at
     the file-size limit, the command is refused;
-  - where a call of a copy fails, the new file is no source, or the whole one, and the old one stays; behind a damaged body
-    a copy makes no call but to close both;
+  - where a call of a copy fails, the new file is no source, or the whole one, and the old one stays; behind a damaged
+    body a copy makes no call but to close both;
   - a file that got the number of a closed standard stream is moved, and no message lands in it;
   - what is no regular file is refused.
 At the end the lists of wrong programs are made up (calls_wrong.py), each of which has to differ.
@@ -32,7 +33,8 @@ NEW = "copy.disk"
 FORMAT = ["format", DISK, "8192", "http://127.0.0.1:8080", "2"]
 COPY = ["copy", DISK, NEW, "65536"]
 COPY_ALL = ["copy", DISK, NEW, "1048576"]
-SCRIPT = b"at 951782400000\nput a 616263 text/plain\nput a - text/plain\npublish\ndelete a\nstatus\nshow /changelist.xml\n"
+SCRIPT = (b"at 951782400000\nput a 616263 text/plain\nput a - text/plain\npublish\ndelete a\nstatus\n"
+          b"show /changelist.xml\n")
 # What is copied: bodies in one piece and in two, published pages of their own, and changes.
 HELD = f"put a 616263 text/plain\nput b {'62' * 20_000} a/b\npublish\nput a - text/plain\nput c 63 a/b\n".encode()
 # What a source prints.
@@ -41,6 +43,7 @@ FAULTS = []
 
 
 def wrong(text):
+    """Prints and counts a fault."""
     FAULTS.append(text)
     print(text[:2_000])
 
@@ -50,11 +53,12 @@ def compare(what, found, wanted):
     if found == wanted:
         return
     at = next((i for i, (a, b) in enumerate(zip(found, wanted)) if a != b), min(len(found), len(wanted)))
-    told = [f"{list(it[max(at - 1, 0) : at + 4])!r:.600}" for it in (found, wanted)]
-    wrong(f"{what}: call {at + 1} of {len(wanted)}: found {told[0]}, wanted {told[1]}")
+    excerpts = [f"{list(calls[max(at - 1, 0) : at + 4])!r:.600}" for calls in (found, wanted)]
+    wrong(f"{what}: call {at + 1} of {len(wanted)}: found {excerpts[0]}, wanted {excerpts[1]}")
 
 
 def clear(room):
+    """Removes the files of earlier runs."""
     room.clear(DISK)
     room.clear(NEW)
 
@@ -67,14 +71,14 @@ def made(room):
 
 
 def failed(what, room, words, calls, after):
-    """Each of these calls fails in turn: the program says so, and behind it the files are closed, and then this is so."""
+    """Each of these calls fails in turn: the program says so, the files are closed behind it, and then this is so."""
     wanted = texts(calls)
     for at in numbered(calls):
         clear_new(room, words)
-        ran = room.run(words, FAILS=at)
-        compare(f"{what}, call {at} fails", list(ran[:3]), [1, b"", b"rs_source: Device\n"])
+        outcome = room.run(words, FAILS=at)
+        compare(f"{what}, call {at} fails", list(outcome[:3]), [1, b"", b"rs_source: Device\n"])
         before = [*wanted[: at - 1], f"{wanted[at - 1]} fails"]
-        found = texts(ran.calls)
+        found = texts(outcome.calls)
         compare(f"{what}, call {at} fails", [*found[:at], *sorted(found[at:])], [*before, *call_rules.closes(before)])
         after(at)
 
@@ -89,13 +93,14 @@ def check_making(room):
     for folder, path in [(".", DISK), ("inner", f"inner/{DISK}")]:
         clear(room)
         (room.folder / folder).mkdir(exist_ok=True)
-        ran = room.run(["format", path, *FORMAT[2:]])
+        outcome = room.run(["format", path, *FORMAT[2:]])
         wanted = call_rules.formatting(path, room.bytes(path), folder)
-        compare(f"format in {folder}", texts(ran.calls), [*wanted, f"close {path}", "answer"])
+        compare(f"format in {folder}", texts(outcome.calls), [*wanted, f"close {path}", "answer"])
     clear(room)
     calls = room.run(FORMAT).calls
     stays = "format, call {} fails: whether a file that was made stays"
-    failed("format", room, FORMAT, calls, lambda at: compare(stays.format(at), [(room.folder / DISK).exists()], [at > 1]))
+    failed("format", room, FORMAT, calls,
+           lambda at: compare(stays.format(at), [(room.folder / DISK).exists()], [at > 1]))
     blind("making", calls_wrong.OF_MAKING, texts(calls))
 
 
@@ -104,14 +109,15 @@ def check_commands(room):
     scripted = calls_of_commands.look_at_script(room, compare)
     calls_of_commands.look_at_requests(room, compare)
     blind("commands", calls_wrong.OF_COMMANDS, scripted.wanted())
-    number = next(at for at, it in enumerate(scripted.parts[0].calls) if it.startswith("advise"))
+    number = next(at for at, call in enumerate(scripted.parts[0].calls) if call.startswith("advise"))
     blind("advice", calls_wrong.OF_FAILING_ADVICE, scripted.wanted_behind(number))
     blind("failing", calls_wrong.OF_FAILING, scripted.wanted_behind(number + 9))
 
 
 def blind(what, programs, right):
-    for it in calls_wrong.unnoticed(programs, right):
-        wrong(f"{what}: {it} is not noticed, and this test is blind")
+    """Reports the wrong programs that are not noticed."""
+    for name in calls_wrong.unnoticed(programs, right):
+        wrong(f"{what}: {name} is not noticed, and this test is blind")
 
 
 def check_parts(room):
@@ -126,7 +132,7 @@ def check_parts(room):
             wrong(f"{at_once} bytes at once: status {parts.status}, {parts.output!r}")
     # The directory of the first put is the last thing that it writes, from byte 2560 on.
     room.put(new)
-    limited = room.run(RUN, b"put a - text/plain\nstatus\n", most=2610)
+    limited = room.run(RUN, b"put a - text/plain\nstatus\n", limit=2610)
     if limited.output != b"refused Device\nrefused Closed\n":
         wrong(f"at the file-size limit: {limited.output!r}")
     again = room.run(RUN, b"status\n").output
@@ -139,10 +145,11 @@ def check_copy(room):
     clear(room)
     room.run(["format", DISK, "65536", *FORMAT[3:]])
     room.run(RUN, HELD)
-    old, told = room.bytes(DISK), room.run(RUN, TELL).output
+    old, output = room.bytes(DISK), room.run(RUN, TELL).output
     whole = room.run(COPY)
     copy = room.bytes(NEW)
-    wanted = [*call_rules.opening(DISK, old), *call_rules.copying(DISK, old, NEW, copy), f"close {NEW}", "answer", f"close {DISK}"]
+    wanted = [*call_rules.opening(DISK, old), *call_rules.copying(DISK, old, NEW, copy), f"close {NEW}", "answer",
+              f"close {DISK}"]
     compare("copy", texts(whole.calls), wanted)
     for at_once in (7, 500):
         room.clear(NEW)
@@ -152,7 +159,7 @@ def check_copy(room):
 
     def look(at):
         opened = room.run(["run", NEW], TELL) if room.bytes(NEW) else None
-        if opened and (opened.status, opened.output) != (0, told) and opened.error != b"rs_source: NotASource\n":
+        if opened and (opened.status, opened.output) != (0, output) and opened.error != b"rs_source: NotASource\n":
             wrong(f"copy, call {at} fails: the new file: {opened.status}, {opened.output[:200]!r}, {opened.error}")
         compare(f"copy, call {at} fails: the old file", [room.bytes(DISK)], [old])
 
@@ -164,17 +171,20 @@ def check_damaged_copies(room):
     """A copy ends behind the first body that is damaged: no other is read or written, and the new file is no source."""
     disk = calls_of_commands.damaged(room)
     for name, at in calls_of_commands.DAMAGED.items():
-        record = next(it for it in call_rules.records_of(disk) if it.name == name.encode())
+        record = next(record for record in call_rules.records_of(disk) if record.name == name.encode())
         damage = record.first * BLOCK + at
         room.put(disk)
         room.clear(NEW)
-        ran = room.run(COPY_ALL)
-        compare(f"copy, {name} damaged", list(ran[:3]), [1, b"", b"rs_source: Damaged\n"])
+        outcome = room.run(COPY_ALL)
+        compare(f"copy, {name} damaged", list(outcome[:3]), [1, b"", b"rs_source: Damaged\n"])
         size = int(COPY_ALL[-1])
-        calls = [*call_rules.opening(DISK, disk), *call_rules.copying_bodies(DISK, disk, NEW, call_rules.Blocks(size), name.encode())]
-        found = texts(ran.calls)
-        compare(f"copy, {name} damaged", [*found[: len(calls)], *sorted(found[len(calls) :])], [*calls, *call_rules.closes(calls)])
-        compare(f"copy, {name} damaged: the new file", [room.run(["run", NEW], TELL).error], [b"rs_source: NotASource\n"])
+        calls = [*call_rules.opening(DISK, disk),
+                 *call_rules.copying_bodies(DISK, disk, NEW, call_rules.Blocks(size), name.encode())]
+        found = texts(outcome.calls)
+        compare(f"copy, {name} damaged", [*found[: len(calls)], *sorted(found[len(calls) :])],
+                [*calls, *call_rules.closes(calls)])
+        compare(f"copy, {name} damaged: the new file", [room.run(["run", NEW], TELL).error],
+                [b"rs_source: NotASource\n"])
         # The next one to be damaged is another.
         disk = disk[:damage] + bytes([disk[damage] ^ 1]) + disk[damage + 1 :]
 
@@ -184,8 +194,9 @@ def check_streams(room):
     for closed in [(0,), (1,), (2,), (0, 1, 2)]:
         clear(room)
         for words in (FORMAT, RUN):
-            used = [it for it in room.run(words, closed=closed).calls if it.name in ("lock", "read", "write", "sync", "length") and it.path == DISK]
-            if not used or any(it.fd <= 2 for it in used):
+            used = [call for call in room.run(words, closed=closed).calls
+                    if call.name in ("lock", "read", "write", "sync", "length") and call.path == DISK]
+            if not used or any(call.fd <= 2 for call in used):
                 wrong(f"{words[0]} with {closed} closed: {used[:3]}")
     for closed in [(1,), (2,)]:
         new = made(room)
@@ -196,15 +207,16 @@ def check_streams(room):
 
 def check_kinds(room):
     """What is no regular file is closed before it is locked."""
-    ran = room.run(["run", "/dev/null"], ALSO="/dev/null")
-    compare("run /dev/null", list(ran[:3]), [1, b"", b"rs_source: Device\n"])
-    compare("run /dev/null", texts(ran.calls), ["open /dev/null", "measure /dev/null", "close /dev/null"])
+    outcome = room.run(["run", "/dev/null"], ALSO="/dev/null")
+    compare("run /dev/null", list(outcome[:3]), [1, b"", b"rs_source: Device\n"])
+    compare("run /dev/null", texts(outcome.calls), ["open /dev/null", "measure /dev/null", "close /dev/null"])
 
 
 CHECKS = (check_making, check_commands, check_parts, check_copy, check_streams, check_kinds)
 
 
 def main():
+    """Looks at all calls, and gives the exit status."""
     program = os.path.abspath(sys.argv[1] if len(sys.argv) > 1 else PROGRAM)
     with tempfile.TemporaryDirectory() as folder:
         room = Room(program, folder)

@@ -1,9 +1,9 @@
 """The calls that each command makes of its file, from a script and over HTTP, held against the rules of call_rules.py.
 
-The lists are compared whole: a call that is left out, that is made once more, that comes earlier, or that has another place or
-length is a difference. Then each call fails in turn, of short scripts on a new disk, on one whose pages the commands cut, and on
-one with damaged bodies. Behind one that fails within a command nothing more is asked of the file but to close it; behind one that
-fails as a body is looked at the next command makes its calls as ever.
+The lists are compared whole: a call that is left out, that is made once more, that comes earlier, or that has another
+place or length is a difference. Then each call fails in turn, of short scripts on a new disk, on one whose pages the
+commands cut, and on one with damaged bodies. Behind one that fails within a command nothing more is asked of the file
+but to close it; behind one that fails as a body is looked at the next command makes its calls as ever.
 """
 import collections
 import pathlib
@@ -21,15 +21,18 @@ AT, RUN = "at 951782400000", ["run", DISK]
 FAILING = ("make", "open", "measure", "lock", "length", "sync", "advise", "read", "write")
 # A line, and the lengths of the bodies that it writes, in their order, or None where it changes nothing.
 Line = collections.namedtuple("Line", "text bodies")
-# Some calls that belong together: how many lines were read before, the calls on files, and whether they only look at bodies.
+# Some calls that belong together: how many lines were read before, the calls on files, and whether they only look at
+# bodies.
 Part = collections.namedtuple("Part", "lines calls looks")
 
 
 def put(name, length):
+    """The line of a put of this many bytes."""
     return f"put {name} {'61' * length or '-'} text/plain"
 
 
 def group(*items):
+    """The lines of a group."""
     return "\n".join([f"group {len(items)}", *items])
 
 
@@ -60,7 +63,8 @@ LONG = [
     Line("publish", []),
     Line("verify", None),
 ]
-# What the second script begins with: as many resources and changes as a page has, so that each command writes two pages of one list.
+# What the second script begins with: as many resources and changes as a page has, so that each command writes two pages
+# of one list.
 FULL_PAGE = 64
 CUTTING = [
     Line(AT, None),
@@ -72,9 +76,10 @@ CUTTING = [
     Line(group(*(put(f"name{at:05d}", at) for at in range(2, 64, 4))), list(range(2, 64, 4))),
     Line("publish", []),
 ]
-# What the third begins with, and the resources whose bodies are then damaged, each at this byte: the first, one of some pieces in
-# its last, and the last.
-WHOLE = [Line(AT, None), Line(put("a", 3), [3]), Line(put("b", 20_000), [20_000]), Line(put("c", 600_000), [600_000]), Line(put("d", 5), [5])]
+# What the third begins with, and the resources whose bodies are then damaged, each at this byte: the first, one of some
+# pieces in its last, and the last.
+WHOLE = [Line(AT, None), Line(put("a", 3), [3]), Line(put("b", 20_000), [20_000]), Line(put("c", 600_000), [600_000]),
+         Line(put("d", 5), [5])]
 DAMAGED = {"a": 0, "c": 599_999, "d": 4}
 LOOKING = [
     Line(AT, None),
@@ -89,6 +94,7 @@ HOST = "HTTP/1.1\r\nHost: a\r\n"
 
 
 def request(method, path, body=b""):
+    """The bytes of a request."""
     length = f"Content-Length: {len(body)}\r\n" if method != "GET" else ""
     return f"{method} {path} {HOST}Content-Type: text/plain\r\n{length}\r\n".encode() + body
 
@@ -116,7 +122,8 @@ def made(room):
 
 def calls_by_rule(name, line, before, after, piece=None):
     """The calls that a line has to make, where the disk is so before and behind it, and whether it only looks."""
-    word, _, rest = line.text.partition(" ") if isinstance(line.text, str) else line.text.decode("latin-1").partition(" ")
+    text = line.text if isinstance(line.text, str) else line.text.decode("latin-1")
+    word, _, rest = text.partition(" ")
     path = rest.split(" ")[0]
     if line.bodies is not None:
         return call_rules.changing(name, before, after, line.bodies, piece if word == "PUT" else None), False
@@ -128,7 +135,7 @@ def calls_by_rule(name, line, before, after, piece=None):
 
 
 class Scripted:
-    """A script on a disk, or on a new one: the disk behind each line, the part of each line, and the list of all calls."""
+    """A script on a disk or a new one: the disk behind each line, the part of each line, and the list of all calls."""
 
     def __init__(self, room, lines, disk=None):
         self.room, self.lines, self.disks, self.answers, parts = room, lines, [disk or made(room)], [], []
@@ -138,19 +145,20 @@ class Scripted:
             self.disks.append(room.bytes(DISK))
             parts.append(Part(line.text.count("\n") + 1, *calls_by_rule(DISK, line, *self.disks[-2:])))
         self.parts = [Part(0, call_rules.opening(DISK, self.disks[0]), False), *parts]
-        self.script = "".join(f"{it.text}\n" for it in lines).encode()
+        self.script = "".join(f"{line.text}\n" for line in lines).encode()
 
-    def run(self, **asked):
+    def run(self, **settings):
+        """A run of the script on the first disk."""
         self.room.put(self.disks[0], DISK)
-        return self.room.run(RUN, self.script, **asked)
+        return self.room.run(RUN, self.script, **settings)
 
-    def told(self, part, calls):
+    def framed(self, part, calls):
         """A part with the line and the answer around its calls."""
         return [*["line"] * part.lines, *calls, *["answer"] * bool(part.lines)]
 
     def wanted(self):
         """The list of all calls."""
-        every = [call for part in self.parts for call in self.told(part, part.calls)]
+        every = [call for part in self.parts for call in self.framed(part, part.calls)]
         return [*every, "line", f"close {DISK}"]
 
     def place(self, number):
@@ -164,10 +172,11 @@ class Scripted:
     def wanted_behind(self, number):
         """The list of all calls where the one of this number fails."""
         at, inner = self.place(number)
-        before = [call for part in self.parts[:at] for call in self.told(part, part.calls)]
+        before = [call for part in self.parts[:at] for call in self.framed(part, part.calls)]
         part = self.parts[at]
-        failed = self.told(part, [*part.calls[:inner], f"{part.calls[inner]} fails"])
-        later = [call for it in self.parts[at + 1 :] for call in self.told(it, it.calls if part.looks else [])] if at else []
+        failed = self.framed(part, [*part.calls[:inner], f"{part.calls[inner]} fails"])
+        others = self.parts[at + 1 :] if at else []
+        later = [call for other in others for call in self.framed(other, other.calls if part.looks else [])]
         every = [*before, *failed, *later, *["line"] * bool(at)]
         return [*every, *call_rules.closes(every)]
 
@@ -176,7 +185,9 @@ class Scripted:
         at, _ = self.place(number)
         if not at:
             return 1, b"", b"rs_source: Device\n"
-        later = self.answers[at:] if self.parts[at].looks else [closed(*it) for it in zip(self.lines[at:], self.answers[at:])]
+        later = self.answers[at:]
+        if not self.parts[at].looks:
+            later = [closed(*pair) for pair in zip(self.lines[at:], later)]
         return 0, b"".join([*self.answers[: at - 1], b"refused Device\n", *later]), b""
 
 
@@ -188,7 +199,7 @@ def closed(line, answer):
 
 def numbered(calls):
     """The numbers in the list of those calls that are made to fail."""
-    return [at for at, it in enumerate(calls, 1) if it.name in FAILING]
+    return [at for at, call in enumerate(calls, 1) if call.name in FAILING]
 
 
 def full_page():
@@ -200,18 +211,22 @@ def full_page():
 def damaged(room):
     """A disk with damaged bodies."""
     disk = bytearray(Scripted(room, WHOLE).disks[-1])
-    for it in call_rules.records_of(bytes(disk)):
-        if (name := it.name.decode()) in DAMAGED:
-            disk[it.first * BLOCK + DAMAGED[name]] ^= 1
+    for record in call_rules.records_of(bytes(disk)):
+        if (name := record.name.decode()) in DAMAGED:
+            disk[record.first * BLOCK + DAMAGED[name]] ^= 1
     return bytes(disk)
 
 
 def look_at_script(room, compare):
-    """The whole list of a long script, and those of short ones where each call fails in turn. Gives the first of these."""
+    """The whole list of a long script, and those of short ones where each call fails in turn.
+
+    Gives the first of these.
+    """
     look_at_whole("a long script", Scripted(room, LONG), compare)
     short = Scripted(room, SHORT)
     look_at_failing("a script", short, compare)
-    for what, lines, disk in [("a script that cuts pages", CUTTING, full_page()), ("a script on damaged bodies", LOOKING, damaged(room))]:
+    for what, lines, disk in [("a script that cuts pages", CUTTING, full_page()),
+                              ("a script on damaged bodies", LOOKING, damaged(room))]:
         scripted = Scripted(room, lines, disk)
         look_at_whole(what, scripted, compare)
         look_at_failing(what, scripted, compare)
@@ -220,41 +235,42 @@ def look_at_script(room, compare):
 
 def look_at_whole(what, scripted, compare):
     """The list of all calls of a script, its answers, and its disk."""
-    ran = scripted.run()
-    compare(what, texts(ran.calls), scripted.wanted())
-    compare(f"{what}: its answers", [ran.output], [b"".join(scripted.answers)])
+    outcome = scripted.run()
+    compare(what, texts(outcome.calls), scripted.wanted())
+    compare(f"{what}: its answers", [outcome.output], [b"".join(scripted.answers)])
     compare(f"{what}: its disk", [scripted.room.bytes(DISK)], [scripted.disks[-1]])
 
 
 def look_at_failing(name, scripted, compare):
     """Each call of a script fails in turn."""
     calls = scripted.run().calls
-    wanted = sum(len(it.calls) for it in scripted.parts)
+    wanted = sum(len(part.calls) for part in scripted.parts)
     for number, at in enumerate(numbered(calls)[:wanted]):
-        ran = scripted.run(FAILS=at)
+        outcome = scripted.run(FAILS=at)
         what = f"{name} whose call {at} fails"
-        compare(what, texts(ran.calls), scripted.wanted_behind(number))
-        compare(f"{what}: what is written", [ran[:3]], [scripted.output_behind(number)])
+        compare(what, texts(outcome.calls), scripted.wanted_behind(number))
+        compare(f"{what}: what is written", [outcome[:3]], [scripted.output_behind(number)])
         part, _ = scripted.place(number)
-        roots = {disk_reader.root(it).directory for it in scripted.disks[max(part - 1, 0) : part + 1]}
+        roots = {disk_reader.root(disk).directory for disk in scripted.disks[max(part - 1, 0) : part + 1]}
         if scripted.parts[part].looks:
             roots = {disk_reader.root(scripted.disks[-1]).directory}
-        compare(f"{what}: the root is an old or a new one", [disk_reader.root(scripted.room.bytes(DISK)).directory in roots], [True])
+        found = disk_reader.root(scripted.room.bytes(DISK)).directory
+        compare(f"{what}: the root is an old or a new one", [found in roots], [True])
 
 
-class Asked:
+class Client:
     """Requests to a server, one after another: the calls of each."""
 
     def __init__(self, room):
         self.room, self.name = room, str(pathlib.Path(room.folder, DISK))
 
-    def ask(self, requests, **asked):
-        """For each request what came back, its calls, and the disk behind it; at last the calls when all were served."""
-        found, environment = [], self.room.environment(ALSO=self.name, **asked)
+    def ask(self, requests, **settings):
+        """For each request the response, its calls, and the disk behind it; at last the calls when all were served."""
+        found, environment = [], self.room.environment(ALSO=self.name, **settings)
         with served(self.room.program, self.name, len(requests) + 1, environment) as port:
             before = texts(self.room.noted())
-            for it in requests:
-                response, _ = exchanged(port, [it.text])
+            for request in requests:
+                response, _ = exchanged(port, [request.text])
                 calls = texts(self.room.noted())
                 found.append((response, calls[len(before) :], self.room.bytes(DISK)))
                 before = calls
@@ -263,31 +279,45 @@ class Asked:
 
 
 def look_at_requests(room, compare):
-    """The calls of each request, and those of a PUT in pieces of which each call fails in turn."""
-    asked, disk = Asked(room), made(room)
-    for it, (response, calls, after) in zip(REQUESTS, asked.ask(REQUESTS)[0], strict=True):
-        wanted, _ = calls_by_rule(asked.name, it, disk, after, call_rules.CAME)
-        compare(f"{it.text[:30]!r}, answered {response[:20]!r}", calls, wanted)
+    """The calls of each request, and those where each call of each request fails in turn."""
+    client, opened = Client(room), made(room)
+    disk, found = opened, client.ask(REQUESTS)[0]
+    for line, (response, calls, after) in zip(REQUESTS, found, strict=True):
+        wanted, _ = calls_by_rule(client.name, line, disk, after, call_rules.CAME)
+        compare(f"{line.text[:30]!r}, answered {response[:20]!r}", calls, wanted)
         disk = after
-    look_at_damaged_requests(asked, damaged(room), compare)
-    first, opened = REQUESTS[:1], made(room)
-    (_, calls, _), = asked.ask(first)[0]
-    begun = call_rules.opening(asked.name, opened)
-    for number, call in enumerate(calls):
-        room.put(opened, DISK)
+    look_at_damaged_requests(client, damaged(room), compare)
+    for at in range(len(REQUESTS)):
+        look_at_failing_request(client, opened, at, [calls for _, calls, _ in found[: at + 1]], compare)
+
+
+def look_at_failing_request(client, opened, at, made_before, compare):
+    """Each call of a request fails in turn, which made these calls, behind those of the requests before it.
+
+    Behind one that changes nothing the next request is answered as ever, behind others the source is closed.
+    """
+    what, looks = REQUESTS[at].text[:20], REQUESTS[at].bodies is None
+    before = [*call_rules.opening(client.name, opened), "answer"]
+    before += [call for calls in made_before[:-1] for call in calls]
+    for number, call in enumerate(made_before[-1]):
+        client.room.put(opened, DISK)
         # The line that tells the port is a call too.
-        (put_of, get), every = asked.ask([*first, REQUESTS[3]], FAILS=len(begun) + 2 + number)
-        wanted = [*begun, "answer", *calls[:number], f"{call} fails", f"close {asked.name}"]
-        compare(f"a PUT whose call {number + 1} fails", every, wanted)
-        words = [it[0].rpartition(b"\r\n\r\n")[2] for it in (put_of, get)]
-        compare(f"a PUT whose call {number + 1} fails: the responses", words, [b"Device\n", b"Closed\n"])
+        found, every = client.ask([*REQUESTS[: at + 1], REQUESTS[at]], FAILS=len(before) + 1 + number)
+        again = made_before[-1] if looks else []
+        wanted = [*before, *made_before[-1][:number], f"{call} fails", *again, f"close {client.name}"]
+        failing = f"{what!r} whose call {number + 1} fails"
+        compare(failing, every, wanted)
+        words = [entry[0].rpartition(b"\r\n\r\n")[2] for entry in found[at:]]
+        compare(f"{failing}: the first response", words[:1], [b"Device\n"])
+        compare(f"{failing}: the next one is Closed", [words[1] == b"Closed\n"], [not looks])
 
 
-def look_at_damaged_requests(asked, disk, compare):
+def look_at_damaged_requests(client, disk, compare):
     """A damaged body is read once for a request too, and no byte of it is sent."""
-    asked.room.put(disk, DISK)
+    client.room.put(disk, DISK)
     requests = [Line(request("GET", f"/resource/{name}"), None) for name in DAMAGED]
-    for it, (response, calls, after) in zip(requests, asked.ask(requests)[0], strict=True):
-        wanted, _ = calls_by_rule(asked.name, it, disk, after)
-        compare(f"{it.text[:20]!r}, which is damaged", calls, wanted)
-        compare(f"{it.text[:20]!r}, which is damaged: its response", [response.rpartition(b"\r\n\r\n")[2]], [b"Damaged\n"])
+    for line, (response, calls, after) in zip(requests, client.ask(requests)[0], strict=True):
+        wanted, _ = calls_by_rule(client.name, line, disk, after)
+        what, body = f"{line.text[:20]!r}, which is damaged", response.rpartition(b"\r\n\r\n")[2]
+        compare(what, calls, wanted)
+        compare(f"{what}: its response", [body], [b"Damaged\n"])

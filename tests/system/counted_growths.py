@@ -1,4 +1,4 @@
-"""A C library that counts each malloc and each realloc, and tells at the end how many there were, the largest, and the bytes of all."""
+"""A C library that counts each malloc and realloc, and tells how many there were, the largest, and all bytes."""
 
 COUNTING = r"""
 #include <stddef.h>

@@ -34,19 +34,21 @@ class Model:
     """What the source holds and publishes, as plainly as can be."""
 
     def __init__(self):
-        self.held, self.changes, self.recorded, self.listed = {}, 0, [], {}
+        self.resources, self.changes, self.recorded, self.listed = {}, 0, [], {}
 
     def apply(self, words):
+        """Does the command of these words."""
         if words[0] == "put":
             body = b"" if words[2] == "-" else bytes.fromhex(words[2])
-            self.held[words[1]] = facts(body, words[3])
+            self.resources[words[1]] = facts(body, words[3])
         elif words[0] == "delete":
-            self.held.pop(words[1], None)
+            self.resources.pop(words[1], None)
         elif words[0] == "publish":
-            self.listed = dict(self.held)
+            self.listed = dict(self.resources)
 
 
 def facts(body, kind):
+    """The digests, the length and the type of a resource."""
     digest = f"md5:{hashlib.md5(body).hexdigest()} sha-256:{hashlib.sha256(body).hexdigest()}"
     return (digest, str(len(body)), kind)
 
@@ -86,11 +88,13 @@ class Answers:
         self.output, self.at = output, 0
 
     def line(self):
+        """The next line of the output."""
         end = self.output.index(b"\n", self.at)
         text, self.at = self.output[self.at:end], end + 1
         return text.decode()
 
     def document(self):
+        """The next document of the output, or nothing where it is refused."""
         first = self.line()
         if not first.startswith("bytes "):
             return None
@@ -100,6 +104,7 @@ class Answers:
 
 
 def name_of(url):
+    """The name of the resource of an element."""
     loc = url.find(SITEMAP + "loc").text
     prefix = BASE + "/resource/"
     if not loc.startswith(prefix):
@@ -108,11 +113,13 @@ def name_of(url):
 
 
 def facts_of(url):
+    """The facts of the resource of an element."""
     attributes = url.find(RS + "md").attrib
     return (attributes["hash"], attributes["length"], attributes["type"])
 
 
 def part_paths(document):
+    """The paths of the parts that an index points to."""
     root = ElementTree.fromstring(document)
     return [s.find(SITEMAP + "loc").text[len(BASE):] for s in root.findall(SITEMAP + "sitemap")]
 
@@ -153,16 +160,16 @@ class ClosedParts:
     """The closed parts of the Change List that were seen."""
 
     def __init__(self):
-        self.seen, self.dropped = {}, set()
+        self.closed_texts, self.dropped = {}, set()
 
     def look(self, path, text):
         """Looks at what is answered at a part's path: a part, or none."""
         if text is None:
-            self.dropped |= {path} & self.seen.keys()
-        elif path in self.dropped or self.seen.get(path, text) != text:
+            self.dropped |= {path} & self.closed_texts.keys()
+        elif path in self.dropped or self.closed_texts.get(path, text) != text:
             sys.exit(f"{path} was dropped or closed, and is another part now")
         elif ElementTree.fromstring(text).find(RS + "md").get("until"):
-            self.seen[path] = text
+            self.closed_texts[path] = text
 
 
 def lint(documents):
@@ -206,6 +213,7 @@ def visit(commands):
 
 
 def main():
+    """Reads all documents of a run by tools that are not ours."""
     commands = list(script(20261122, 400))
     lines, plan = visit(commands)
     answers, model, documents, all_documents, visits = Answers(run(lines)), Model(), {}, [], 0
@@ -226,7 +234,7 @@ def main():
                 all_documents.append(text)
         else:
             listed, mine = mirror(documents)
-            if listed != model.listed or mine != model.held:
+            if listed != model.listed or mine != model.resources:
                 sys.exit(f"visit {visits}: the mirror differs from what is held")
             visits, documents = visits + 1, {}
     if not closed.dropped:
@@ -234,7 +242,7 @@ def main():
     linted = lint(all_documents)
     print(f"documents: {len(commands)} commands, {visits} visits, {len(all_documents)} documents read by xml.etree"
           f"{' and xmllint' if linted else ''}; each mirror is what is held; "
-          f"{len(closed.seen)} closed parts, {len(closed.dropped)} of them dropped")
+          f"{len(closed.closed_texts)} closed parts, {len(closed.dropped)} of them dropped")
     if not linted:
         print("documents: xmllint is not installed here, so it did not look at them")
 

@@ -1,7 +1,8 @@
-"""Commands at each thousand of resources and at counts that are drawn: each kind of them, and groups of each number of items.
+"""Commands at each thousand of resources and at counts that are drawn: each kind of them, and groups of each number of
+items.
 
-A group has puts of new names, puts of a name once more, and deletions, in a drawn order; names are of drawn lengths. What is to be answered
-is counted beside, and a publication is made twice.
+A group has puts of new names, puts of a name once more, and deletions, in a drawn order; names are of drawn lengths.
+What is to be answered is counted beside, and a publication is made twice.
 """
 import math
 import pathlib
@@ -19,14 +20,14 @@ SECONDS = 300
 Compare = Callable[[str, object, object], None]
 
 
-def between(draw: random.Random, most: int) -> int:
-    """A number of 0 to `most`: any one, or one of any number of digits."""
-    return draw.randint(0, most) if draw.random() < 0.5 else int(math.exp(draw.uniform(0, math.log(most + 1)))) - 1
+def between(draw: random.Random, limit: int) -> int:
+    """A number of 0 to `limit`: any one, or one of any number of digits."""
+    return draw.randint(0, limit) if draw.random() < 0.5 else int(math.exp(draw.uniform(0, math.log(limit + 1)))) - 1
 
 
 @dataclass
 class Count:
-    """How many resources are held, how many changes were made and dropped, and the publication; the lines and their answers so far."""
+    """How many resources are held, changes made and dropped, and the publication; the lines and answers so far."""
 
     resources: int
     made: int
@@ -51,20 +52,25 @@ class Count:
         self.published = self.made
 
     def status(self) -> None:
+        """Asks for the counts."""
         last = moment_text(self.moment - 1)
         self.lines.append("status")
-        self.answers.append(f"resources {self.resources} changes {self.made - self.dropped} publication {self.publication} last {last}\n")
+        self.answers.append(f"resources {self.resources} changes {self.made - self.dropped} "
+                            f"publication {self.publication} last {last}\n")
 
 
-def items(draw: random.Random, count: int, held: list[str]) -> tuple[list[str], int]:
-    """So many lines of a group, in a drawn order, and how many resources more are held behind it. `held` are names to delete."""
+def items(draw: random.Random, count: int, resources: list[str]) -> tuple[list[str], int]:
+    """So many lines of a group, in a drawn order, and how many resources more are held behind it.
+
+    `resources` are names to delete.
+    """
     lines: list[str] = []
     new: list[str] = []
     gone = 0
     for at in range(count):
         kind = draw.random()
-        if kind < 0.25 and held:
-            lines.append(f"delete {held.pop()}")
+        if kind < 0.25 and resources:
+            lines.append(f"delete {resources.pop()}")
             gone += 1
             continue
         if kind > 0.5 or not new:
@@ -75,9 +81,10 @@ def items(draw: random.Random, count: int, held: list[str]) -> tuple[list[str], 
     return lines, len(new) - gone
 
 
-def script(draw: random.Random, count: Count, held: int, size: int) -> None:
+def script(draw: random.Random, count: Count, resources: int, size: int) -> None:
     """The lines of a run: each kind of command, and a group of so many items."""
-    names = [paged_disk.name(it).decode() for it in draw.sample(range(held), min(held, MOST_IN_GROUP + 1))]
+    numbers = draw.sample(range(resources), min(resources, MOST_IN_GROUP + 1))
+    names = [paged_disk.name(number).decode() for number in numbers]
     count.command("put made - text/plain", "created", 1, 1)
     count.command(f"delete {names.pop()}", "deleted", 1, -1)
     lines, more = items(draw, size, names)
@@ -94,15 +101,15 @@ def look(program: str, file: pathlib.Path, draw: random.Random, compare: Compare
     drawn = (between(draw, MOST - MOST_IN_GROUP - 2) + 1 for _ in range(MOST_IN_GROUP))
     counts = sorted({*range(STEP, MOST, STEP), *drawn})
     sizes = draw.sample(range(1, MOST_IN_GROUP + 1), MOST_IN_GROUP)
-    for number, held in enumerate(counts):
+    for number, resources in enumerate(counts):
         size = sizes[number % MOST_IN_GROUP]
-        most = min(held, MOST - size - 2)
-        kept = most if number % 4 else draw.randint(0, most)
-        file.write_bytes(counted_disk.spelled(held, kept, MOST))
-        count = Count(held, kept, published=kept)
-        script(draw, count, held, size)
-        given = f"at {CLOCK}\n" + "".join(f"{it}\n" for it in count.lines)
-        ran = subprocess.run([program, "run", file], input=given.encode(), capture_output=True, timeout=SECONDS)
-        what = f"{held} resources, {kept} changes, a group of {size}"
-        compare(what, "".join(["ok\n", *count.answers]).encode(), ran.stdout + ran.stderr)
+        limit = min(resources, MOST - size - 2)
+        changes = limit if number % 4 else draw.randint(0, limit)
+        file.write_bytes(counted_disk.spelled(resources, changes, MOST))
+        count = Count(resources, changes, published=changes)
+        script(draw, count, resources, size)
+        text = f"at {CLOCK}\n" + "".join(f"{line}\n" for line in count.lines)
+        finished = subprocess.run([program, "run", file], input=text.encode(), capture_output=True, timeout=SECONDS)
+        what = f"{resources} resources, {changes} changes, a group of {size}"
+        compare(what, "".join(["ok\n", *count.answers]).encode(), finished.stdout + finished.stderr)
     return len(counts)

@@ -1,9 +1,12 @@
-"""What `large` does at sizes that are drawn anew each time, between nothing and each limit: nothing is refused for its size.
+"""What `large` does at sizes that are drawn anew each time, between nothing and each limit: nothing is refused for its
+size.
 
-  - Sources of each thousand of resources, and of counts that are drawn, are opened and commanded (drawn_commands.py). One is opened by the
-    calls of the rules. Each document is shown, also of the longest names; a drawn number of damaged bodies is named.
-  - Bodies of drawn lengths, and of the greatest, are put and shown, in a script and over HTTP, and verified; so are groups. The calls on the
-    file are those of call_rules.py, so no byte is written or read twice; a line asks for no more memory than command_memory.py allows.
+  - Sources of each thousand of resources, and of counts that are drawn, are opened and commanded (drawn_commands.py).
+    One is opened by the calls of the rules. Each document is shown, also of the longest names; a drawn number of
+    damaged bodies is named.
+  - Bodies of drawn lengths, and of the greatest, are put and shown, in a script and over HTTP, and verified; so are
+    groups. The calls on the file are those of call_rules.py, so no byte is written or read twice; a line asks for no
+    more memory than command_memory.py allows.
   - Sources of drawn numbers of bodies are copied, by the calls of the rules.
 """
 import pathlib
@@ -15,7 +18,7 @@ from tests.disks import counted_disk, paged_disk
 from tests.program import CLOCK, interposed
 from tests.reading.disk_formats import BLOCK
 from tests.system import call_rules, calls_of_commands, command_memory, drawn_commands
-from tests.system.calls_of_commands import DISK, RUN, Asked, Line, Scripted, group, put, request
+from tests.system.calls_of_commands import DISK, RUN, Client, Line, Scripted, group, put, request
 from tests.system.command_memory import Asking
 from tests.system.counted_growths import COUNTING
 from tests.system.drawn_commands import MOST, MOST_IN_GROUP, Compare, between
@@ -29,47 +32,49 @@ AT = f"at {CLOCK}\n".encode()
 
 def look_at_calls_of_opening(room: Room, draw: random.Random, compare: Compare) -> None:
     """A source of a drawn number of resources, and one of the most, are opened by the calls of the rules."""
-    for held in (between(draw, MOST - 1) + 1, MOST - 1):
-        disk = counted_disk.spelled(held, draw.randint(0, held), MOST)
+    for resources in (between(draw, MOST - 1) + 1, MOST - 1):
+        disk = counted_disk.spelled(resources, draw.randint(0, resources), MOST)
         room.put(disk, DISK)
         calls = [*call_rules.opening(DISK, disk), "line", f"close {DISK}"]
-        compare(f"the calls of an opening of {held}", calls, texts(room.run(RUN).calls))
+        compare(f"the calls of an opening of {resources}", calls, texts(room.run(RUN).calls))
 
 
-def paths(held: int, kept: int) -> Iterator[str]:
+def paths(resources: int, changes: int) -> Iterator[str]:
     """The documents of a source that was published once."""
-    for word, count in (("/resourcelist", held), ("/changelist", kept)):
+    for word, count in (("/resourcelist", resources), ("/changelist", changes)):
         yield f"{word}.xml"
         parts = range(-(-count // counted_disk.LIMIT) if count > counted_disk.LIMIT else 0)
-        yield from (f"{word}/1/{it}.xml" if word == "/resourcelist" else f"{word}/{it}.xml" for it in parts)
+        yield from (f"{word}/1/{number}.xml" if word == "/resourcelist" else f"{word}/{number}.xml" for number in parts)
 
 
 def look_at_documents(program: str, file: pathlib.Path, draw: random.Random, compare: Compare) -> None:
     """Each document of a source of drawn numbers is shown, and one of the longest names."""
-    for held, longer in ((between(draw, 20_000) + 1, draw.randint(0, LONGEST_NAME - 9)), (5_000, LONGEST_NAME - 9)):
-        kept = draw.randint(0, held)
-        file.write_bytes(counted_disk.spelled(held, kept, held, longer))
-        asked = [*paths(held, kept)]
-        script = "".join(f"show {it}\n" for it in asked).encode()
-        ran = subprocess.run([program, "run", file], input=script, capture_output=True, timeout=SECONDS)
-        left = ran.stdout
-        for it in asked:
-            first, _, rest = left.partition(b"\n")
-            compare(f"{held} resources, {kept} changes, names longer by {longer}: {it}", b"bytes ", first[:6])
-            left = rest[int(first[6:]) + 1 :] if first.startswith(b"bytes ") else rest
-        compare(f"{held} resources: behind the documents", b"", left)
+    few = between(draw, 20_000) + 1, draw.randint(0, LONGEST_NAME - 9)
+    for resources, longer in (few, (5_000, LONGEST_NAME - 9)):
+        changes = draw.randint(0, resources)
+        file.write_bytes(counted_disk.spelled(resources, changes, resources, longer))
+        documents = [*paths(resources, changes)]
+        script = "".join(f"show {path}\n" for path in documents).encode()
+        finished = subprocess.run([program, "run", file], input=script, capture_output=True, timeout=SECONDS)
+        remaining = finished.stdout
+        for path in documents:
+            first, _, rest = remaining.partition(b"\n")
+            compare(f"{resources} resources, {changes} changes, names longer by {longer}: {path}", b"bytes ", first[:6])
+            remaining = rest[int(first[6:]) + 1 :] if first.startswith(b"bytes ") else rest
+        compare(f"{resources} resources: behind the documents", b"", remaining)
 
 
 def look_at_damage(room: Room, draw: random.Random, compare: Compare) -> None:
     """A drawn number of the bodies is damaged, and `verify` names each."""
-    held = draw.randint(1, 3_000)
-    disk = bytearray(paged_disk.spelled(held, 0))
-    names = sorted(draw.sample(range(held), draw.randint(held // 2, held)))
-    for it in names:
-        disk[(2 + it) * BLOCK] ^= 1
+    resources = draw.randint(1, 3_000)
+    disk = bytearray(paged_disk.spelled(resources, 0))
+    names = sorted(draw.sample(range(resources), draw.randint(resources // 2, resources)))
+    for number in names:
+        disk[(2 + number) * BLOCK] ^= 1
     room.put(disk, DISK)
-    wanted = b"".join(b"damaged %s\n" % paged_disk.name(it) for it in names) + b"verified %d\n" % (held - len(names))
-    compare(f"{len(names)} damaged bodies of {held}", wanted, room.run(RUN, b"verify\n").output)
+    wanted = b"".join(b"damaged %s\n" % paged_disk.name(number) for number in names)
+    wanted += b"verified %d\n" % (resources - len(names))
+    compare(f"{len(names)} damaged bodies of {resources}", wanted, room.run(RUN, b"verify\n").output)
 
 
 def bodies(draw: random.Random) -> list[int]:
@@ -97,13 +102,15 @@ def answer_of(line: str, lengths: list[int]) -> bytes:
 def look_at_memory(room: Room, line: str, shown: int, disk: bytes, compare: Compare) -> None:
     """A line, a put or one that shows so many bytes, asks for no more memory than it may."""
     environment = interposed(room.folder, "counting", COUNTING)
-    asked = []
+    amounts = []
     for script in (AT, AT + line.encode() + b"\n"):
         room.put(disk, DISK)
-        ran = subprocess.run([room.program, *RUN], cwd=room.folder, env=environment, input=script, capture_output=True, timeout=SECONDS)
-        asked.append(int(ran.stderr.split()[-1]))
-    most = command_memory.allowed(Asking(f"{line}\n".encode(), int(not shown), shown), disk)
-    compare(f"{line[:20]!r}: {asked[1] - asked[0]} bytes of memory are at most {most}", True, asked[1] - asked[0] <= most)
+        finished = subprocess.run([room.program, *RUN], cwd=room.folder, env=environment, input=script,
+                                  capture_output=True, timeout=SECONDS)
+        amounts.append(int(finished.stderr.split()[-1]))
+    limit = command_memory.allowed(Asking(f"{line}\n".encode(), int(not shown), shown), disk)
+    compare(f"{line[:20]!r}: {amounts[1] - amounts[0]} bytes of memory are at most {limit}", True,
+            amounts[1] - amounts[0] <= limit)
 
 
 def look_at_lines(room: Room, draw: random.Random, compare: Compare) -> list[int]:
@@ -111,7 +118,7 @@ def look_at_lines(room: Room, draw: random.Random, compare: Compare) -> list[int
     lengths = bodies(draw)
     pair = [draw.randint(1 << 20, 3 << 20), between(draw, 1 << 20)]
     disk = empty(room, sum(lengths) + sum(pair) + 1_000_000)
-    puts = [Line(put(f"r{at}", it), [it]) for at, it in enumerate(lengths)]
+    puts = [Line(put(f"r{at}", length), [length]) for at, length in enumerate(lengths)]
     shows = [Line(f"show /resource/r{at}", None) for at in range(len(lengths))]
     grouped = Line(group(put("g", pair[0]), put("h", pair[1])), pair)
     scripted = Scripted(room, [Line(f"at {CLOCK}", None), *puts, Line("verify", None), *shows, grouped], disk)
@@ -127,30 +134,31 @@ def look_at_lines(room: Room, draw: random.Random, compare: Compare) -> list[int
 def look_at_requests(room: Room, draw: random.Random, compare: Compare) -> list[int]:
     """Bodies of drawn lengths over HTTP. Gives the lengths."""
     lengths = bodies(draw)
-    disk, asked = empty(room, sum(lengths) + 1_000_000), Asked(room)
-    puts = [Line(request("PUT", f"/resource/r{at}", b"x" * it), [it]) for at, it in enumerate(lengths)]
+    disk, client = empty(room, sum(lengths) + 1_000_000), Client(room)
+    puts = [Line(request("PUT", f"/resource/r{at}", b"x" * length), [length]) for at, length in enumerate(lengths)]
     gets = [Line(request("GET", f"/resource/r{at}"), None) for at in range(len(lengths))]
-    for it, (response, calls, after) in zip([*puts, *gets], asked.ask([*puts, *gets])[0], strict=True):
-        what = f"{it.text[:20]!r} of {lengths}"
-        wanted, _ = calls_of_commands.calls_by_rule(asked.name, it, disk, after, call_rules.CAME)
+    for line, (response, calls, after) in zip([*puts, *gets], client.ask([*puts, *gets])[0], strict=True):
+        what = f"{line.text[:20]!r} of {lengths}"
+        wanted, _ = calls_of_commands.calls_by_rule(client.name, line, disk, after, call_rules.CAME)
         compare(what, wanted, calls)
-        body = b"x" * lengths[int(it.text[len("GET /resource/r") :][:1])]
-        compare(what, body if it.bodies is None else b"", response.partition(b"\r\n\r\n")[2])
-        compare(what, b"HTTP/1.1 200" if it.bodies is None else b"HTTP/1.1 201", response[:12])
+        body = b"x" * lengths[int(line.text[len("GET /resource/r") :][:1])]
+        compare(what, body if line.bodies is None else b"", response.partition(b"\r\n\r\n")[2])
+        compare(what, b"HTTP/1.1 200" if line.bodies is None else b"HTTP/1.1 201", response[:12])
         disk = after
     return lengths
 
 
 def look_at_groups(room: Room, draw: random.Random, compare: Compare) -> None:
     """Groups of each number of items over HTTP."""
-    asked, disk = Asked(room), empty(room, 1 << 20)
+    client, disk = Client(room), empty(room, 1 << 20)
     sizes = draw.sample(range(1, MOST_IN_GROUP + 1), MOST_IN_GROUP)
-    lengths = [[between(draw, 2_000) for _ in range(it)] for it in sizes]
-    texts_of = ["\n".join(put(f"n{at}", length) for at, length in enumerate(it)) for it in lengths]
-    requests = [Line(request("POST", "/group", text.encode()), it) for text, it in zip(texts_of, lengths)]
-    for items, it, (response, calls, after) in zip(sizes, requests, asked.ask(requests)[0], strict=True):
-        compare(f"a group of {items} over HTTP", b"grouped %d " % items, response.partition(b"\r\n\r\n")[2][: len(b"grouped %d " % items)])
-        compare(f"a group of {items} over HTTP", calls_of_commands.calls_by_rule(asked.name, it, disk, after)[0], calls)
+    lengths = [[between(draw, 2_000) for _ in range(count)] for count in sizes]
+    texts_of = ["\n".join(put(f"n{at}", length) for at, length in enumerate(group)) for group in lengths]
+    requests = [Line(request("POST", "/group", text.encode()), group) for text, group in zip(texts_of, lengths)]
+    for items, line, (response, calls, after) in zip(sizes, requests, client.ask(requests)[0], strict=True):
+        what, wanted = f"a group of {items} over HTTP", b"grouped %d " % items
+        compare(what, wanted, response.partition(b"\r\n\r\n")[2][: len(wanted)])
+        compare(what, calls_of_commands.calls_by_rule(client.name, line, disk, after)[0], calls)
         disk = after
 
 
@@ -164,18 +172,19 @@ def look_at_copies(room: Room, draw: random.Random, compare: Compare) -> list[in
         room.clear(NEW)
         # The published pages are copied beside those of the catalogue.
         size = len(disk) + number * BLOCK
-        ran = room.run(["copy", DISK, NEW, str(size)])
-        compare(f"a copy of {number}", (0, b"copied %d\n" % size, b""), tuple(ran[:3]))
+        outcome = room.run(["copy", DISK, NEW, str(size)])
+        compare(f"a copy of {number}", (0, b"copied %d\n" % size, b""), tuple(outcome[:3]))
         copy = room.bytes(NEW)
-        calls = [*call_rules.opening(DISK, disk), *call_rules.copying(DISK, disk, NEW, copy), f"close {NEW}", "answer", f"close {DISK}"]
-        compare(f"the calls of a copy of {number}", calls, texts(ran.calls))
+        calls = [*call_rules.opening(DISK, disk), *call_rules.copying(DISK, disk, NEW, copy), f"close {NEW}", "answer",
+                 f"close {DISK}"]
+        compare(f"the calls of a copy of {number}", calls, texts(outcome.calls))
     return numbers
 
 
 def look(program: str, folder: str, seed: int, compare: Compare) -> str:
     """All of it. Tells what was drawn."""
     draw, room = random.Random(seed), Room(program, pathlib.Path(folder))
-    lines, requests, copies = (it(room, draw, compare) for it in (look_at_lines, look_at_requests, look_at_copies))
+    lines, requests, copies = (look(room, draw, compare) for look in (look_at_lines, look_at_requests, look_at_copies))
     file = pathlib.Path(folder, "counted.disk")
     look_at_groups(room, draw, compare)
     look_at_damage(room, draw, compare)

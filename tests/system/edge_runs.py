@@ -1,4 +1,5 @@
-"""Runs of the proved program whose system can be chosen: what its calls answer, by variables of the environment, and clients of it.
+"""Runs of the proved program whose system can be chosen: what its calls answer, by variables of the environment, and
+clients of it.
 
 A C library that `cc` builds into a temporary folder stands before the system's.
 """
@@ -76,7 +77,9 @@ ssize_t read(int fd, void *bytes, size_t n) { return fd == 0 && interrupted() ? 
 ssize_t write(int fd, const void *bytes, size_t n) { return fd == 1 && takes_none(n) ? 0 : NEXT(write)(fd, bytes, n); }
 /* The calls on files are counted, from 1. */
 ssize_t pread(int fd, void *bytes, size_t n, off_t at) { return fails() ? -1 : NEXT(pread)(fd, bytes, n, at); }
-ssize_t pwrite(int fd, const void *bytes, size_t n, off_t at) { return fails() ? -1 : takes_none(n) ? 0 : NEXT(pwrite)(fd, bytes, n, at); }
+ssize_t pwrite(int fd, const void *bytes, size_t n, off_t at) {
+    return fails() ? -1 : takes_none(n) ? 0 : NEXT(pwrite)(fd, bytes, n, at);
+}
 int fsync(int fd) { return fails() ? -1 : NEXT(fsync)(fd); }
 int fdatasync(int fd) { return fails() ? -1 : NEXT(fdatasync)(fd); }
 /* So are the growths of memory, from the first connection on. */
@@ -98,15 +101,16 @@ TOO_LONG = b"PUT /resource/c " + HOST + b"Content-Length: 16777217\r\n\r\n"
 
 
 def formatted(program, room, name="a.disk", size="65536"):
+    """A new source in a room; its name."""
     subprocess.run([program, "format", name, size, *MEMORY[2:]], cwd=room, check=True, capture_output=True)
     return name
 
 
-def ran(program, room, *words, given=b"", env=None, **ends):
+def run(program, room, *words, script=b"", env=None, **ends):
     """The status of a run, and what it wrote to standard error and, where that is not given, to standard output."""
-    ends = {"stdout": subprocess.PIPE} | ({} if "stdin" in ends else {"input": given}) | ends
-    it = subprocess.run([program, *words], cwd=room, env=env, stderr=subprocess.PIPE, timeout=SECONDS, **ends)
-    return it.returncode, it.stderr, it.stdout
+    ends = {"stdout": subprocess.PIPE} | ({} if "stdin" in ends else {"input": script}) | ends
+    finished = subprocess.run([program, *words], cwd=room, env=env, stderr=subprocess.PIPE, timeout=SECONDS, **ends)
+    return finished.returncode, finished.stderr, finished.stdout
 
 
 @contextlib.contextmanager
@@ -123,10 +127,12 @@ def served(program, room, count, port="0", stderr=None, **settings):
 
 
 def connected(port):
+    """A connection to a server."""
     return socket.create_connection(("127.0.0.1", port), timeout=SECONDS)
 
 
 def read_to_end(connection):
+    """All that comes, until the end or a reset."""
     found = b""
     with contextlib.suppress(ConnectionError):
         while piece := connection.recv(65536):
@@ -134,13 +140,15 @@ def read_to_end(connection):
     return found
 
 
-def asked(port, request):
+def ask(port, request):
+    """What comes back to a request."""
     with connected(port) as connection:
         connection.sendall(request)
         return read_to_end(connection)
 
 
 def ends_with(found, wanted):
+    """Checks the end of a response."""
     compare("the end of a response", wanted, found[max(len(found) - len(wanted), 0):])
 
 
@@ -158,8 +166,9 @@ def is_read_from(connection):
 def peak(server):
     """The most memory that a server had so far, in KiB."""
     lines = pathlib.Path(f"/proc/{server.pid}/status").read_text().splitlines()
-    return next(int(it.split()[1]) for it in lines if it.startswith("VmHWM:"))
+    return next(int(line.split()[1]) for line in lines if line.startswith("VmHWM:"))
 
 
 def put_of(length):
+    """The bytes of a put of this many bytes."""
     return b"PUT /resource/c " + HOST + b"Content-Length: %d\r\n\r\n" % length + b"x" * length

@@ -1,7 +1,8 @@
-"""Looks at the edges of the proved program that no contract speaks of: its sockets, its clock, its standard input and output.
+"""Looks at the edges of the proved program that no contract speaks of: its sockets, its clock, its standard input and
+output.
 
-Each function below is one edge, and its first line says what has to hold there; edges_of_connections.py has more of them. Where
-the system has to fail or to wait at a chosen place, a C library stands before the system's (edge_runs.py).
+Each function below is one edge, and its first line says what has to hold there; edges_of_connections.py has more of
+them. Where the system has to fail or to wait at a chosen place, a C library stands before the system's (edge_runs.py).
 
 usage: python3 -m tests.system.edges [PROGRAM] [NAME..]     names of edges to look at (all, where none is given)
 Exit status 1 where one does not hold.
@@ -17,7 +18,7 @@ import tempfile
 
 from tests.program import MEMORY, PROGRAM, Differs, compare, interposed
 from tests.system import edges_of_connections
-from tests.system.edge_runs import HOST, PUT, SECONDS, SYSTEM, asked, ends_with, formatted, peak, put_of, ran
+from tests.system.edge_runs import HOST, PUT, SECONDS, SYSTEM, ask, ends_with, formatted, peak, put_of, run
 from tests.system.edge_runs import served
 
 
@@ -26,55 +27,59 @@ def listens_on_loopback_alone(program, room):
     formatted(program, room)
     with socket.create_server(("127.0.0.1", 0)) as taken:
         wanted = taken.getsockname()[1]
-        told = ran(program, room, "serve", "a.disk", str(wanted), "1")
-        compare("a port that is taken", b"(1, b'rs_source: Device\\n', b'')", repr(told).encode())
+        outcome = run(program, room, "serve", "a.disk", str(wanted), "1")
+        compare("a port that is taken", b"(1, b'rs_source: Device\\n', b'')", repr(outcome).encode())
     for asked_for in ["0", str(wanted)]:
         with served(program, room, 1, asked_for) as (port, _):
             lines = [line.split() for name in ["tcp", "tcp6"] for line in open(f"/proc/net/{name}")]
-            listening = [it[1] for it in lines if it[3] == "0A" and it[1].endswith(f":{port:04X}")]
+            listening = [fields[1] for fields in lines if fields[3] == "0A" and fields[1].endswith(f":{port:04X}")]
             compare("the addresses", f"0100007F:{port:04X}".encode(), " ".join(listening).encode())
             compare("the port", b"%d" % (wanted if asked_for != "0" else port), b"%d" % port)
-            asked(port, b"GET / HTTP/1.0\r\n\r\n")
+            ask(port, b"GET / HTTP/1.0\r\n\r\n")
 
 
 def faults_of_standard_ends_are_told(program, room):
-    """Standard input that cannot be read is Read, standard output that cannot be written is Write, each with status 1; commands before stand."""
+    """Unreadable standard input is Read, unwritable standard output is Write, with status 1; commands before stand."""
     file = formatted(program, room)
     unreadable = os.open(room, os.O_RDONLY)
     for words in [MEMORY, ["run", file]]:
-        compare(words[0], b"(1, b'rs_source: Read\\n', b'')", repr(ran(program, room, *words, stdin=unreadable)).encode())
-        closed = ran(program, room, *words, stdin=None, preexec_fn=lambda: os.close(0))
+        compare(words[0], b"(1, b'rs_source: Read\\n', b'')",
+                repr(run(program, room, *words, stdin=unreadable)).encode())
+        closed = run(program, room, *words, stdin=None, preexec_fn=lambda: os.close(0))
         compare(f"{words[0]}, no standard input", b"(1, b'rs_source: Read\\n', b'')", repr(closed).encode())
     os.close(unreadable)
     wanted = b"(1, b'rs_source: Write\\n')"
     for number, output in enumerate(["/dev/full", None]):
-        on_files = [["format", f"{number}.disk", *MEMORY[1:]], ["serve", file, "0", "1"], ["copy", file, f"{number}.copy", "65536"]]
+        on_files = [["format", f"{number}.disk", *MEMORY[1:]], ["serve", file, "0", "1"],
+                    ["copy", file, f"{number}.copy", "65536"]]
         for words in [MEMORY, ["run", file], *on_files]:
             with open(output, "wb") if output else contextlib.nullcontext() as stdout:
                 closing = {} if output else {"preexec_fn": lambda: os.close(1)}
-                found = ran(program, room, *words, given=b"put %d - a/b\n" % number, stdout=stdout, **closing)
+                found = run(program, room, *words, script=b"put %d - a/b\n" % number, stdout=stdout, **closing)
             compare(f"{words[0]}, output {output}", wanted, repr(found[:2]).encode())
-        compare("status", b"resources 0 ", ran(program, room, "run", f"{number}.disk", given=b"status")[2][:12])
-    compare("status", b"resources 2 changes 2 ", ran(program, room, "run", file, given=b"status")[2][:22])
+        compare("status", b"resources 0 ", run(program, room, "run", f"{number}.disk", script=b"status")[2][:12])
+    compare("status", b"resources 2 changes 2 ", run(program, room, "run", file, script=b"status")[2][:22])
 
 
 def each_line_is_answered_before_the_next(program, room):
     """A script can be talked to: an answer comes before more is read, and the last one at the end."""
-    talk = [(b"put a 61 a/b", b"created 1970-01-01T00:00:00.001Z\n"), (b"show /resource/a", b"bytes 1\na\n"), (b"no line", b"refused BadLine\n"),
+    talk = [(b"put a 61 a/b", b"created 1970-01-01T00:00:00.001Z\n"), (b"show /resource/a", b"bytes 1\na\n"),
+            (b"no line", b"refused BadLine\n"),
             (b"status", b"resources 1 changes 1 publication 0 last 1970-01-01T00:00:00.001Z\n")]
-    with subprocess.Popen([program, *MEMORY], stdin=subprocess.PIPE, stdout=subprocess.PIPE) as it:
+    with subprocess.Popen([program, *MEMORY], stdin=subprocess.PIPE, stdout=subprocess.PIPE) as process:
         for line, wanted in talk:
             for piece in [line[:1], line[1:], b"\n"]:
-                os.write(it.stdin.fileno(), piece)
+                os.write(process.stdin.fileno(), piece)
             found = b""
-            while len(found) < len(wanted) and select.select([it.stdout], [], [], SECONDS)[0] and (piece := os.read(it.stdout.fileno(), 4096)):
+            while len(found) < len(wanted) and select.select(
+                    [process.stdout], [], [], SECONDS)[0] and (piece := os.read(process.stdout.fileno(), 4096)):
                 found += piece
             compare(line.decode(), wanted, found)
-        compare("the end", b"refused NotHeld\n", it.communicate(b"delete b", SECONDS)[0])
+        compare("the end", b"refused NotHeld\n", process.communicate(b"delete b", SECONDS)[0])
 
 
 def clocks_show_moments(program, room):
-    """A clock is cut to its millisecond; before 1970, and unread, it counts as moment 0, and past the last moment as that."""
+    """A clock is cut to its millisecond; before 1970, or unread, it is moment 0, and past the last moment that one."""
     for seconds, nanoseconds, date, moment in [
         (5, 999_999, b"Thu, 01 Jan 1970 00:00:05", b"1970-01-01T00:00:05.000Z"),
         (5, 1_999_999, b"Thu, 01 Jan 1970 00:00:05", b"1970-01-01T00:00:05.001Z"),
@@ -91,20 +96,23 @@ def clocks_show_moments(program, room):
         formatted(program, room)
         clock = {"UNREAD_CLOCK": "1"} if seconds is None else {"SECONDS": str(seconds), "NANOSECONDS": str(nanoseconds)}
         with served(program, room, 1, **clock) as (port, _):
-            found = asked(port, b"POST /publish " + HOST + b"\r\n")
+            found = ask(port, b"POST /publish " + HOST + b"\r\n")
         compare(f"{seconds} {nanoseconds}", b"HTTP/1.1 200 OK\r\nDate: " + date + b" GMT\r\n", found[:54])
         ends_with(found, b"\r\n\r\npublished 1 " + moment + b"\n")
 
 
 def a_device_that_fails_closes_the_source(program, room):
-    """Each call on the file fails in turn: the command is answered Device and may stand, all behind it Closed; opened again the source is whole."""
+    """Each call on the file fails in turn: the command is answered Device and may stand, all behind it Closed; opened
+    again the source is whole.
+    """
     lines = b"put a 61 text/plain\nstatus\nshow /resourcelist.xml\npublish\ndelete a\nput a b c\n"
     system = interposed(room, "system", SYSTEM)
     after, closed = set(), 0
     for number in range(1, 1000):
         pathlib.Path(room, "a.disk").unlink(missing_ok=True)
         formatted(program, room)
-        status, error, output = ran(program, room, "run", "a.disk", given=lines, env=system | {"FILE_FAILS_AT": str(number)})
+        status, error, output = run(program, room, "run", "a.disk", script=lines,
+                                    env=system | {"FILE_FAILS_AT": str(number)})
         if status:
             compare(f"call {number}", b"(1, b'rs_source: Device\\n', b'')", repr((status, error, output)).encode())
             continue
@@ -114,10 +122,11 @@ def a_device_that_fails_closes_the_source(program, room):
         done, answers = before.count(b"\n") > 0, behind.splitlines()
         closed += answers[:-1] == [b"refused Closed"] * (len(answers) - 1) and not done
         compare(f"call {number}, the end", b"refused BadHex", answers[-1])
-        found = ran(program, room, "run", "a.disk", given=b"status")[2]
+        found = run(program, room, "run", "a.disk", script=b"status")[2]
         after.add((done, found.split(b" last")[0]))
-    first = {told for done, told in after if not done}
-    compare("what may stand of the put", b"resources 0 changes 0 publication 0, resources 1 changes 1 publication 0", b", ".join(sorted(first)))
+    first = {output for done, output in after if not done}
+    compare("what may stand of the put", b"resources 0 changes 0 publication 0, resources 1 changes 1 publication 0",
+            b", ".join(sorted(first)))
     compare("the answers behind it", b"True", str(closed > 5).encode())
 
 
@@ -126,71 +135,79 @@ def a_device_that_fails_is_told_over_http(program, room):
     formatted(program, room)
     system = interposed(room, "system", SYSTEM)
     # (the first call that opening the file does not make)
-    first = next(n for n in range(1, 1000) if ran(program, room, "run", "a.disk", env=system | {"FILE_FAILS_AT": str(n)})[0] == 0)
+    first = next(n for n in range(1, 1000)
+                 if run(program, room, "run", "a.disk", env=system | {"FILE_FAILS_AT": str(n)})[0] == 0)
     with served(program, room, 4, FILE_FAILS_AT=str(first)) as (port, _):
-        ends_with(asked(port, PUT + b"\r\nabc"), b"\r\n\r\nDevice\n")
+        ends_with(ask(port, PUT + b"\r\nabc"), b"\r\n\r\nDevice\n")
         for request in [b"GET /resource/c ", b"GET /resourcelist.xml ", b"POST /publish "]:
-            found = asked(port, request + HOST + b"\r\n")
+            found = ask(port, request + HOST + b"\r\n")
             compare("the status", b"HTTP/1.1 503 Service Unavailable\r\n", found[:34])
             ends_with(found, b"\r\n\r\nClosed\n")
 
 
 def refused_memory_is_told_over_http(program, room):
-    """Each growth of memory within a request is refused in turn: 503 NoMemory, or no response where there is none to begin, and nothing changed."""
+    """Each growth of memory within a request is refused in turn: 503 NoMemory, or no response where there is none to
+    begin, and nothing changed.
+    """
     source = pathlib.Path(room, formatted(program, room))
-    ran(program, room, "run", "a.disk", given=b"put c 616263 a/b\npublish")
-    kept, refusals = source.read_bytes(), 0
+    run(program, room, "run", "a.disk", script=b"put c 616263 a/b\npublish")
+    content, refusals = source.read_bytes(), 0
     for request in [PUT + b"\r\nabd", b"DELETE /resource/c " + HOST + b"\r\n", b"POST /publish " + HOST + b"\r\n",
                     b"GET /resource/c " + HOST + b"\r\n", b"GET /resourcelist.xml " + HOST + b"\r\n"]:
         usual, number, quiet = None, 0, 0
         # Six growths in a row that nobody asked for: none is left to refuse.
         while quiet < 6:
-            source.write_bytes(kept)
+            source.write_bytes(content)
             with served(program, room, 1, GROWTH_REFUSED_AT=str(number)) as (port, _):
-                answer = asked(port, request)
+                answer = ask(port, request)
             usual, number, quiet = usual or answer, number + 1, quiet + 1
             if answer != usual:
                 refusals, quiet = refusals + 1, 0
                 wanted = b"HTTP/1.1 503 Service Unavailable\r\n" if answer else b""
                 compare(f"growth {number - 1} of {request[:16]!r}", wanted, answer[:len(wanted)])
                 ends_with(answer, b"\r\n\r\nNoMemory\n" if answer else b"")
-                told = ran(program, room, "run", "a.disk", given=b"status")[2]
-                compare("the state", b"resources 1 changes 1 publication 1 ", told[:36])
+                output = run(program, room, "run", "a.disk", script=b"status")[2]
+                compare("the state", b"resources 1 changes 1 publication 1 ", output[:36])
     compare("growths refused", b"True", str(refusals > 10).encode())
 
 
 def a_body_takes_no_memory(program, room):
-    """A body goes to the file as it comes: as many growths of memory for 1,000,000 bytes as for 5,000, and no more memory for the longest."""
+    """A body goes to the file as it comes: as many growths of memory for 1,000,000 bytes as for 5,000, and no more
+    memory for the longest.
+    """
     counts, file = [], pathlib.Path(room, "a.disk")
     for length in [5_000, 1_000_000]:
         file.unlink(missing_ok=True)
         formatted(program, room, size="4000000")
         with served(program, room, 1, stderr=subprocess.PIPE, GROWTHS_TOLD="1") as (port, server):
-            compare(f"{length} bytes", b"HTTP/1.1 201 Created\r\n", asked(port, put_of(length))[:22])
+            compare(f"{length} bytes", b"HTTP/1.1 201 Created\r\n", ask(port, put_of(length))[:22])
             counts.append(server.stderr.read())
     compare("the growths", *counts)
     file.unlink()
     formatted(program, room, size="40000000")
     with served(program, room, 3) as (port, server):
-        asked(port, put_of(5_000))
+        ask(port, put_of(5_000))
         before = peak(server)
-        compare("the longest body", b"HTTP/1.1 204 No Content\r\n", asked(port, put_of(16_777_216))[:25])
+        compare("the longest body", b"HTTP/1.1 204 No Content\r\n", ask(port, put_of(16_777_216))[:25])
         grown = peak(server) - before
-        asked(port, b"GET /resource/zz " + HOST + b"\r\n")
+        ask(port, b"GET /resource/zz " + HOST + b"\r\n")
     compare("at most 64 KiB more", b"True", str(grown <= 64).encode())
 
 
 EDGES = [
-    listens_on_loopback_alone, faults_of_standard_ends_are_told, each_line_is_answered_before_the_next, *edges_of_connections.EDGES,
-    clocks_show_moments, a_device_that_fails_closes_the_source, a_device_that_fails_is_told_over_http, refused_memory_is_told_over_http,
+    listens_on_loopback_alone, faults_of_standard_ends_are_told, each_line_is_answered_before_the_next,
+    *edges_of_connections.EDGES,
+    clocks_show_moments, a_device_that_fails_closes_the_source, a_device_that_fails_is_told_over_http,
+    refused_memory_is_told_over_http,
     a_body_takes_no_memory,
 ]
 
 
 def main():
-    given = sys.argv[1:]
-    program = os.path.abspath(given.pop(0) if given and os.path.isfile(given[0]) else PROGRAM)
-    edges = [it for it in EDGES if not given or it.__name__ in given]
+    """Tries the edges that are named, or all, and gives the exit status."""
+    arguments = sys.argv[1:]
+    program = os.path.abspath(arguments.pop(0) if arguments and os.path.isfile(arguments[0]) else PROGRAM)
+    edges = [edge for edge in EDGES if not arguments or edge.__name__ in arguments]
     failed = 0
     for edge in edges:
         with tempfile.TemporaryDirectory() as room:
@@ -199,9 +216,9 @@ def main():
             except (Differs, OSError, ValueError, subprocess.SubprocessError) as fault:
                 failed += 1
                 print(f"{edge.__name__}: {type(fault).__name__} {fault}")
-    blind = [] if given else edges_of_connections.unnoticed(program)
-    for it in blind:
-        print(f"{it}: a wrong program is not noticed, and this test is blind")
+    blind = [] if arguments else edges_of_connections.unnoticed(program)
+    for name in blind:
+        print(f"{name}: a wrong program is not noticed, and this test is blind")
     print(f"edges: {len(edges) - failed} of {len(edges)} hold")
     return 1 if failed or blind or not edges else 0
 

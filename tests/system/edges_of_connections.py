@@ -1,7 +1,8 @@
-"""The edges of a connection to the proved program: how it is taken, read, answered and ended, and how long a client is waited for.
+"""The edges of a connection to the proved program: how it is taken, read, answered and ended, and how long a client is
+waited for.
 
-Each function is one edge, and its first line says what has to hold there. `settings` choose what the system does otherwise: with
-those of WRONG an edge looks like that of a wrong program, and has to be told from it.
+Each function is one edge, and its first line says what has to hold there. `settings` choose what the system does
+otherwise: with those of WRONG an edge looks like that of a wrong program, and has to be told from it.
 """
 import contextlib
 import socket
@@ -11,8 +12,8 @@ import tempfile
 import time
 
 from tests.program import Differs, compare, interposed
-from tests.system.edge_runs import HOST, PUT, SECONDS, SYSTEM, TOO_LONG, asked, connected, ends_with
-from tests.system.edge_runs import formatted, is_read_from, ran, read_to_end, served
+from tests.system.edge_runs import HOST, PUT, SECONDS, SYSTEM, TOO_LONG, ask, connected, ends_with
+from tests.system.edge_runs import formatted, is_read_from, read_to_end, run, served
 
 # The seconds for which the rest of a refused request is read, and those within which the next client is then served.
 LONGEST_REST, MARGIN = 2, 4
@@ -35,7 +36,7 @@ def the_word_to_go_on_is_sent_at_once(program, room):
 
 
 def a_refused_request_is_read_on(program, room):
-    """After a refusal the server ends what it sends, so its client sees the end, and goes on reading what the client sends."""
+    """After a refusal the server ends what it sends, so that its client sees the end, and reads on."""
     formatted(program, room)
     with served(program, room, 2) as (port, _):
         with connected(port) as connection:
@@ -61,7 +62,7 @@ def a_response_that_cannot_be_sent_ends_the_connection(program, room):
 
 
 def a_fault_ends_its_connection_alone(program, room):
-    """A client that resets its connection within a head or a body is forgotten, and nothing is kept of it; the next one is served."""
+    """A client that resets its connection within a head or a body leaves nothing; the next one is served."""
     formatted(program, room)
     with served(program, room, 3) as (port, _):
         for part in [PUT, PUT + b"\r\nab"]:
@@ -69,7 +70,7 @@ def a_fault_ends_its_connection_alone(program, room):
                 connection.sendall(part)
                 # Closed like this, a connection is reset.
                 connection.setsockopt(socket.SOL_SOCKET, socket.SO_LINGER, struct.pack("ii", 1, 0))
-        ends_with(asked(port, b"GET /resource/c " + HOST + b"\r\n"), b"\r\n\r\nNotHeld\n")
+        ends_with(ask(port, b"GET /resource/c " + HOST + b"\r\n"), b"\r\n\r\nNotHeld\n")
 
 
 def each_cut_of_a_head_is_bad(program, room):
@@ -82,7 +83,8 @@ def each_cut_of_a_head_is_bad(program, room):
                 connection.sendall(head[:length])
                 connection.shutdown(socket.SHUT_WR)
                 found = read_to_end(connection)
-            wanted = b"" if length == 0 else b"HTTP/1.1 400 Bad Request\r\n" if length < len(head) else b"HTTP/1.1 201 Created\r\n"
+            wanted = b"" if length == 0 else b"HTTP/1.1 400 Bad Request\r\n" if length < len(
+                head) else b"HTTP/1.1 201 Created\r\n"
             compare(f"{length} bytes", wanted, found[:len(wanted)] if wanted else found)
             ends_with(found, b"\r\n\r\nBadHead\n" if 0 < length < len(head) else b"")
 
@@ -91,16 +93,19 @@ def commands_come_when_their_connection_is_taken(program, room):
     """A command has the time at which its connection was taken, and not one before the wait for it."""
     formatted(program, room)
     with served(program, room, 2, DAYS="1") as (port, _):
-        compare("the put", b"HTTP/1.1 201 Created\r\nDate: Wed, 01 Mar 2000 00:00:00 GMT\r\n", asked(port, PUT + b"\r\nabc")[:59])
-        found = asked(port, b"POST /publish " + HOST + b"\r\n")
+        compare("the put", b"HTTP/1.1 201 Created\r\nDate: Wed, 01 Mar 2000 00:00:00 GMT\r\n",
+                ask(port, PUT + b"\r\nabc")[:59])
+        found = ask(port, b"POST /publish " + HOST + b"\r\n")
         compare("the publication", b"HTTP/1.1 200 OK\r\nDate: Thu, 02 Mar 2000 00:00:00 GMT\r\n", found[:54])
         ends_with(found, b"\r\n\r\npublished 1 2000-03-02T00:00:00.000Z\n")
-    shown = ran(program, room, "run", "a.disk", given=b"show /changelist.xml")[2]
+    shown = run(program, room, "run", "a.disk", script=b"show /changelist.xml")[2]
     compare("the change", b"<lastmod>2000-03-01T00:00:00.000Z</lastmod>", shown[shown.find(b"<lastmod>"):][:43])
 
 
 def the_rest_is_read_up_to_a_limit(program, room, **settings):
-    """Of a client that was refused and goes on no more than 64 MiB are read, and what the system holds of the next ones, however fast it is."""
+    """Of a client that was refused and goes on no more than 64 MiB are read, and what the system holds of the next
+    ones, however fast it is.
+    """
     formatted(program, room)
     with served(program, room, 1, **settings) as (port, _), connected(port) as refused:
         refused.sendall(TOO_LONG)
@@ -115,7 +120,7 @@ def the_rest_is_read_up_to_a_limit(program, room, **settings):
 
 
 def a_refused_body_may_be_sent_first(program, room, **settings):
-    """A client that sends a whole refused body before it reads gets its response, and no reset: the rest is read meanwhile."""
+    """A client that sends a whole refused body before it reads gets its response and no reset: the rest is read."""
     formatted(program, room)
     sizes = (AT_ONCE, MOST_REST // 4)
     with served(program, room, len(sizes), **settings) as (port, _):
@@ -143,7 +148,7 @@ def served_in_time(program, room, count):
 
 
 def waited(port, refused, is_slow):
-    """For how many seconds the next client waits behind one that was refused and stays, and sends nothing or a byte now and then."""
+    """How many seconds the next client waits behind a refused one that stays, and sends nothing or a byte at times."""
     started = time.monotonic()
     with connected(port) as next_one:
         next_one.sendall(b"GET /resource/zz " + HOST + b"\r\n")
@@ -158,7 +163,7 @@ def waited(port, refused, is_slow):
 
 
 def a_refused_client_is_not_waited_for_long(program, room, **settings):
-    """A client that was refused and stays, silent or slow, holds the next one for the time of a rest, and not much longer or shorter."""
+    """A refused client that stays, silent or slow, holds the next one for about the time of a rest."""
     formatted(program, room)
     for is_slow in (False, True):
         serving = served if settings else served_in_time
@@ -166,22 +171,24 @@ def a_refused_client_is_not_waited_for_long(program, room, **settings):
             refused.sendall(TOO_LONG)
             ends_with(read_to_end(refused), b"\r\n\r\nTooLong\n")
             seconds = waited(port, refused, is_slow)
-        compare(f"a wait of {seconds:.1f} seconds is one of {LONGEST_REST} or somewhat more", b"True", str(LONGEST_REST - 1 < seconds).encode())
+        compare(f"a wait of {seconds:.1f} seconds is one of {LONGEST_REST} or somewhat more", b"True",
+                str(LONGEST_REST - 1 < seconds).encode())
 
 
 def a_connection_that_cannot_be_taken_counts(program, room, **settings):
-    """One that fails to be taken is one of those that are counted: the client behind it is served, and one fewer in all."""
+    """A connection that cannot be taken counts: the client behind it is served, and one fewer in all."""
     formatted(program, room)
     for at in ("1", "2", "3"):
         answered = 0
-        with served(program, room, 3, **({"ACCEPT_FAILS_AT": at} | settings)) as (port, _), contextlib.suppress(ConnectionError):
-            while asked(port, b"GET /resource/zz " + HOST + b"\r\n").endswith(b"NotHeld\n"):
+        with served(program, room, 3, **({"ACCEPT_FAILS_AT": at}
+                                         | settings)) as (port, _), contextlib.suppress(ConnectionError):
+            while ask(port, b"GET /resource/zz " + HOST + b"\r\n").endswith(b"NotHeld\n"):
                 answered += 1
         compare(f"the clients that are answered, where connection {at} fails", b"2", b"%d" % answered)
 
 
 def an_interrupted_read_is_a_fault(program, room, **settings):
-    """A read that a signal interrupts is not made again: a connection ends and nothing is kept, a script ends with Read."""
+    """An interrupted read is not made again: a connection ends and nothing is kept, a script ends with Read."""
     formatted(program, room)
     waiting = PUT + b"Expect: 100-continue\r\n\r\n"
     for at, wanted in [("1", b""), ("2", b"HTTP/1.1 100 Continue\r\n\r\n")]:
@@ -194,26 +201,30 @@ def an_interrupted_read_is_a_fault(program, room, **settings):
                     connection.sendall(b"abc")
                 found += read_to_end(connection)
             compare(f"read {at} is interrupted", wanted, found)
-            ends_with(asked(port, b"GET /resource/c " + HOST + b"\r\n"), b"\r\n\r\nNotHeld\n")
+            ends_with(ask(port, b"GET /resource/c " + HOST + b"\r\n"), b"\r\n\r\nNotHeld\n")
     environment = interposed(room, "system", SYSTEM) | {"INTERRUPTED_AT": "1"} | settings
-    told = ran(program, room, "run", "a.disk", given=b"put a - a/b\nstatus\n", env=environment)
-    compare("a script", b"(1, b'rs_source: Read\\n', b'')", repr(told).encode())
+    outcome = run(program, room, "run", "a.disk", script=b"put a - a/b\nstatus\n", env=environment)
+    compare("a script", b"(1, b'rs_source: Read\\n', b'')", repr(outcome).encode())
 
 
 def a_write_that_takes_no_byte_is_tried_once(program, room, **settings):
-    """A write of which no byte is taken is a fault at once; what was held back before is given to the end once more as the program ends."""
+    """A write that takes no byte is a fault at once; what was held back is tried once more as the program ends."""
     formatted(program, room, size="1000000")
-    ran(program, room, "run", "a.disk", given=PUT_LARGE)
+    run(program, room, "run", "a.disk", script=PUT_LARGE)
     environment = interposed(room, "system", SYSTEM) | {"NONES_TOLD": "1"} | settings
     show, put = b"show /resource/b\n", b"put c 61 a/b\n"
-    # From this many bytes on a write takes none: that of the body alone, that of what is held back too, and the one of a file.
-    for size, script, wanted in [(10_000, show, (1, b"rs_source: Write\n1 took none\n")), (1, b"status\n", (1, b"rs_source: Write\n2 took none\n")),
+    # From this many bytes on a write takes none: that of the body alone, that of what is held back too, and the one of
+    # a file.
+    for size, script, wanted in [(10_000, show, (1, b"rs_source: Write\n1 took none\n")),
+                                 (1, b"status\n", (1, b"rs_source: Write\n2 took none\n")),
                                  (172, put, (0, b"1 took none\n"))]:
-        found = ran(program, room, "run", "a.disk", given=script, env=environment | {"NONE_TAKEN_FROM": str(size)})
+        found = run(program, room, "run", "a.disk", script=script, env=environment | {"NONE_TAKEN_FROM": str(size)})
         compare(f"{script!r}", repr(wanted).encode(), repr(found[:2]).encode())
-        compare(f"{script!r}: the output", b"refused Device\n" if script is put else b"bytes 100000\n" if script is show else b"", found[2])
-    with served(program, room, 1, stderr=subprocess.PIPE, NONE_TAKEN_FROM="10000", NONES_TOLD="1", **settings) as (port, server):
-        found = asked(port, GET_LARGE)
+        compare(f"{script!r}: the output", b"refused Device\n" if script is put else b"bytes 100000\n"
+                if script is show else b"", found[2])
+    with served(program, room, 1, stderr=subprocess.PIPE, NONE_TAKEN_FROM="10000", NONES_TOLD="1", **settings) as (
+            port, server):
+        found = ask(port, GET_LARGE)
         ends_with(found, b"\r\n\r\n")
         compare("over HTTP", b"1 took none\n", server.stderr.read())
 
@@ -224,8 +235,8 @@ EDGES = [
     the_rest_is_read_up_to_a_limit, a_refused_body_may_be_sent_first, a_refused_client_is_not_waited_for_long,
     a_connection_that_cannot_be_taken_counts, an_interrupted_read_is_a_fault, a_write_that_takes_no_byte_is_tried_once,
 ]
-# What a program looks like that is wrong: it reads the rest with no limit, or little of it; its clock stands still and it waits for a
-# minute; it takes the next connection, or reads, as if nothing had failed; it tries a hundred times.
+# What a program looks like that is wrong: it reads the rest with no limit, or little of it; its clock stands still and
+# it waits for a minute; it takes the next connection, or reads, as if nothing had failed; it tries a hundred times.
 WRONG = [
     (the_rest_is_read_up_to_a_limit, {"REST_TIMES": "100"}),
     (a_refused_body_may_be_sent_first, {"REST_AT_MOST": "100"}),
@@ -242,6 +253,7 @@ def unnoticed(program):
 
 
 def is_passed(edge, program, settings):
+    """Whether a program passes an edge."""
     with tempfile.TemporaryDirectory() as room, contextlib.suppress(Differs):
         edge(program, room, **settings)
         return True

@@ -1,9 +1,11 @@
-"""Does what is large on the proved program, with as much memory as it wants: nothing may be refused for its size below the bounds.
+"""Does what is large on the proved program, with as much memory as it wants: nothing may be refused for its size below
+the bounds.
 
-No clause forbids a refusal for want of memory, so it is tested that none comes. `make build` makes the program. The file is spelled
-from the tables of docs/DISK.md (tests/disks/paged_disk.py): 6,000 resources, 6,000 changes, 4,000 items a part. What each line of a script
-and each request has to be answered, to the byte, is a plain reading of docs/SCRIPT.md and docs/HTTP.md (line_judge.py, request_judge.py),
-and what the files hold then is read by disk_judge.py:
+No clause forbids a refusal for want of memory, so it is tested that none comes. `make build` makes the program. The
+file is spelled from the tables of docs/DISK.md (tests/disks/paged_disk.py): 6,000 resources, 6,000 changes, 4,000 items
+a part. What each line of a script and each request has to be answered, to the byte, is a plain reading of
+docs/SCRIPT.md and docs/HTTP.md (line_judge.py, request_judge.py), and what the files hold then is read by
+disk_judge.py:
   - the file is opened, in a script, by a server and to be copied; so is one of 50,000 resources and 49,999 changes;
   - a group of 15 items, and one with a line of some 10,000 bytes;
   - a publication of more than 5,000 resources;
@@ -44,6 +46,7 @@ FAULTS = []
 
 
 def wrong(what, text):
+    """Prints and counts a fault."""
     FAULTS.append(text)
     print(f"{what}: {text}")
 
@@ -56,9 +59,10 @@ def spelled():
 
 
 def state_on(what, disk):
-    told, source = disk_judge.told(disk)
-    if told != disk_judge.OPENS:
-        wrong(what, f"{told}: {source}")
+    """The state on a disk, or None where it does not open."""
+    verdict, source = disk_judge.verdict_of(disk)
+    if verdict != disk_judge.OPENS:
+        wrong(what, f"{verdict}: {source}")
         return None
     return disk_judge.state_of(disk, source)
 
@@ -78,12 +82,13 @@ def lines():
     yield "publish"
     yield f"put large {'61' * BODY} text/plain"
     yield "show /resource/large"
-    yield from (f"show {it.decode()}" for it in DOCUMENTS)
+    yield from (f"show {path.decode()}" for path in DOCUMENTS)
     yield "verify"
     yield "status"
 
 
 def posted(path, body=b"", method=b"POST"):
+    """The bytes of a request."""
     return method + b" " + path + b" " + HOST + b"Content-Length: %d\r\n\r\n" % len(body) + body
 
 
@@ -93,7 +98,7 @@ def requests():
     yield posted(b"/group", "\n".join(group_lines("h", LINE)).encode())
     yield posted(b"/publish")
     yield posted(b"/resource/large", b"x" * BODY, b"PUT")
-    yield from (b"GET " + it + b" " + HOST + b"\r\n" for it in [b"/resource/large", *DOCUMENTS])
+    yield from (b"GET " + path + b" " + HOST + b"\r\n" for path in [b"/resource/large", *DOCUMENTS])
 
 
 def refused(answer):
@@ -113,17 +118,18 @@ def compare(what, wanted, found):
 
 
 def run(program, file, script):
-    ran = subprocess.run([program, "run", file], input=script, capture_output=True, timeout=SECONDS)
-    if ran.returncode or ran.stderr:
-        wrong("a run", f"status {ran.returncode}, {ran.stderr!r}")
-    return ran.stdout
+    """The output of a run of a script."""
+    finished = subprocess.run([program, "run", file], input=script, capture_output=True, timeout=SECONDS)
+    if finished.returncode or finished.stderr:
+        wrong("a run", f"status {finished.returncode}, {finished.stderr!r}")
+    return finished.stdout
 
 
 def look_at_opening(program, file, disk, state):
     """The most resources there may be, and as many changes as leave room for one."""
-    most = made_disks.DISKS["most_resources"]()
-    file.write_bytes(most)
-    compare("the most resources", state_on("the most resources", most).status(), run(program, file, b"status\n"))
+    largest = made_disks.DISKS["most_resources"]()
+    file.write_bytes(largest)
+    compare("the most resources", state_on("the most resources", largest).status(), run(program, file, b"status\n"))
 
 
 def look_at_script(program, file, disk, state):
@@ -131,9 +137,9 @@ def look_at_script(program, file, disk, state):
     file.write_bytes(disk)
     source = Source(state, len(disk))
     judge, made = line_judge.Judge(source), list(lines())
-    output = run(program, file, "".join(f"{it}\n" for it in made).encode())
+    output = run(program, file, "".join(f"{line}\n" for line in made).encode())
     for line in made:
-        wanted = b"".join(judge.answer(it.encode()) for it in line.split("\n"))
+        wanted = b"".join(judge.answer(part.encode()) for part in line.split("\n"))
         compare(f"script, {line[:30]!r}", wanted, output[: len(wanted)])
         output = output[len(wanted) :]
     if output:
@@ -148,8 +154,8 @@ def look_at_requests(program, file, disk, state):
     source = Source(state, len(disk))
     judge, made = request_judge.Judge(source), list(requests())
     with served(program, str(file), len(made), interposed(file.parent, "clock", STILL_CLOCK)) as port:
-        for it in made:
-            compare(f"request {it[:30]!r}", judge.answer(it, CLOCK), exchanged(port, [it])[0])
+        for request in made:
+            compare(f"request {request[:30]!r}", judge.answer(request, CLOCK), exchanged(port, [request])[0])
     if state_on("requests", file.read_bytes()) != source.state:
         wrong("requests", "the file has another state at its end")
 
@@ -172,12 +178,13 @@ def look_at_copy(program, file, disk, state):
     file.write_bytes(disk)
     copy = file.with_name("copy.disk")
     copy.unlink(missing_ok=True)
-    ran = subprocess.run([program, "copy", file, copy, str(len(disk))], capture_output=True, timeout=SECONDS)
-    compare("copy", b"copied %d\n" % len(disk), ran.stdout + ran.stderr)
+    finished = subprocess.run([program, "copy", file, copy, str(len(disk))], capture_output=True, timeout=SECONDS)
+    compare("copy", b"copied %d\n" % len(disk), finished.stdout + finished.stderr)
     if state_on("copy", copy.read_bytes()) != state:
         wrong("copy", "it has another state")
     questions = crash_model.Questions([state])
-    compare("the copy, opened", questions.answer(state, crash_model.all_served(state))[:1_000_000], run(program, copy, questions.script)[:1_000_000])
+    compare("the copy, opened", questions.answer(state, crash_model.all_served(state))[:1_000_000],
+            run(program, copy, questions.script)[:1_000_000])
 
 
 LOOKS = [look_at_opening, look_at_script, look_at_requests, look_at_damage, look_at_copy]
@@ -198,15 +205,17 @@ def look_at_drawn(program, folder, seed):
 
 
 def words():
-    it = argparse.ArgumentParser(usage="python3 -m tests.system.large [PROGRAM] [--seed N]")
-    it.add_argument("program", nargs="?", default=str(PROGRAM))
-    it.add_argument("--seed", type=int, default=random.SystemRandom().randrange(1_000_000))
-    return it.parse_args()
+    """The options of the command line."""
+    parser = argparse.ArgumentParser(usage="python3 -m tests.system.large [PROGRAM] [--seed N]")
+    parser.add_argument("program", nargs="?", default=str(PROGRAM))
+    parser.add_argument("--seed", type=int, default=random.SystemRandom().randrange(1_000_000))
+    return parser.parse_args()
 
 
 def main():
-    asked = words()
-    program = os.path.abspath(asked.program)
+    """Looks at all that is large, and gives the exit status."""
+    options = words()
+    program = os.path.abspath(options.program)
     disk, state = spelled()
     with room_in_memory("large-") as room:
         for look in LOOKS:
@@ -214,9 +223,9 @@ def main():
                 look(program, pathlib.Path(room, "source.disk"), disk, state)
             except (Ended, OSError, subprocess.SubprocessError) as fault:
                 wrong(look.__name__, repr(fault)[:500])
-        look_at_drawn(program, room, asked.seed)
-    told = f"{len(list(lines()))} lines, {len(list(requests()))} requests, {DAMAGED} damaged bodies, a copy of {COUNT} resources"
-    print(f"large: {told}: {len(FAULTS)} wrong")
+        look_at_drawn(program, room, options.seed)
+    print(f"large: {len(list(lines()))} lines, {len(list(requests()))} requests, {DAMAGED} damaged bodies, "
+          f"a copy of {COUNT} resources: {len(FAULTS)} wrong")
     return 1 if FAULTS else 0
 
 

@@ -6,19 +6,20 @@ refused
   - before the script begins, the program writes nothing and ends with `rs_source: NoMemory` and status 1, or with
     `rs_source: Device` where it was the disk's note of a write;
   - within a line, exactly that line is answered `refused NoMemory`, and all other lines as if the script were without
-    it: so nothing was changed, and later lines work; a group is one line here. A line of at most 8 bytes that is no item
-    is never refused so, unless it asks the source for what takes memory; nor is a group whose first line is such a one;
-  - while a file is opened or copied, it ends with `rs_source: NoMemory`, and makes no further call on a file but to close
-    it (opening_refusals.py);
+    it: so nothing was changed, and later lines work; a group is one line here. A line of at most 8 bytes that is no
+    item is never refused so, unless it asks the source for what takes memory; nor is a group whose first line is such a
+    one;
+  - while a file is opened or copied, it ends with `rs_source: NoMemory`, and makes no further call on a file but to
+    close it (opening_refusals.py);
   - for the disk's note of a write, that line is answered `refused Device`, all lines before it as ever, and each later
     line that asks the source `refused Closed`;
   - within a request, its response is 503 NoMemory, or none where there is no memory to begin; the next request finds
-    nothing changed, and the same request is then answered as ever. One whose head is refused is never answered 503, nor is
-    one of a document.
-What is answered otherwise is a plain reading of docs/SCRIPT.md and docs/HTTP.md (line_judge.py, request_judge.py). A long
-script has every line and every document, bodies that grow, and bad lines, and a short one has groups; both are given at
-once, and in pieces of 7 bytes and of one byte. The worked rows of scripts and of requests whose ends tests/ends makes
-fail are given at once.
+    nothing changed, and the same request is then answered as ever. One whose head is refused is never answered 503, nor
+    is one of a document.
+What is answered otherwise is a plain reading of docs/SCRIPT.md and docs/HTTP.md (line_judge.py, request_judge.py). A
+long script has every line and every document, bodies that grow, and bad lines, and a short one has groups; both are
+given at once, and in pieces of 7 bytes and of one byte. The worked rows of scripts and of requests whose ends
+tests/ends makes fail are given at once.
 
 usage: python3 -m tests.system.memory [PROGRAM] [--short]     the built program, where none is given
 The short form gives each script at once alone, no worked row, and few requests. Exit status 1 where anything differs.
@@ -30,7 +31,7 @@ import tempfile
 import threading
 import time
 
-from tests.ends.ends_of_requests import LOOK, Model, exchanges, told
+from tests.ends.ends_of_requests import LOOK, Model, exchanges, request_title
 from tests.ends.ends_of_scripts import ROWS_OF_SCRIPTS, Script
 from tests.program import CLOCK, MEMORY, PROGRAM, interposed
 from tests.reading import crash_model, line_judge
@@ -44,10 +45,12 @@ REFUSED = b"refused NoMemory\n"
 FAILED = b"refused Device\n"
 CLOSED = b"refused Closed\n"
 # What lines are answered for which the source is not asked.
-UNASKED = {b"ok\n"} | {b"refused " + name + b"\n" for name in [b"BadLine", b"BadMoment", b"BadName", b"BadHex", b"BadType", b"LongLine"]}
+UNASKED = {b"ok\n"} | {b"refused " + name + b"\n"
+                       for name in [b"BadLine", b"BadMoment", b"BadName", b"BadHex", b"BadType", b"LongLine"]}
 # How many requests the short form has.
 SHORT = 2
-# From this many bytes on a line is kept in memory, and so are the parts of an item. These lines ask the source for memory.
+# From this many bytes on a line is kept in memory, and so are the parts of an item. These lines ask the source for
+# memory.
 KEPT, ITEMS, ASKING = 9, (b"put ", b"delete "), (b"publish", b"verify")
 # The ends of responses to requests whose head is refused.
 OF_HEADS = (b"\nTooLong\n", b"\nNoLength\n", b"\nTransferEncoding\n", b"\nBadMethod\n")
@@ -118,6 +121,7 @@ GROUPS = [
 
 
 def feed(pipe, data, piece):
+    """Writes data to a pipe in pieces, and closes it."""
     try:
         for i in range(0, len(data), piece):
             os.write(pipe.fileno(), data[i:i + piece])
@@ -142,7 +146,7 @@ def run(program, lines, piece, shim, refused_at):
 def usual(lines):
     """The answer to each line where no growth is refused."""
     judge = line_judge.Judge(Source(crash_model.State(BASE, LIMIT), SIZE))
-    return [b"".join(judge.answer(it) for it in line.split(b"\n")) for line in lines]
+    return [b"".join(judge.answer(part) for part in line.split(b"\n")) for line in lines]
 
 
 def answers(output):
@@ -170,29 +174,29 @@ def wrong(lines, result):
         return output != b"" and "an output before the end"
     if status != 0 or error != b"":
         return f"status {status}, {error}"
-    given = answers(output)
-    refused = [i for i, answer in enumerate(given) if answer == REFUSED]
-    if len(given) != len(lines) or len(refused) > 1:
-        return f"{len(given)} answers, refused {refused}"
-    if FAILED in given:
-        place = given.index(FAILED)
+    received = answers(output)
+    refused = [i for i, answer in enumerate(received) if answer == REFUSED]
+    if len(received) != len(lines) or len(refused) > 1:
+        return f"{len(received)} answers, refused {refused}"
+    if FAILED in received:
+        place = received.index(FAILED)
         whole = usual(lines)
         before, behind = whole[:place], whole[place + 1:]
         wanted = before + [FAILED] + [answer if answer in UNASKED else CLOSED for answer in behind]
-        return given != wanted and f"other answers around the fault in line {place}"
+        return received != wanted and f"other answers around the fault in line {place}"
     if not refused:
-        return given != usual(lines) and "other answers, and none refused"
+        return received != usual(lines) and "other answers, and none refused"
     place = refused[0]
     if not takes_room(lines[place]) and lines[place] not in ASKING:
         return f"line {place} is refused, which takes no memory"
     without = usual(lines[:place] + lines[place + 1:])
-    return without != given[:place] + given[place + 1:] and f"other answers around line {place}"
+    return without != received[:place] + received[place + 1:] and f"other answers around line {place}"
 
 
 def passing():
     """What is wrong and not noticed: answers of a program that goes on otherwise behind a refused growth."""
     whole = usual(LINES)
-    place = next(i for i, it in enumerate(whole) if it.startswith(b"created"))
+    place = next(i for i, answer in enumerate(whole) if answer.startswith(b"created"))
     right = usual(LINES[:place] + LINES[place + 1:])
     made = {
         "a refused line is done": [*whole[:place], REFUSED, *whole[place + 1:]],
@@ -202,8 +206,9 @@ def passing():
         "an answer is left out": whole[:-1],
         "a line is refused that takes no memory": [*whole[:-1], REFUSED],
     }
-    found = [name for name, it in made.items() if not wrong(LINES, (0, b"".join(it), b""))]
-    found += ["a request is answered 503 that takes no memory"] if no_memory(Model(crash_model.State(BASE, LIMIT)), LOOK) != {b""} else []
+    found = [name for name, parts in made.items() if not wrong(LINES, (0, b"".join(parts), b""))]
+    found += ["a request is answered 503 that takes no memory"] if no_memory(
+        Model(crash_model.State(BASE, LIMIT)), LOOK) != {b""} else []
     is_right = not wrong(LINES, (0, b"".join([*right[:place], REFUSED, *right[place:]]), b""))
     return found + ([] if is_right else ["the right answers, which are as they have to be"])
 
@@ -236,47 +241,53 @@ def no_memory(model, sent):
     if not takes_memory(model, sent):
         return {b""}
     waits = model.peeked(sent).startswith(CONTINUE)
-    it = response(503, date_of(CLOCK), "text/plain", b"NoMemory\n", is_head=sent.startswith(b"HEAD "))
-    return {b"", it, CONTINUE + it} if waits else {b"", it}
+    refusal = response(503, date_of(CLOCK), "text/plain", b"NoMemory\n", is_head=sent.startswith(b"HEAD "))
+    return {b"", refusal, CONTINUE + refusal} if waits else {b"", refusal}
 
 
 def refuse_in_request(program, room, state, sent, growth):
-    """Refuses a growth while a request, a look and the request again are answered. Gives the answers refused, and a fault."""
+    """Refuses a growth while a request, a look and the request again are answered.
+
+    Gives the answers refused, and a fault.
+    """
     model, refused = Model(state), []
     with edge_runs.served(program, room, 3, GROWTH_REFUSED_AT=str(growth)) as (port, _):
-        for place, it in enumerate([sent, LOOK, sent]):
-            found, _ = exchanged(port, [it])
-            if found == model.peeked(it):
-                model.answer(it)
-            elif not refused and found in no_memory(model, it):
+        for place, request in enumerate([sent, LOOK, sent]):
+            found, _ = exchanged(port, [request])
+            if found == model.peeked(request):
+                model.answer(request)
+            elif not refused and found in no_memory(model, request):
                 refused.append(place)
             else:
                 return refused, f"request {place} is answered {found!r}, refused before {refused}"
     return refused, None
 
 
-def refuse_in_requests(program, room, most=None):
-    """Refuses each growth of each request, or of so many, on a file on which those before it were done. Gives how many answers are wrong."""
+def refuse_in_requests(program, room, limit=None):
+    """Refuses each growth of each request, or of so many, on a file on which those before it were done.
+
+    Gives how many answers are wrong.
+    """
     file = os.path.join(room, edge_runs.formatted(program, room))
     model, faults = Model(crash_model.State(BASE, LIMIT)), 0
-    for sent, _ in exchanges()[:most]:
-        with open(file, "rb") as it:
-            kept = it.read()
+    for sent, _ in exchanges()[:limit]:
+        with open(file, "rb") as stream:
+            content = stream.read()
         growth, quiet, within = 0, 0, 0
         # Six growths in a row that are those of the requests behind it, or nobody's.
         while quiet < 6:
             growth += 1
-            with open(file, "wb") as it:
-                it.write(kept)
+            with open(file, "wb") as stream:
+                stream.write(content)
             refused, fault = refuse_in_request(program, room, model.source.state, sent, growth)
             within, quiet = within + (refused == [0]), 0 if refused == [0] else quiet + 1
             if fault:
                 faults += 1
-                print(f"{told(sent)}, growth {growth}: {fault}")
-        print(f"{told(sent)}: {within} growths refused in turn", flush=True)
+                print(f"{request_title(sent)}, growth {growth}: {fault}")
+        print(f"{request_title(sent)}: {within} growths refused in turn", flush=True)
         faults += within == 0
-        with open(file, "wb") as it:
-            it.write(kept)
+        with open(file, "wb") as stream:
+            stream.write(content)
         with edge_runs.served(program, room, 1) as (port, _):
             faults += exchanged(port, [sent])[0] != model.answer(sent)
     return faults
@@ -285,21 +296,23 @@ def refuse_in_requests(program, room, most=None):
 def refuse_in_scripts(program, room, shim, is_short):
     """Refuses each growth of each script, in each kind of pieces. Gives how many answers are wrong."""
     scripts, rows = [("each line", LINES), ("groups", GROUPS)], [] if is_short else ROWS_OF_SCRIPTS
-    faults = sum(refuse_in_script(program, shim, *script, piece) for script in scripts for piece in ((0,) if is_short else (0, 7, 1)))
+    faults = sum(refuse_in_script(program, shim, *script, piece) for script in scripts
+                 for piece in ((0,) if is_short else (0, 7, 1)))
     return faults + sum(refuse_in_script(program, shim, name, Script(name).lines, 0) for name in rows)
 
 
 def main():
-    given = [it for it in sys.argv[1:] if it != "--short"]
-    program, is_short = os.path.abspath(given[0] if given else PROGRAM), "--short" in sys.argv[1:]
+    """Refuses each growth in turn, and gives the exit status."""
+    arguments = [word for word in sys.argv[1:] if word != "--short"]
+    program, is_short = os.path.abspath(arguments[0] if arguments else PROGRAM), "--short" in sys.argv[1:]
     with tempfile.TemporaryDirectory() as room:
         shim = interposed(room, "refusing", SHIM)
         faults = refuse_in_scripts(program, room, shim, is_short)
         faults += opening_refusals.look(program, room, shim["LD_PRELOAD"])
         faults += refuse_in_requests(program, room, SHORT if is_short else None)
-    for it in passing():
+    for name in passing():
         faults += 1
-        print(f"not noticed: {it}")
+        print(f"not noticed: {name}")
     print(f"memory: {faults} wrong")
     return 1 if faults else 0
 

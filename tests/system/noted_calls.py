@@ -2,8 +2,8 @@
 
 The program runs with a C library (`cc` builds it) that notes each call on a file whose path begins with no `/`, or is
 that of ALSO, each read of standard input, of which one gives a line, and each write of standard output. It takes and
-gives no more than AT_ONCE bytes of a file in one call, lets the call FAILS fail, and ends before the call STOPS, counted from 1.
-Of the offsets of a file it gives the system the bits READ_BITS and WRITE_BITS alone.
+gives no more than AT_ONCE bytes of a file in one call, lets the call FAILS fail, and ends before the call STOPS,
+counted from 1. Of the offsets of a file it gives the system the bits READ_BITS and WRITE_BITS alone.
 """
 import collections
 import os
@@ -94,8 +94,12 @@ off_t lseek64(int fd, off_t at, int whence) { return lseek(fd, at, whence); }
 int flock(int fd, int how) { return PASSED("lock", fd, syscall(SYS_flock, fd, how), how, 0); }
 int ftruncate(int fd, off_t n) { return PASSED("length", fd, syscall(SYS_ftruncate, fd, n), n, 0); }
 int ftruncate64(int fd, off_t n) { return ftruncate(fd, n); }
-int fallocate(int fd, int mode, off_t at, off_t n) { return PASSED("room", fd, syscall(SYS_fallocate, fd, mode, at, n), at, n); }
-int posix_fallocate(int fd, off_t at, off_t n) { return PASSED("room", fd, syscall(SYS_fallocate, fd, 0, at, n), at, n) ? errno : 0; }
+int fallocate(int fd, int mode, off_t at, off_t n) {
+    return PASSED("room", fd, syscall(SYS_fallocate, fd, mode, at, n), at, n);
+}
+int posix_fallocate(int fd, off_t at, off_t n) {
+    return PASSED("room", fd, syscall(SYS_fallocate, fd, 0, at, n), at, n) ? errno : 0;
+}
 /* This call answers its error. */
 int posix_fadvise(int fd, off_t at, off_t n, int advice) {
     int result = ours(fd) && fails() ? EIO : syscall(SYS_fadvise64, fd, at, n, advice);
@@ -137,10 +141,10 @@ ssize_t read(int fd, void *to, size_t n) {
     return came;
 }
 """
-# A call: its name, the path of its file, what it was told (an offset and a length, or what else it takes), its result, and
-# the number of its file.
+# A call: its name, the path of its file, what it was told (an offset and a length, or what else it takes), its result,
+# and the number of its file.
 Call = collections.namedtuple("Call", "name path words result fd")
-Ran = collections.namedtuple("Ran", "status output error calls")
+Outcome = collections.namedtuple("Outcome", "status output error calls")
 # The names of calls that are told an offset and a length, and of those that are told one number.
 PLACED, TOLD = ("read", "write", "room"), ("lock", "length")
 
@@ -152,19 +156,22 @@ def calls_of(text):
         name, fd, result, at, length, more = line.split(" ", 5)
         fd, result = int(fd), int(result)
         path = more if name in ("make", "create", "open") else paths.get(fd, "")
-        told = {"advise": [at, length, more]} | dict.fromkeys(PLACED, [at, length]) | dict.fromkeys(TOLD, [at])
-        found.append(Call(name, path, " ".join(told.get(name, [])), result, fd))
+        fields = {"advise": [at, length, more]} | dict.fromkeys(PLACED, [at, length]) | dict.fromkeys(TOLD, [at])
+        found.append(Call(name, path, " ".join(fields.get(name, [])), result, fd))
         if result >= 0 and name in ("make", "create", "open", "copy"):
             paths[result] = path
     return found
 
 
 def texts(calls):
-    """A text for each call: `write source.disk 1024 86`. A read of input is `line`, and what is written of one answer is one `answer`."""
+    """A text for each call: `write source.disk 1024 86`.
+
+    A read of input is `line`, and what is written of one answer is one `answer`.
+    """
     found = []
-    for it in calls:
-        text = it.name if it.name in ("line", "answer") else f"{it.name} {it.path} {it.words}".rstrip()
-        text += " fails" if it.result < 0 else ""
+    for call in calls:
+        text = call.name if call.name in ("line", "answer") else f"{call.name} {call.path} {call.words}".rstrip()
+        text += " fails" if call.result < 0 else ""
         if text != "answer" or found[-1:] != ["answer"]:
             found.append(text)
     return found
@@ -179,40 +186,47 @@ class Room:
         source.write_text(SHIM)
         subprocess.run(["cc", "-O1", "-shared", "-fPIC", "-o", self.shim, source], check=True)
 
-    def environment(self, **asked):
+    def environment(self, **settings):
         """The environment in which the library above notes calls, as it is asked to; what was noted before is gone."""
         log = self.folder / "calls"
         log.unlink(missing_ok=True)
         self.runs += 1
-        named = {"LD_PRELOAD": self.shim, "CALLS": log, **asked}
-        return {**os.environ, **{name: str(it) for name, it in named.items()}}
+        variables = {"LD_PRELOAD": self.shim, "CALLS": log, **settings}
+        return {**os.environ, **{name: str(value) for name, value in variables.items()}}
 
     def noted(self):
         """The calls that were noted so far."""
         log = self.folder / "calls"
         return calls_of(log.read_text() if log.exists() else "")
 
-    def run(self, words, script=b"", closed=(), most=None, **asked):
-        """One run, and its calls. The streams of these numbers are closed, and no file may be longer than `most` bytes."""
-        env = self.environment(**asked)
+    def run(self, words, script=b"", closed=(), limit=None, **settings):
+        """One run, and its calls.
+
+        The streams of these numbers are closed, and no file may be longer than `limit` bytes.
+        """
+        env = self.environment(**settings)
 
         def begin():
             signal.signal(signal.SIGXFSZ, signal.SIG_IGN)
-            if most is not None:
-                resource.setrlimit(resource.RLIMIT_FSIZE, (most, most))
+            if limit is not None:
+                resource.setrlimit(resource.RLIMIT_FSIZE, (limit, limit))
             for fd in closed:
                 os.close(fd)
 
-        how = {"stdout": subprocess.PIPE, "stderr": subprocess.PIPE, "env": env, "cwd": self.folder, "preexec_fn": begin}
-        ran = subprocess.run([self.program, *words], input=script, **how)
-        return Ran(ran.returncode, ran.stdout, ran.stderr, self.noted())
+        how = {"stdout": subprocess.PIPE, "stderr": subprocess.PIPE, "env": env, "cwd": self.folder,
+               "preexec_fn": begin}
+        finished = subprocess.run([self.program, *words], input=script, **how)
+        return Outcome(finished.returncode, finished.stdout, finished.stderr, self.noted())
 
     def bytes(self, name="source.disk"):
+        """The bytes of a file, none where it is missing."""
         path = self.folder / name
         return path.read_bytes() if path.exists() else b""
 
     def put(self, data, name="source.disk"):
+        """Writes a file."""
         (self.folder / name).write_bytes(data)
 
     def clear(self, name="source.disk"):
+        """Removes a file."""
         (self.folder / name).unlink(missing_ok=True)

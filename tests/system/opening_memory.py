@@ -1,7 +1,9 @@
-"""How much memory an opening may ask for, in figures that are written down: nothing here is taken from the program that is looked at.
+"""How much memory an opening may ask for, in figures that are written down: nothing here is taken from the program that
+is looked at.
 
-An opening reads the directory, and the pages that it names, so it may ask for what these take. A list that grows item by item asks for
-room for 4 items, then for twice as many whenever it is full. The figures were measured on the built program, and have a margin.
+An opening reads the directory, and the pages that it names, so it may ask for what these take. A list that grows item
+by item asks for room for 4 items, then for twice as many whenever it is full. The figures were measured on the built
+program, and have a margin.
 """
 from tests.reading import disk_reader
 from tests.reading.disk_formats import BLOCK, sha256
@@ -22,20 +24,21 @@ SHORTEST, HEAD = 11, 5
 
 def grown(count):
     """For how many items a list of this many asks in all, as it grows."""
-    room, asked = 0, 0
+    room, total = 0, 0
     while room < count:
         room = 2 * room or 4
-        asked += room
-    return asked
+        total += room
+    return total
 
 
 def is_placed(entry, size):
     """Whether an entry has the blocks of its length, behind the slots and on the disk."""
-    return entry.first >= 2 and entry.blocks == -(-entry.length // BLOCK) and entry.first + entry.blocks <= size // BLOCK
+    has_blocks = entry.blocks == -(-entry.length // BLOCK)
+    return entry.first >= 2 and has_blocks and entry.first + entry.blocks <= size // BLOCK
 
 
-def named(disk):
-    """What the disk names, as far as it is well-formed: the length of the directory, and the entries of its pages, a list for each list."""
+def lists_of(disk):
+    """What the disk names, if well-formed: the length of the directory, and the entries of the pages of each list."""
     try:
         root = disk_reader.root(disk)
     except disk_reader.NoRoot:
@@ -60,24 +63,26 @@ def named(disk):
 
 def items_of(disk, entry):
     """How many items a page has: as many as it says, and no more than its bytes have room for."""
-    said = int.from_bytes(disk[entry.first * BLOCK + 1 : entry.first * BLOCK + HEAD], "big")
-    return max(min(said, (entry.length - HEAD) // SHORTEST), 0)
+    count = int.from_bytes(disk[entry.first * BLOCK + 1 : entry.first * BLOCK + HEAD], "big")
+    return max(min(count, (entry.length - HEAD) // SHORTEST), 0)
 
 
 def allowed(disk):
     """How many bytes an opening of this disk may ask for in all."""
-    length, lists = named(disk)
+    length, lists = lists_of(disk)
     pages = [entry for entries in lists for entry in entries]
-    every = BEGUN + len(disk) // OF_FILE + READ * length + PAGE * sum(grown(len(it)) for it in lists)
-    if not all(is_placed(it, len(disk)) for it in pages):
+    every = BEGUN + len(disk) // OF_FILE + READ * length + PAGE * sum(grown(len(entries)) for entries in lists)
+    if not all(is_placed(page, len(disk)) for page in pages):
         return every
-    held = set(lists[0]) if lists else set()
-    read = [it for entries in lists[:2] for it in entries] + [it for entries in lists[2:] for it in entries if it not in held]
-    return every + sum(READ * it.length + ITEM * grown(items_of(disk, it)) for it in read)
+    catalogue = set(lists[0]) if lists else set()
+    read = [entry for entries in lists[:2] for entry in entries]
+    read += [entry for entries in lists[2:] for entry in entries if entry not in catalogue]
+    return every + sum(READ * entry.length + ITEM * grown(items_of(disk, entry)) for entry in read)
 
 
 def largest(disk):
     """The bytes of the largest list that an opening of this disk has to grow."""
-    _, lists = named(disk)
-    sizes = [2 * max(PAGE * len(entries), *(ITEM * items_of(disk, it) for it in entries)) for entries in lists if entries]
+    _, lists = lists_of(disk)
+    sizes = [2 * max(PAGE * len(entries), *(ITEM * items_of(disk, entry) for entry in entries)) for entries in lists
+             if entries]
     return max(sizes, default=0)

@@ -1,12 +1,14 @@
-"""Opens snapshots that are taken while a source is put to: of a file, of a file system, and of the device below one at one moment.
+"""Opens snapshots that are taken while a source is put to: of a file, of a file system, and of the device below one at
+one moment.
 
-Each function below is one kind of snapshot, and its first line says which. One client puts to a served source, one resource after another;
-amid that each snapshot is taken, with what was answered before it and what had begun by its end. Each has to open afterwards, with a number of
-changes within these bounds, and with the bodies that this many puts leave. A device at one moment, mounted anew, is what a machine
-finds that takes over from another one: what the lost machine had in memory only is not there.
+Each function below is one kind of snapshot, and its first line says which. One client puts to a served source, one
+resource after another; amid that each snapshot is taken, with what was answered before it and what had begun by its
+end. Each has to open afterwards, with a number of changes within these bounds, and with the bodies that this many puts
+leave. A device at one moment, mounted anew, is what a machine finds that takes over from another one: what the lost
+machine had in memory only is not there.
 
-It needs root, loop devices, mkfs.xfs (whose files can be copied at one moment), mkfs.ext4 and mkfs.btrfs. All is mounted in a name space of its
-own, so that nobody else sees it. `make test` does not run it.
+It needs root, loop devices, mkfs.xfs (whose files can be copied at one moment), mkfs.ext4 and mkfs.btrfs. All is
+mounted in a name space of its own, so that nobody else sees it. `make test` does not run it.
 
 usage: python3 -m tests.system.snapshots [PROGRAM] [NAME..]     names of functions (all, where none is given)
 Exit status 1 where a snapshot does not hold what it should, 2 where this machine has not what it needs.
@@ -34,10 +36,10 @@ TOOLS = ["unshare", "losetup", "mount", "mkfs.xfs", "mkfs.ext4", "mkfs.btrfs", "
 
 def done(*words):
     """What a command writes, which has to succeed."""
-    ran = subprocess.run(words, capture_output=True, text=True, timeout=SECONDS)
-    if ran.returncode:
-        raise Differs(f"{' '.join(map(str, words))}: {ran.stderr.strip()}")
-    return ran.stdout.strip()
+    finished = subprocess.run(words, capture_output=True, text=True, timeout=SECONDS)
+    if finished.returncode:
+        raise Differs(f"{' '.join(map(str, words))}: {finished.stderr.strip()}")
+    return finished.stdout.strip()
 
 
 def body(number):
@@ -46,7 +48,7 @@ def body(number):
 
 
 def put_on(url, counts, is_over):
-    """Puts one resource after another until it is over, and counts how many puts have begun and how many were answered."""
+    """Puts resources one after another until it is over, and counts the puts that began and those answered."""
     while not is_over.is_set():
         number = counts["begun"]
         counts["begun"] += 1
@@ -59,7 +61,7 @@ def put_on(url, counts, is_over):
 
 
 def bounds_of(program, folder, snapshot):
-    """Takes snapshots amid puts to a source in a folder: what was answered before each, and what had begun by its end."""
+    """Takes snapshots amid puts to a source: what was answered before each, and what had begun by its end."""
     done(program, "format", f"{folder}/a.disk", str(16 << 20), "http://a.example", "100")
     counts, is_over, bounds = {"begun": 0, "answered": 0}, threading.Event(), []
     with serving(program, folder) as (url, _):
@@ -82,16 +84,17 @@ def bounds_of(program, folder, snapshot):
 def look(program, disk, bounds):
     """Looks whether a file holds what a number of puts within these bounds leave, and tells it."""
     def run(lines):
-        ran = subprocess.run([program, "run", disk], input="\n".join(lines).encode(), capture_output=True, timeout=SECONDS)
-        compare(f"{disk}: its opening", b"", ran.stderr)
-        return ran.stdout
+        finished = subprocess.run([program, "run", disk], input="\n".join(lines).encode(), capture_output=True,
+                                  timeout=SECONDS)
+        compare(f"{disk}: its opening", b"", finished.stderr)
+        return finished.stdout
 
     changes = int(run(["status"]).split()[3])
     if not bounds[0] <= changes <= bounds[1]:
         raise Differs(f"{disk} holds {changes} puts, not {bounds[0]} to {bounds[1]}")
     last = {number % NAMES: number for number in range(changes)}
-    wanted = b"".join(b"bytes %d\n%b\n" % (len(body(it)), body(it)) for it in last.values())
-    compare(disk, wanted, run([f"show /resource/{it}" for it in last]))
+    wanted = b"".join(b"bytes %d\n%b\n" % (len(body(number)), body(number)) for number in last.values())
+    compare(disk, wanted, run([f"show /resource/{name}" for name in last]))
 
 
 @contextlib.contextmanager
@@ -106,6 +109,7 @@ def attached(file):
 
 @contextlib.contextmanager
 def mounted(device, folder, options="defaults"):
+    """A mounted file system."""
     os.makedirs(folder, exist_ok=True)
     done("mount", "-o", options, device, folder)
     try:
@@ -129,13 +133,15 @@ def copying(room):
 
 
 def copied(source, to):
+    """A copy of a file that shares its blocks."""
     done("cp", "--reflink=always", source, to)
 
 
 def a_copy_by_reflink(program, room):
     """A copy of the file by `cp --reflink=always` on XFS."""
     with copying(room) as folder:
-        for number, bounds in enumerate(bounds_of(program, folder, lambda it: copied(f"{folder}/a.disk", f"{folder}/{it}.disk"))):
+        for number, bounds in enumerate(bounds_of(program, folder,
+                                                  lambda name: copied(f"{folder}/a.disk", f"{folder}/{name}.disk"))):
             look(program, f"{folder}/{number}.disk", bounds)
 
 
@@ -143,15 +149,17 @@ def a_snapshot_of_btrfs(program, room):
     """A snapshot of a subvolume of btrfs."""
     with mounted(new_file(f"{room}/btrfs", "600M", "btrfs"), f"{room}/top", "loop") as top:
         done("btrfs", "subvolume", "create", f"{top}/volume")
-        taken = bounds_of(program, f"{top}/volume", lambda it: done("btrfs", "subvolume", "snapshot", f"{top}/volume", f"{top}/{it}"))
+        taken = bounds_of(program, f"{top}/volume",
+                          lambda name: done("btrfs", "subvolume", "snapshot", f"{top}/volume", f"{top}/{name}"))
         for number, bounds in enumerate(taken):
             look(program, f"{top}/{number}/a.disk", bounds)
 
 
 def device_at_one_moment(program, room, kind, size, options):
+    """Snapshots of a device under a file system, all of it at one moment."""
     with copying(room) as folder:
         with mounted(new_file(f"{folder}/device", size, kind), f"{room}/above", "loop") as above:
-            taken = bounds_of(program, above, lambda it: copied(f"{folder}/device", f"{folder}/{it}"))
+            taken = bounds_of(program, above, lambda name: copied(f"{folder}/device", f"{folder}/{name}"))
         for number, bounds in enumerate(taken):
             with mounted(f"{folder}/{number}", f"{room}/anew", options) as anew:
                 look(program, f"{anew}/a.disk", bounds)
@@ -175,7 +183,7 @@ def one_device_of_two(program, room):
             done("mkfs.btrfs", "-q", "-d", "raid1", "-m", "raid1", first, second)
             done("btrfs", "device", "scan", first, second)
             with mounted(first, f"{room}/above") as above:
-                taken = bounds_of(program, above, lambda it: copied(f"{folder}/second", f"{folder}/{it}"))
+                taken = bounds_of(program, above, lambda name: copied(f"{folder}/second", f"{folder}/{name}"))
         for number, bounds in enumerate(taken):
             # (the system knows a device by what is written on it, and all of these say that they are the second)
             done("btrfs", "device", "scan", "--forget")
@@ -188,18 +196,20 @@ KINDS = [a_copy_by_reflink, a_snapshot_of_btrfs, the_device_below_ext4, the_devi
 
 
 def main():
-    given = sys.argv[1:]
-    program = os.path.abspath(given.pop(0) if given and os.path.isfile(given[0]) else PROGRAM)
+    """Tries the kinds that are named, or all, and gives the exit status."""
+    arguments = sys.argv[1:]
+    program = os.path.abspath(arguments.pop(0) if arguments and os.path.isfile(arguments[0]) else PROGRAM)
     os.environ["PATH"] += ":/usr/sbin:/sbin"
-    missing = [it for it in TOOLS if not shutil.which(it)] + ["root"] * bool(os.getuid())
+    missing = [tool for tool in TOOLS if not shutil.which(tool)] + ["root"] * bool(os.getuid())
     missing += [] if pathlib.Path("/dev/loop-control").exists() else ["loop devices"]
     if missing:
         print(f"snapshots: not tried, as this machine has no {', '.join(missing)}")
         return 2
     if INSIDE not in os.environ:
-        words = ["unshare", "-m", "--propagation", "private", sys.executable, "-m", "tests.system.snapshots", program, *given]
+        words = ["unshare", "-m", "--propagation", "private", sys.executable, "-m", "tests.system.snapshots", program,
+                 *arguments]
         return subprocess.run(words, env=os.environ | {INSIDE: "1"}).returncode
-    kinds, failed = [it for it in KINDS if not given or it.__name__ in given], 0
+    kinds, failed = [kind for kind in KINDS if not arguments or kind.__name__ in arguments], 0
     for kind in kinds:
         with tempfile.TemporaryDirectory() as room:
             try:

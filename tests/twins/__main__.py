@@ -7,9 +7,9 @@ to a program.
 usage: python3 -m tests.twins [PROVED PLAIN] [--short] [--cases N] [--seed N] [--jobs N]
        python3 -m tests.twins [PROVED PLAIN] --piece N      one piece again by its number
        python3 -m tests.twins [PROVED] --self-test          whether a program that does something otherwise is noticed
-A case is a line of a script, a disk, a request or a command line. There are 1,000,000 at least where no number is given,
-and 10,000 in the short form, which begins with the self-test. The last line is 'N cases in M pieces, K differ', and the
-exit status 1 where K is not 0, and 77 where there is no plain program.
+A case is a line of a script, a disk, a request or a command line. There are 1,000,000 at least where no number is
+given, and 10,000 in the short form, which begins with the self-test. The last line is 'N cases in M pieces, K differ',
+and the exit status 1 where K is not 0, and 77 where there is no plain program.
 """
 import argparse
 import collections
@@ -50,60 +50,63 @@ def look(twins, seed, piece):
         return kind.__name__, 1, f"the hunt cannot tell: {fault!r}"
 
 
-def hunt(asked, twins):
+def hunt(options, twins):
     """Goes on until there were as many cases as are asked for. Gives the cases, the pieces, and how many differ."""
     counts, pieces, differ = collections.Counter(), 0, 0
-    with multiprocessing.Pool(asked.jobs) as pool:
-        while counts.total() < asked.cases:
+    with multiprocessing.Pool(options.jobs) as pool:
+        while counts.total() < options.cases:
             batch = range(pieces, pieces + TELLING)
-            for piece, (kind, count, fault) in zip(batch, pool.imap(functools.partial(look, twins, asked.seed), batch)):
+            looks = pool.imap(functools.partial(look, twins, options.seed), batch)
+            for piece, (kind, count, fault) in zip(batch, looks):
                 counts[kind] += count
                 differ += bool(fault)
                 pieces += 1
                 if fault and differ <= TOLD:
                     print(f"piece {piece}, {kind}: {fault}", flush=True)
-                if counts.total() >= asked.cases:
+                if counts.total() >= options.cases:
                     break
             print(f"{counts.total()} cases so far, {differ} pieces differ", flush=True)
     print(", ".join(f"{count} of {kind}" for kind, count in sorted(counts.items())))
     return counts.total(), pieces, differ
 
 
-def asked_for():
+def arguments():
     """What the command line asks for."""
-    it = argparse.ArgumentParser(usage="python3 -m tests.twins [PROVED PLAIN] [--short] [--cases N] [--jobs N] ..")
-    it.add_argument("proved", nargs="?", default=str(ROOT / PROVED))
-    it.add_argument("plain", nargs="?", default=str(ROOT / PLAIN.format((ROOT / "VERSION").read_text().strip())))
-    it.add_argument("--short", action="store_true")
-    it.add_argument("--self-test", action="store_true")
-    it.add_argument("--cases", type=int)
-    it.add_argument("--piece", type=int)
-    it.add_argument("--seed", type=int, default=SEED)
-    it.add_argument("--jobs", type=int, default=len(os.sched_getaffinity(0)))
-    asked = it.parse_args()
-    asked.cases = asked.cases or (SHORT if asked.short else CASES)
-    return asked
+    parser = argparse.ArgumentParser(usage="python3 -m tests.twins [PROVED PLAIN] [--short] [--cases N] [--jobs N] ..")
+    parser.add_argument("proved", nargs="?", default=str(ROOT / PROVED))
+    parser.add_argument("plain", nargs="?", default=str(ROOT / PLAIN.format((ROOT / "VERSION").read_text().strip())))
+    parser.add_argument("--short", action="store_true")
+    parser.add_argument("--self-test", action="store_true")
+    parser.add_argument("--cases", type=int)
+    parser.add_argument("--piece", type=int)
+    parser.add_argument("--seed", type=int, default=SEED)
+    parser.add_argument("--jobs", type=int, default=len(os.sched_getaffinity(0)))
+    options = parser.parse_args()
+    options.cases = options.cases or (SHORT if options.short else CASES)
+    return options
 
 
 def main():
     """The hunt, one piece of it, or its self-test."""
-    asked, started = asked_for(), time.time()
-    proved, plain = (os.path.abspath(it) for it in (asked.proved, asked.plain))
-    if not asked.self_test and not os.access(plain, os.X_OK):
+    options, started = arguments(), time.time()
+    proved, plain = (os.path.abspath(path) for path in (options.proved, options.plain))
+    if not options.self_test and not os.access(plain, os.X_OK):
         print(f"twins: NOT TRIED: there is no plain program, {plain}: make rust, and cargo build --release there")
         return NOT_TRIED
     with room_in_memory("twins-") as folder:
         environment = with_clock(folder)
         twins = Twins((proved, plain), Path(folder), environment)
-        if asked.piece is not None:
-            kind, count, fault = look(twins, asked.seed, asked.piece)
-            print(f"piece {asked.piece}, {count} of {kind}: {fault or 'the same'}")
+        if options.piece is not None:
+            kind, count, fault = look(twins, options.seed, options.piece)
+            print(f"piece {options.piece}, {count} of {kind}: {fault or 'the same'}")
             return 1 if fault else 0
-        blind = wrong_twins.look(proved, Path(folder), environment, asked.seed) if asked.short or asked.self_test else 0
-        if asked.self_test:
+        blind = 0
+        if options.short or options.self_test:
+            blind = wrong_twins.look(proved, Path(folder), environment, options.seed)
+        if options.self_test:
             return 1 if blind else 0
-        print(f"seed {asked.seed}", flush=True)
-        cases, pieces, differ = hunt(asked, twins)
+        print(f"seed {options.seed}", flush=True)
+        cases, pieces, differ = hunt(options, twins)
     print(f"{time.time() - started:.0f} seconds")
     print(f"{cases} cases in {pieces} pieces, {differ} differ")
     return 1 if differ or blind else 0

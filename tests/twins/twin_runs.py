@@ -53,15 +53,16 @@ class Twins:
         """Runs both with these words, in which `FILE` is the file of each, and compares how they end."""
         found = []
         for program, file in zip(self.programs, self.files()):
-            given = [it.replace("FILE", file) for it in words]
-            ran = subprocess.run([program, *given], input=script, capture_output=True, timeout=SECONDS, check=False)
-            found.append((ran.returncode, ran.stdout, ran.stderr))
+            arguments = [word.replace("FILE", file) for word in words]
+            finished = subprocess.run([program, *arguments], input=script, capture_output=True, timeout=SECONDS,
+                                      check=False)
+            found.append((finished.returncode, finished.stdout, finished.stderr))
         same(f"`{words[0]}`", ["status", "output", "messages"], *found)
 
     def same_files(self, ending: str = "") -> None:
         """Compares the files of both, or those beside them. A file may be missing, if it is for both."""
-        paths = [Path(it + ending) for it in self.files()]
-        same("the file", ["bytes"], *((it.read_bytes() if it.exists() else b"",) for it in paths))
+        paths = [Path(path + ending) for path in self.files()]
+        same("the file", ["bytes"], *((path.read_bytes() if path.exists() else b"",) for path in paths))
 
     def cleared(self) -> None:
         """Takes the files away."""
@@ -174,7 +175,8 @@ def command_lines(rng: random.Random) -> Iterator[list[str]]:
         line = rng.choice([
             ["mem", *source], ["mem", *source], ["format", "FILE", *source],
             ["format", rng.choice(["/", "/nowhere/a", "", "."]), *source],
-            ["run", "FILE"], ["run", rng.choice(["/", "/dev/null", "/nowhere/a", "", "."])], ["serve", "FILE", "0", "0"],
+            ["run", "FILE"], ["run", rng.choice(["/", "/dev/null", "/nowhere/a", "", "."])],
+            ["serve", "FILE", "0", "0"],
             ["serve", "FILE", rng.choice(["x", "65536", "-1", ""]), "1"], ["copy", "FILE", "FILE", "65536"],
             ["help"], ["--version"],
         ])

@@ -1,0 +1,32 @@
+"""Tests of the look at imports: which modules import each other."""
+import tempfile
+import unittest
+from pathlib import Path
+from unittest import mock
+
+from tests.house import imports
+
+
+class Cycles(unittest.TestCase):
+    """Modules that import themselves by way of others."""
+
+    def found(self, **texts: str) -> set[str]:
+        """The modules of a cycle in a package of files with these texts."""
+        with tempfile.TemporaryDirectory() as room, mock.patch.object(imports, "PACKAGE", Path(room, "p")):
+            files = [Path(room, "p", f"{name}.py") for name in texts]
+            files[0].parent.mkdir()
+            for file, text in zip(files, texts.values()):
+                file.write_text(text)
+            return set(imports.cycle_in(imports.ours(files)))
+
+    def test_a_cycle_is_found_of_each_length_and_form(self) -> None:
+        self.assertEqual(self.found(a="import p.b", b="import p.a"), {"p.a", "p.b"})
+        self.assertEqual(self.found(a="from p import b", b="from p.c import x", c="from p.a import y"),
+                         {"p.a", "p.b", "p.c"})
+
+    def test_an_import_within_a_function_counts(self) -> None:
+        self.assertEqual(self.found(a="from p import b", b="def run():\n    from p import a\n"), {"p.a", "p.b"})
+
+    def test_what_is_no_cycle_is_none(self) -> None:
+        self.assertEqual(self.found(a="from p import b, c", b="from p import c", c="import sys",
+                                    __init__="from p import a"), set())

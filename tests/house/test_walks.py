@@ -1,0 +1,47 @@
+"""The walks of docs/ARCHITECTURE.md name functions that stand in the crates they name."""
+
+import functools
+import re
+import unittest
+from pathlib import Path
+
+ROOT = Path(__file__).resolve().parents[2]
+PAGE = ROOT / "docs" / "ARCHITECTURE.md"
+# A line of a walk: a crate, and its functions.
+STEP = re.compile(r"^ (rs_\w+) +([a-z_]+(?:, [a-z_]+)*)$")
+FUNCTION = re.compile(r"\bfn ([a-z_0-9]+)")
+
+
+def steps(text: str) -> list[tuple[str, list[str]]]:
+    """The lines of all walks of a page: each crate with its functions."""
+    walks = text.partition("\n## Three walks\n")[2].partition("\n## ")[0]
+    found = [STEP.match(line) for block in walks.split("```")[1::2] for line in block.strip("\n").splitlines()]
+    return [(step[1], step[2].split(", ")) for step in found if step]
+
+
+@functools.cache
+def functions_of(crate: Path) -> set[str]:
+    """The functions of a crate's source."""
+    return {name for file in crate.glob("src/**/*.rt") for name in FUNCTION.findall(file.read_text())}
+
+
+def missing(text: str) -> list[str]:
+    """The functions of a page's walks that their crates do not have."""
+    return [f"{crate}: {name}" for crate, names in steps(text) for name in names
+            if name not in functions_of(ROOT / "crates" / crate)]
+
+
+class Walks(unittest.TestCase):
+    """The walks of a page through functions."""
+
+    def test_each_function_stands_in_its_crate(self) -> None:
+        self.assertEqual(missing(PAGE.read_text()), [])
+
+    def test_each_line_of_a_walk_is_read(self) -> None:
+        text = PAGE.read_text().partition("\n## Three walks\n")[2].partition("\n## ")[0]
+        self.assertEqual(len(steps(PAGE.read_text())), text.count("\n rs_"))
+        self.assertEqual(text.count("```"), 6)
+
+    def test_a_function_that_moved_is_noticed(self) -> None:
+        wrong = PAGE.read_text().replace("put_from, drafted_put", "put_from, moment_of_put", 1)
+        self.assertEqual(missing(wrong), ["rs_store: moment_of_put"])

@@ -1,0 +1,59 @@
+"""Tests of the make targets where there is no Rattle kit: each says so in one line."""
+
+import os
+import re
+import shutil
+import subprocess
+import unittest
+from pathlib import Path
+
+ROOT = Path(__file__).resolve().parents[2]
+KIT, SECONDS = "rt", 120
+# What needs no kit; `make quick` needs one where a crate changed (gate/tests/test_quick.py).
+WITHOUT = {"setup", "quick", "statement", "install", "uninstall", "proof-times"}
+# How many targets there are at least: fewer were not found.
+LEAST = 20
+
+
+def targets() -> list[str]:
+    """The targets that both Makefiles name as such."""
+    texts = [(ROOT / name).read_text() for name in ("Makefile", "operations/Makefile")]
+    return [word for text in texts for line in re.findall(r"(?m)^\.PHONY:(.*)$", text) for word in line.split()]
+
+
+def path_without_kit() -> str:
+    """The folders of commands that have no kit."""
+    folders = os.environ.get("PATH", os.defpath).split(os.pathsep)
+    return os.pathsep.join(folder for folder in folders if not Path(folder, KIT).exists())
+
+
+def is_one_line(output: str) -> bool:
+    """Whether a target says in one line that there is no kit; make itself may add why it ended."""
+    lines = [line for line in output.splitlines() if not re.match(r"make(\[\d+\])?: ", line)]
+    return len(lines) == 1 and "no Rattle kit here" in lines[0]
+
+
+class WithoutKit(unittest.TestCase):
+    """The targets of the Makefile on a machine without the kit."""
+
+    def test_each_target_says_so_in_one_line(self) -> None:
+        path = path_without_kit()
+        self.assertIsNone(shutil.which(KIT, path=path))
+        due = [target for target in targets() if target not in WITHOUT]
+        self.assertGreater(len(due), LEAST)
+        for target in due:
+            with self.subTest(target):
+                environment = {**os.environ, "PATH": path, "SETUP": "no"}
+                run = subprocess.run(["make", "--no-print-directory", target], cwd=ROOT, env=environment, text=True,
+                                     stdout=subprocess.PIPE, stderr=subprocess.STDOUT, timeout=SECONDS)
+                self.assertNotEqual(run.returncode, 0)
+                self.assertTrue(is_one_line(run.stdout), run.stdout[-1000:])
+
+    def test_wrong_outputs_are_noticed(self) -> None:
+        line = "there is no Rattle kit here (the command `rt`): a release has the built program (README.md)\n"
+        end = "make: *** [Makefile:67: build] Error 1\n"
+        self.assertTrue(is_one_line(line + end))
+        for output in ("", end, line + line, f"Building the program\n{line}", "FileNotFoundError: 'rt'\n",
+                       f"Traceback (most recent call last):\n{line}"):
+            self.assertFalse(is_one_line(output))
+

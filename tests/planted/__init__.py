@@ -1,0 +1,1 @@
+"""Bugs that are planted one at a time, each of which a check has to notice (tests/README.md)."""
