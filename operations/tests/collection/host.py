@@ -1,4 +1,6 @@
-"""A collection on this machine: its settings, its sources, and nginx with TLS before them, on the site that `ropepeach collection` makes."""
+"""A collection on this machine: its settings, its sources, and nginx with TLS before them, on the site that `ropepeach
+collection` makes.
+"""
 import contextlib
 import os
 import pathlib
@@ -13,7 +15,8 @@ from urllib.parse import urlsplit
 
 from operations.tests.collection.measuring import used_by
 from operations.tests.mirror.mirrors import DIRECT
-from operations.tests.system.install_looks import HEAD, told_by, wait_for
+from operations.tests.system.install_looks import HEAD
+from operations.tests.system.install_shared import told_by, wait_for
 from operations.tests.tools import running
 from operations.tests.tools.running import SECONDS, Server, files_of, same
 from tests.program import TOOLS, Differs
@@ -31,14 +34,15 @@ class Host:
     """A host of several sources, in the folder that a check is in. `with` starts it, and ends all that it started."""
 
     def __init__(self, program, room, names, size=8 << 20, limit=100, address="", page=""):
-        self.page, self.program, self.room, self.size, self.limit = page, program, pathlib.Path(room).resolve(), size, limit
+        self.page, self.program, self.room, self.size, self.limit = page, program, pathlib.Path(
+            room).resolve(), size, limit
         # The seconds of a processor that sources used which have ended.
         self.port, self.nginx, self.ended = free_port(), None, 0.0
         self.address, self.sources = address or f"https://127.0.0.1:{self.port}", {}
         certify(self.room)
         self.environment = os.environ | DIRECT | {"SSL_CERT_FILE": f"{self.room}/server.crt"}
-        for it in names:
-            self.add(it)
+        for name in names:
+            self.add(name)
 
     def add(self, name):
         """Makes a source and its settings. It is not served, and the site does not know it."""
@@ -51,14 +55,16 @@ class Host:
 
     def settings(self, **other):
         """The file of the collection."""
-        said = lambda what, name, plain: other.get(what, {}).get(name, plain)
+        setting = lambda what, name, plain: other.get(what, {}).get(name, plain)
         text = f'address = "{self.address}"\ncertificate = "{self.room}/server.crt"\nkey = "{self.room}/server.key"\n'
-        return text + "".join(f'[source.{name}]\naddress = "{said("address", name, it.url)}"\nbase = "{self.address}/{name}"\n'
-                              f'file = "{said("file", name, it.disk.resolve())}"\n' for name, it in self.sources.items())
+        return text + "".join(
+            f'[source.{name}]\naddress = "{setting("address", name, server.url)}"\nbase = "{self.address}/{name}"\n'
+            f'file = "{setting("file", name, server.disk.resolve())}"\n'
+            for name, server in self.sources.items())
 
     def __enter__(self):
-        for it in self.sources.values():
-            it.start()
+        for server in self.sources.values():
+            server.start()
         self.serve()
         return self
 
@@ -66,18 +72,19 @@ class Host:
         if self.nginx:
             self.nginx.terminate()
             self.nginx.wait(SECONDS)
-        for it in self.sources.values():
-            it.kill()
+        for server in self.sources.values():
+            server.kill()
 
     def serve(self):
         """Lets nginx serve the site that the command makes, as keepers make it anew when a source was added."""
-        status, told, said = self.run("collection", SETTINGS, "--into", "site")
-        same(f"the site is made: {said}", 0, status)
+        status, output, messages = self.run("collection", SETTINGS, "--into", "site")
+        same(f"the site is made: {messages}", 0, status)
         pathlib.Path("nginx.conf").write_text(self.configuration())
         if self.nginx:
             self.nginx.terminate()
             self.nginx.wait(SECONDS)
-        self.nginx = subprocess.Popen(["nginx", "-p", self.room, "-e", f"{self.room}/errors", "-c", f"{self.room}/nginx.conf"])
+        self.nginx = subprocess.Popen(["nginx", "-p", self.room, "-e", f"{self.room}/errors", "-c",
+                                       f"{self.room}/nginx.conf"])
         wait_for(self.port, self.nginx)
 
     def configuration(self):
@@ -103,29 +110,33 @@ class Host:
 
     def well(self, *words, seconds=LONGEST):
         """What a run prints that ends well."""
-        status, told, said = self.run(*words, seconds=seconds)
-        same(f"{' '.join(map(str, words))}: {said[-500:]}", 0, status)
-        return told
+        status, output, messages = self.run(*words, seconds=seconds)
+        same(f"{' '.join(map(str, words))}: {messages[-500:]}", 0, status)
+        return output
 
     def homes(self, names):
         """The source in which each name lives, by the command."""
-        pathlib.Path("names").write_text("".join(f"{it}\n" for it in names))
-        told = self.well("collection", SETTINGS, "--names", "names")
-        return dict(reversed(it.split(" ", 1)) for it in told.splitlines())
+        pathlib.Path("names").write_text("".join(f"{name}\n" for name in names))
+        output = self.well("collection", SETTINGS, "--names", "names")
+        return dict(reversed(line.split(" ", 1)) for line in output.splitlines())
 
     def texts(self, name):
         """The answers to what asks a source for its lists, the Resource List first."""
-        heads = [asked(self.sources[name].url, it).decode() for it in ("/resourcelist.xml", "/changelist.xml")]
-        return [it for head in heads for it in [head, *(asked(self.sources[name].url, f"/{part}").decode() for part in PART.findall(head))]]
+        heads = [request(self.sources[name].url, path).decode() for path in ("/resourcelist.xml", "/changelist.xml")]
+        return [page for head in heads
+                for page in [head,
+                             *(request(self.sources[name].url, f"/{part}").decode() for part in PART.findall(head))]]
 
     def entries(self, name):
         """The entries of a source's lists."""
-        return [it for text in self.texts(name) for it in re.findall(r"<url>.*?</url>", text) if "/resource/" in it]
+        return [entry for text in self.texts(name)
+                for entry in re.findall(r"<url>.*?</url>", text) if "/resource/" in entry]
 
-    def held(self, name):
+    def resources_of(self, name):
         """The names that a source holds, by its lists."""
-        found = {re.search(r"/resource/([^<]*)<", it)[1]: 'change="deleted"' not in it for it in self.entries(name)}
-        return {it for it, is_held in found.items() if is_held}
+        found = {re.search(r"/resource/([^<]*)<", entry)[1]: 'change="deleted"' not in entry
+                 for entry in self.entries(name)}
+        return {name for name, is_held in found.items() if is_held}
 
     def union(self, folder):
         """The files of all parts of a mirror; a name that is there twice has to have the same bytes."""
@@ -137,7 +148,7 @@ class Host:
 
     def disks(self):
         """The moments at which the files of the sources were last written."""
-        return [it.disk.stat().st_mtime_ns for it in self.sources.values()]
+        return [server.disk.stat().st_mtime_ns for server in self.sources.values()]
 
     def says_nginx(self, answer):
         """Whether nginx itself refuses a request."""
@@ -162,14 +173,16 @@ def nginx_settings(room, sites):
     folders = re.findall(r"--http-([a-z-]+)-temp-path", told_by("nginx", "-V")[0])
     # (a master that is root gives its workers another user, who cannot write here)
     user = f"user {pwd.getpwuid(os.getuid()).pw_name};" if os.getuid() == 0 else ""
-    temporary = "".join(f"{it.replace('-', '_')}_temp_path {room}/{it};\n" for it in folders)
-    return f"daemon off; worker_processes 2; {user} pid {room}/pid; error_log {room}/errors;\nevents {{ worker_connections 4096; }}\n" \
-           f"http {{\naccess_log {room}/access;\n{temporary}{sites}}}\n"
+    temporary = "".join(f"{folder_name.replace('-', '_')}_temp_path {room}/{folder_name};\n" for folder_name in folders)
+    return (f"daemon off; worker_processes 2; {user} pid {room}/pid; error_log {room}/errors;\n"
+            "events { worker_connections 4096; }\n"
+            f"http {{\naccess_log {room}/access;\n{temporary}{sites}}}\n")
 
 
 def certify(room):
     """Makes a certificate with its key, which vouches for itself."""
-    words = ["-x509", "-newkey", "ec", "-pkeyopt", "ec_paramgen_curve:prime256v1", "-nodes", "-days", "2", "-subj", "/CN=server"]
+    words = ["-x509", "-newkey", "ec", "-pkeyopt", "ec_paramgen_curve:prime256v1", "-nodes", "-days", "2", "-subj",
+             "/CN=server"]
     files = ["-addext", "subjectAltName=IP:127.0.0.1", "-keyout", f"{room}/server.key", "-out", f"{room}/server.crt"]
     subprocess.run(["openssl", "req", *words, *files], check=True, capture_output=True, timeout=LONGEST)
 
@@ -186,28 +199,29 @@ def waited(run, seconds=LONGEST):
 
 def same_files(what, wanted, found):
     """Compares files by their names, and names a few that differ."""
-    differing = sorted(it for it in {*wanted, *found} if wanted.get(it) != found.get(it))
+    differing = sorted(path for path in {*wanted, *found} if wanted.get(path) != found.get(path))
     same(f"{what}: {len(differing)} files that differ, of {len(wanted)}", [], differing[:5])
 
 
 @contextlib.contextmanager
 def disks_stay(host):
     """Looks whether the files of all sources stay as they are."""
-    before = {name: it.disk.read_bytes() for name, it in host.sources.items()}
+    before = {name: server.disk.read_bytes() for name, server in host.sources.items()}
     yield
-    for name, it in host.sources.items():
-        if it.disk.read_bytes() != before[name]:
+    for name, server in host.sources.items():
+        if server.disk.read_bytes() != before[name]:
             raise Differs(f"a refused run changed {name}")
 
 
-def asked(url, target, method="GET", sent=b"", context=None):
+def request(url, target, method="GET", sent=b"", context=None):
     """All bytes of the answer to a request with this target, as it stands."""
     place = urlsplit(url)
     with socket.create_connection((place.hostname, place.port), timeout=SECONDS) as connection:
         if context:
             connection = context.wrap_socket(connection, server_hostname=place.hostname)
         length = f"Content-Length: {len(sent)}\r\n" if method == "PUT" else ""
-        connection.sendall(f"{method} {target} HTTP/1.1\r\nHost: {place.netloc}\r\nConnection: close\r\n{length}\r\n".encode("latin-1") + sent)
+        head = f"{method} {target} HTTP/1.1\r\nHost: {place.netloc}\r\nConnection: close\r\n{length}\r\n"
+        connection.sendall(head.encode("latin-1") + sent)
         found = b""
         while piece := connection.recv(65_536):
             found += piece
@@ -216,7 +230,7 @@ def asked(url, target, method="GET", sent=b"", context=None):
 
 def missing():
     """What this machine lacks of what a host needs."""
-    return ", ".join(it for it in ("nginx", "openssl") if not shutil.which(it))
+    return ", ".join(tool for tool in ("nginx", "openssl") if not shutil.which(tool))
 
 
 @contextlib.contextmanager

@@ -26,7 +26,9 @@ class Log:
 
 @contextlib.contextmanager
 def killing(host, victims, kind):
-    """Kills each of these sources once a run is at work with it. Gives the list of those that were killed before the block ended."""
+    """Kills each of these sources once a run is at work with it. Gives the list of those that were killed before the
+    block ended.
+    """
     ended, killed = threading.Event(), []
     before = {name: host.sources[name].disk.stat().st_mtime_ns for name in victims}
     logs = {name: Log("access.log") for name in victims}
@@ -43,12 +45,12 @@ def killing(host, victims, kind):
         host.away(name, AWAY)
         killed.append(name)
 
-    threads = [threading.Thread(target=kill, args=(it,)) for it in victims]
-    for it in threads:
-        it.start()
+    threads = [threading.Thread(target=kill, args=(victim,)) for victim in victims]
+    for thread in threads:
+        thread.start()
     try:
         yield killed
     finally:
         ended.set()
-        for it in threads:
-            it.join()
+        for thread in threads:
+            thread.join()

@@ -8,7 +8,7 @@ import time
 
 def processors():
     """The seconds of all processors that were used, and those that passed, since the machine began."""
-    words = [int(it) for it in pathlib.Path("/proc/stat").read_text().split("\n", 1)[0].split()[1:]]
+    words = [int(word) for word in pathlib.Path("/proc/stat").read_text().split("\n", 1)[0].split()[1:]]
     idle = words[3] + words[4]
     return (sum(words[:8]) - idle) / os.sysconf("SC_CLK_TCK"), sum(words[:8]) / os.sysconf("SC_CLK_TCK")
 
@@ -32,7 +32,8 @@ def size_of(path):
     """The bytes that a file, or all files of a folder, take on the disk."""
     if not os.path.isdir(path):
         return 512 * os.stat(path).st_blocks if os.path.exists(path) else 0
-    return sum(512 * os.lstat(os.path.join(above, it)).st_blocks for above, folders, files in os.walk(path) for it in [*folders, *files])
+    return sum(512 * os.lstat(os.path.join(above, name)).st_blocks for above, folders, files in os.walk(path)
+               for name in [*folders, *files])
 
 
 def used_by(number):
@@ -46,7 +47,7 @@ def used_by(number):
 def children_of(number):
     """The processes that a process has begun."""
     with contextlib.suppress(OSError):
-        return [int(it) for it in pathlib.Path(f"/proc/{number}/task/{number}/children").read_text().split()]
+        return [int(word) for word in pathlib.Path(f"/proc/{number}/task/{number}/children").read_text().split()]
     return []
 
 
@@ -75,13 +76,16 @@ class Meter:
         at_work, bytes_written = (after - before for after, before in zip(disk_of(self.device), (busy, written)))
         tools, sources, nginx = (after - before for after, before in zip(self.used(), ours))
         rate = f", {count / seconds:,.0f} resources a second" if count else ""
-        disk = f", the disk {100 * at_work / seconds:.0f} of 100, {bytes_written / 1e6:,.0f} MB written" if self.device else ""
-        print(f"{self.name}: {what}: {seconds:.1f} s{rate}; of a processor {tools:.1f} s the tools, {sources:.1f} s the sources, "
-              f"{nginx:.1f} s nginx; at work: all processors {100 * (now - used) / max(then - passed, 0.001):.0f} of 100{disk}", flush=True)
+        disk = (f", the disk {100 * at_work / seconds:.0f} of 100, {bytes_written / 1e6:,.0f} MB written"
+                if self.device else "")
+        busy_share = 100 * (now - used) / max(then - passed, 0.001)
+        print(f"{self.name}: {what}: {seconds:.1f} s{rate}; of a processor {tools:.1f} s the tools, "
+              f"{sources:.1f} s the sources, {nginx:.1f} s nginx; "
+              f"at work: all processors {busy_share:.0f} of 100{disk}", flush=True)
 
     def used(self):
         """The seconds of a processor that this process and its tools, the sources, and nginx have used."""
-        it, host = os.times(), self.host
+        times, host = os.times(), self.host
         sources = host.ended + sum(used_by(server.process.pid) for server in host.sources.values() if server.process)
         nginx = sum(used_by(number) for number in [host.nginx.pid, *children_of(host.nginx.pid)]) if host.nginx else 0.0
-        return it.user + it.system + it.children_user + it.children_system - host.ended, sources, nginx
+        return times.user + times.system + times.children_user + times.children_system - host.ended, sources, nginx

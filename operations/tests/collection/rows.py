@@ -1,8 +1,11 @@
-"""Collections of two to five sources: their settings, where names live, the site byte by byte, and what is refused before anything is changed.
+"""Collections of two to five sources: their settings, where names live, the site byte by byte, and what is refused
+before anything is changed.
 
-Each function is one row, and its first line says what has to hold. Then `ropepeach` is given wrong bodies, each of which a row has to notice.
+Each function is one row, and its first line says what has to hold. Then `ropepeach` is given wrong bodies, each of
+which a row has to notice.
 
-usage: python3 -m operations.tests.collection.rows [PROGRAM] [NAME..]     names of rows (all, if none is given); most need nginx and openssl
+usage: python3 -m operations.tests.collection.rows [PROGRAM] [NAME..]
+    names of rows (all, if none is given); most need nginx and openssl
 Exit status 1 if one does not hold.
 """
 import os
@@ -19,14 +22,15 @@ from tests.program import PROGRAM
 
 
 def main():
+    """Tries the rows that are named, or all, and the wrong bodies. Gives the exit status."""
     os.environ["PATH"] += ":/usr/sbin:/sbin"
     lacking = missing()
     if lacking:
         print(f"collection: NOT TRIED, as there is no {lacking} here: the site, and what is mirrored through it")
     checks = SETTINGS + ([] if lacking else REFUSED + DOORS + WHOLE)
-    given = sys.argv[1:]
-    program = os.path.abspath(given[0] if given and os.path.isfile(given[0]) else PROGRAM)
-    is_all = not [it for it in given if not os.path.isfile(it)]
+    arguments = sys.argv[1:]
+    program = os.path.abspath(arguments[0] if arguments and os.path.isfile(arguments[0]) else PROGRAM)
+    is_all = not [argument for argument in arguments if not os.path.isfile(argument)]
     status = rows("collection", checks)
     return max(status, noticed(program, checks)) if is_all else status
 

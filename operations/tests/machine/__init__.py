@@ -1,1 +1,2 @@
-"""A whole machine that boots: Debian of its registry, with the packages installed, in systemd-nspawn (tests/README.md)."""
+"""A whole machine that boots: Debian of its registry, with the packages installed, in systemd-nspawn (tests/README.md).
+"""

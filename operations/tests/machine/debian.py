@@ -1,4 +1,6 @@
-"""A small Debian, made by debootstrap from the registry that this machine's apt uses, and kept as an archive for the next run."""
+"""A small Debian, made by debootstrap from the registry that this machine's apt uses, and kept as an archive for the
+next run.
+"""
 import contextlib
 import fcntl
 import hashlib
@@ -16,8 +18,10 @@ from tests.program import IN_MEMORY
 
 REGISTRY = "http://deb.debian.org/debian"
 SUITE = "bookworm"
-# What the packages depend on, so that they are installed without a network; what a site needs; what the checks look with.
-PACKAGES = ["systemd", "systemd-sysv", "dbus", "init-system-helpers", "python3", "python3-defusedxml", "python3-tqdm", "python3-urllib3", "curl",
+# What the packages depend on, so that they are installed without a network; what a site needs; what the checks look
+# with.
+PACKAGES = ["systemd", "systemd-sysv", "dbus", "init-system-helpers", "python3", "python3-defusedxml", "python3-tqdm",
+            "python3-urllib3", "curl",
             "nginx", "openssl", "ca-certificates", "nftables"]
 # No registry is waited for longer than this, in seconds, and no Debian is made for longer than that.
 ANSWER, MAKING = 15, 240
@@ -64,16 +68,17 @@ def answers(address, suite):
 def ended(words):
     """Runs debootstrap to its end. What it mounts is seen by nobody else, and goes with its last process."""
     words = ["unshare", "--mount", "--propagation", "private", *words]
-    how = {"stdin": subprocess.DEVNULL, "stdout": subprocess.PIPE, "stderr": subprocess.STDOUT, "text": True, "errors": "replace"}
+    how = {"stdin": subprocess.DEVNULL, "stdout": subprocess.PIPE, "stderr": subprocess.STDOUT, "text": True,
+           "errors": "replace"}
     run = subprocess.Popen(words, start_new_session=True, **how)
     try:
-        told, _ = run.communicate(timeout=MAKING)
+        output, _ = run.communicate(timeout=MAKING)
     except subprocess.TimeoutExpired:
         os.killpg(run.pid, signal.SIGKILL)
         run.communicate()
         raise Missing(f"a Debian within {MAKING} seconds") from None
     if run.returncode:
-        raise Missing(f"a Debian by debootstrap: {told.strip()[-300:]}")
+        raise Missing(f"a Debian by debootstrap: {output.strip()[-300:]}")
 
 
 def made(archive, suite, packages):
@@ -109,7 +114,7 @@ def alone(path, what):
         yield
 
 
-def kept(suite, packages):
+def archive_of(suite, packages):
     """The archive of a Debian, and whether it had to be made first."""
     name = hashlib.sha256(" ".join([suite, *packages]).encode()).hexdigest()[:12]
     archive = cache() / f"{suite}-{name}.tar.gz"
@@ -122,7 +127,7 @@ def kept(suite, packages):
 
 def unpacked(to, suite=SUITE, packages=PACKAGES):
     """Unpacks a Debian into a new folder; gives whether it had to be made first."""
-    archive, is_new = kept(suite, packages)
+    archive, is_new = archive_of(suite, packages)
     os.makedirs(to)
     subprocess.run(["tar", "-C", to, "-xzf", archive], check=True, timeout=MAKING)
     return is_new

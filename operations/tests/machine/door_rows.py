@@ -1,4 +1,6 @@
-"""What has to hold of a machine whose other users are not trusted, and of the limits of its units. Each function is a row."""
+"""What has to hold of a machine whose other users are not trusted, and of the limits of its units. Each function is a
+row.
+"""
 import contextlib
 from pathlib import Path
 
@@ -11,16 +13,17 @@ TARGET = "http://127.0.0.1:8080/resource/of-nobody"
 TRUSTING = ["--cacert", "/etc/ssl/certs/source.example.org.pem"]
 # A connection that sends nothing, and a program that answers in the place of the source; each tells its number then.
 SILENT = """import os, socket, time
-it = socket.create_connection(('127.0.0.1', 8080), 5)
+connection = socket.create_connection(('127.0.0.1', 8080), 5)
 print(os.getpid(), flush=True)
 time.sleep(300)
 """
-FAKE = """import os, socket
-it = socket.create_server(('127.0.0.1', 8080))
+FAKE = """import contextlib, os, socket
+listener = socket.create_server(('127.0.0.1', 8080))
 print(os.getpid(), flush=True)
 while True:
-    client = it.accept()[0]
-    client.sendall(b'HTTP/1.1 200 OK\\r\\nContent-Length: 4\\r\\nConnection: close\\r\\n\\r\\nfake')
+    client = listener.accept()[0]
+    with contextlib.suppress(OSError):
+        client.sendall(b'HTTP/1.1 200 OK\\r\\nContent-Length: 4\\r\\nConnection: close\\r\\n\\r\\nfake')
 """
 # Connection refused, and nothing received in time: statuses of curl.
 REFUSED, LATE = 7, 28
@@ -30,8 +33,8 @@ LIMITS = {"ropepeach": ("16", "1073741824"), "ropepeach-mirror@copy": ("128", "2
 
 def curl(machine, user, *words):
     """How a request of a user ends: the status of curl, and what came."""
-    ran = machine.run("runuser", "-u", user, "--", "curl", "-sS", "--max-time", "5", *words)
-    return ran.returncode, ran.stdout
+    process = machine.run("runuser", "-u", user, "--", "curl", "-sS", "--max-time", "5", *words)
+    return process.returncode, process.stdout
 
 
 def status(machine, user, *words):
@@ -40,6 +43,7 @@ def status(machine, user, *words):
 
 
 def put(machine, user, target, *words):
+    """The status of the answer to a put by a user."""
     return status(machine, user, "-X", "PUT", "--data-binary", "x", *words, target)
 
 
@@ -57,14 +61,16 @@ def begun(machine, user, script):
 
 
 def other_users_are_kept_out(machine, packages):
-    """Any user may put and hang the port; with the page's drop-in only root, nginx and the source, whom nobody stands in for."""
+    """Any user may put and hang the port; with the page's drop-in only root, nginx and the source, whom nobody stands
+    in for.
+    """
     same("a user before", "201", put(machine, "nobody", TARGET))
     same("through the site", "204", put(machine, "nobody", f"{HTTPS}/resource/of-nobody", *TRUSTING))
     with begun(machine, "nobody", SILENT) as is_in:
         same("a silent connection before", True, is_in)
         same("others wait for it", LATE, curl(machine, "root", "http://127.0.0.1:8080/capabilitylist.xml")[0])
     site = Path(f"{machine.root}{SITE}")
-    kept = site.read_text()
+    before = site.read_text()
     try:
         machine.shell(commands("Other users of the machine", "guard.conf"))
         kept_out(machine)
@@ -72,7 +78,7 @@ def other_users_are_kept_out(machine, packages):
         nobody_answers_in_its_place(machine)
         it_starts_with_its_rules_alone(machine)
     finally:
-        site.write_text(kept)
+        site.write_text(before)
         machine.shell("rm -f /etc/systemd/system/ropepeach*.service.d/guard.conf; systemctl daemon-reload\n"
                       "nft flush ruleset; systemctl reload nginx; systemctl reset-failed; systemctl restart ropepeach")
 
@@ -93,24 +99,25 @@ def kept_out(machine):
 def units_reach_it(machine):
     """The units that ask the source do so as before."""
     cursor = machine.cursor()
-    machine.told("systemctl", "start", "ropepeach-publish")
+    machine.output("systemctl", "start", "ropepeach-publish")
     has("the publication", "published ", machine.journal("ropepeach-publish", cursor))
-    machine.told("systemctl", "start", "ropepeach-health")
+    machine.output("systemctl", "start", "ropepeach-health")
     same("what the look says", "", machine.journal("ropepeach-health", cursor))
 
 
 def nobody_answers_in_its_place(machine):
     """Where the source is away, a user may listen on its port, and no byte of that user comes to nginx."""
-    machine.told("systemctl", "stop", "ropepeach")
+    machine.output("systemctl", "stop", "ropepeach")
     with begun(machine, "nobody", FAKE) as is_in:
         same("the program of a user", True, is_in)
         same("what root gets", (LATE, False), told_of(curl(machine, "root", TARGET)))
         through = curl(machine, "nobody", *TRUSTING, f"{HTTPS}/resource/of-nobody")
         same("what a reader gets", (LATE, False), told_of(through))
-    machine.told("systemctl", "start", "ropepeach")
+    machine.output("systemctl", "start", "ropepeach")
 
 
 def told_of(found):
+    """How a request ended, and whether the program in the place of the source answered it."""
     return found[0], "fake" in found[1]
 
 

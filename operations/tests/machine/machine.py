@@ -1,4 +1,6 @@
-"""A machine in systemd-nspawn: it boots, runs commands, is killed whole, and boots again. It has a network of its own, with loopback alone."""
+"""A machine in systemd-nspawn: it boots, runs commands, is killed whole, and boots again. It has a network of its own,
+with loopback alone.
+"""
 import contextlib
 import os
 import re
@@ -14,13 +16,14 @@ from tests.program import Differs
 SECONDS = 60
 # Two machines at once would be in each other's control groups.
 LOCK = "/tmp/ropepeach-machine.lock"
-SETTINGS = ["PATH=/usr/local/sbin:/usr/local/bin:/usr/sbin:/usr/bin:/sbin:/bin", "HOME=/root", "LC_ALL=C.UTF-8", "TERM=dumb"]
+SETTINGS = ["PATH=/usr/local/sbin:/usr/local/bin:/usr/sbin:/usr/bin:/sbin:/bin", "HOME=/root", "LC_ALL=C.UTF-8",
+            "TERM=dumb"]
 
 
 def children(number):
     """The processes that a process has begun."""
     with contextlib.suppress(OSError):
-        return [int(it) for it in Path(f"/proc/{number}/task/{number}/children").read_text().split()]
+        return [int(word) for word in Path(f"/proc/{number}/task/{number}/children").read_text().split()]
     return []
 
 
@@ -51,9 +54,11 @@ class Machine:
 
     def boot(self):
         """Boots, until all units have been started."""
-        words = ["systemd-nspawn", "--quiet", "-D", self.root, "--register=no", "--keep-unit", "--boot", "--private-network", "--console=read-only"]
+        words = ["systemd-nspawn", "--quiet", "-D", self.root, "--register=no", "--keep-unit", "--boot",
+                 "--private-network", "--console=read-only"]
         with open(self.log, "ab") as log:
-            self.nspawn = subprocess.Popen(words, stdin=subprocess.DEVNULL, stdout=log, stderr=log, start_new_session=True)
+            self.nspawn = subprocess.Popen(words, stdin=subprocess.DEVNULL, stdout=log, stderr=log,
+                                           start_new_session=True)
         self.until(self.is_up, "the machine is up")
 
     def is_up(self):
@@ -69,28 +74,31 @@ class Machine:
         """The words by which a command runs inside."""
         return ["nsenter", "--target", str(self.leader), "--all", "/usr/bin/env", "-i", *SETTINGS, *map(str, words)]
 
-    def run(self, *words, given="", seconds=SECONDS):
+    def run(self, *words, text="", seconds=SECONDS):
         """Runs a command inside, and gives what it wrote, and its status."""
         how = {"stdout": subprocess.PIPE, "stderr": subprocess.STDOUT, "text": True, "errors": "replace"}
-        return subprocess.run(self.words(words), input=given, timeout=seconds, **how)
+        return subprocess.run(self.words(words), input=text, timeout=seconds, **how)
 
-    def told(self, *words, **more):
+    def output(self, *words, **more):
         """What a command inside writes; it has to end well."""
-        ran = self.run(*words, **more)
-        if ran.returncode:
-            raise Differs(f"{' '.join(map(str, words))}: status {ran.returncode}: {ran.stdout.strip()[-600:]}")
-        return ran.stdout
+        process = self.run(*words, **more)
+        if process.returncode:
+            raise Differs(f"{' '.join(map(str, words))}: status {process.returncode}: {process.stdout.strip()[-600:]}")
+        return process.stdout
 
     def shell(self, line, **more):
         """What a line of a shell writes inside."""
-        return self.told("bash", "-ec", line, **more)
+        return self.output("bash", "-ec", line, **more)
 
     def begun(self, *words):
         """A command inside that goes on by itself, and is written to and read from."""
-        return subprocess.Popen(self.words(words), stdin=subprocess.DEVNULL, stdout=subprocess.PIPE, stderr=subprocess.DEVNULL, text=True)
+        return subprocess.Popen(self.words(words), stdin=subprocess.DEVNULL, stdout=subprocess.PIPE,
+                                stderr=subprocess.DEVNULL, text=True)
 
     def kill(self):
-        """Kills every process of the machine at once, as when its power goes. What was written stays, synced or not: this machine keeps it."""
+        """Kills every process of the machine at once, as when its power goes. What was written stays, synced or not:
+        this machine keeps it.
+        """
         if not self.nspawn:
             return
         if self.nspawn.poll() is None:
@@ -105,25 +113,28 @@ class Machine:
 
     def shows(self, unit, *properties):
         """Properties of a unit."""
-        lines = self.told("systemctl", "show", *(f"--property={it}" for it in properties), unit).splitlines()
-        found = dict(it.partition("=")[::2] for it in lines)
-        return found[properties[0]] if len(properties) == 1 else tuple(found[it] for it in properties)
+        lines = self.output("systemctl", "show", *(f"--property={name}" for name in properties), unit).splitlines()
+        found = dict(line.partition("=")[::2] for line in lines)
+        return found[properties[0]] if len(properties) == 1 else tuple(found[name] for name in properties)
 
     def is_active(self, unit):
+        """Whether a unit is active."""
         return self.shows(unit, "ActiveState") == "active"
 
     def failed(self):
         """The units that `systemctl --failed` shows."""
-        return re.findall(r"\S+\.(?:service|timer)", self.told("systemctl", "--failed", "--plain", "--no-legend"))
+        return re.findall(r"\S+\.(?:service|timer)", self.output("systemctl", "--failed", "--plain", "--no-legend"))
 
     def journal(self, unit, since=None):
         """What the journal has of a unit: all of this boot, or from a cursor on."""
-        return self.told("journalctl", "--boot", "--no-pager", "--output=cat", f"--unit={unit}", *([f"--after-cursor={since}"] if since else []))
+        return self.output("journalctl", "--boot", "--no-pager", "--output=cat", f"--unit={unit}",
+                           *([f"--after-cursor={since}"] if since else []))
 
     def cursor(self):
         """A place in the journal: its end now."""
-        self.told("journalctl", "--sync")
-        return self.told("journalctl", "--no-pager", "--lines=1", "--output=cat", "--show-cursor").strip().rpartition("-- cursor: ")[2]
+        self.output("journalctl", "--sync")
+        return self.output("journalctl", "--no-pager", "--lines=1", "--output=cat", "--show-cursor").strip().rpartition(
+            "-- cursor: ")[2]
 
     def until(self, is_so, what):
         """Waits until something is so."""

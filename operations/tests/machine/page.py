@@ -8,8 +8,9 @@ def commands(heading, words):
     """The block of commands below a heading that has these words in it, and one line only once."""
     page = (ROOT / "operations/docs/OPERATING.md").read_text()
     section = re.search(rf"(?ms)^##+ {re.escape(heading)}\n(.*?)(?=^##+ |\Z)", page)
-    blocks = [re.sub(r"(?m)^ +", "", it) for it in re.findall(r"(?ms)^ *```\n(.*?)^ *```", section[1])] if section else []
-    found = [it for it in blocks if words in it]
+    blocks = [re.sub(r"(?m)^ +", "", block) for block in re.findall(r"(?ms)^ *```\n(.*?)^ *```",
+                                                                    section[1])] if section else []
+    found = [block for block in blocks if words in block]
     if len(found) != 1:
         raise LookupError(f"operations/docs/OPERATING.md, {heading!r}: {len(found)} blocks with {words!r}")
     return found[0]

@@ -1,4 +1,6 @@
-"""Puts that go on inside a machine while it is killed: what was begun, what was answered, and whether that is held afterwards."""
+"""Puts that go on inside a machine while it is killed: what was begun, what was answered, and whether that is held
+afterwards.
+"""
 import threading
 from pathlib import Path
 
@@ -14,7 +16,8 @@ class Puts:
     """Puts to a source at a port, of names that begin with a word of their own; their numbers rise over all runs."""
 
     def __init__(self, machine, word, port=8080):
-        self.machine, self.word, self.port, self.begun, self.answered, self.run, self.reader = machine, word, port, [], [], None, None
+        self.machine, self.word, self.port = machine, word, port
+        self.begun, self.answered, self.run, self.reader = [], [], None, None
         Path(f"{machine.root}/root/putting.py").write_text(Path(putting.__file__).read_text())
 
     def start(self):
@@ -24,6 +27,7 @@ class Puts:
         self.reader.start()
 
     def read(self, output):
+        """Notes what was begun and what was answered, as it comes."""
         for line in output:
             word, _, number = line.partition(" ")
             if number.endswith("\n"):
@@ -43,9 +47,10 @@ class Puts:
 
     def look(self):
         """Looks whether each name has the body of its last answered put, or of one that was begun since."""
-        held = dict(it.split() for it in self.machine.told(*AGENT, "held", self.port, self.word).splitlines())
-        for name in {putting.name(self.word, it) for it in self.begun}:
-            last = max((it for it in self.answered if putting.name(self.word, it) == name), default=None)
-            lawful = {str(it) for it in self.begun if putting.name(self.word, it) == name and (last is None or it >= last)}
-            if (name not in held and last is not None) or (name in held and held[name] not in lawful):
-                raise Differs(f"{name}: answered was put {last}, held is {held.get(name)}")
+        numbers = dict(line.split() for line in self.machine.output(*AGENT, "held", self.port, self.word).splitlines())
+        for name in {putting.name(self.word, number) for number in self.begun}:
+            last = max((number for number in self.answered if putting.name(self.word, number) == name), default=None)
+            lawful = {str(number) for number in self.begun
+                      if putting.name(self.word, number) == name and (last is None or number >= last)}
+            if (name not in numbers and last is not None) or (name in numbers and numbers[name] not in lawful):
+                raise Differs(f"{name}: answered was put {last}, held is {numbers.get(name)}")

@@ -8,6 +8,7 @@ NAMES, LONGEST = 40, 30_000
 
 
 def name(word, number):
+    """The name of the put of a number."""
     return f"{word}{number % NAMES}"
 
 
@@ -16,7 +17,7 @@ def body(number):
     return (b"%d " % number).ljust(number * 7_919 % LONGEST + 12, b"%d" % (number % 10))
 
 
-def asked(port, method, path, sent=None):
+def request(port, method, path, sent=None):
     """The status and the body of an answer."""
     connection = http.client.HTTPConnection("127.0.0.1", port, timeout=30)
     try:
@@ -32,7 +33,7 @@ def put(port, word, number):
     print("begun", number, flush=True)
     while True:
         try:
-            if asked(port, "PUT", f"/resource/{name(word, number)}", body(number))[0] in (201, 204):
+            if request(port, "PUT", f"/resource/{name(word, number)}", body(number))[0] in (201, 204):
                 break
         except (OSError, http.client.HTTPException):
             pass
@@ -40,21 +41,25 @@ def put(port, word, number):
     print("answered", number, flush=True)
 
 
-def held(port, word):
-    """Tells `NAME N` for each name that is held, with the number of the put that its body is of; -1 where it is of none."""
-    for it in range(NAMES):
-        status, found = asked(port, "GET", f"/resource/{name(word, it)}")
+def tell_resources(port, word):
+    """Tells `NAME N` for each name that is held, with the number of the put that its body is of; -1 where it is of
+    none.
+    """
+    for place in range(NAMES):
+        status, found = request(port, "GET", f"/resource/{name(word, place)}")
         if status == 404:
             continue
         number = int(found.partition(b" ")[0]) if status == 200 and found.partition(b" ")[0].isdigit() else -1
-        print(name(word, it), number if number >= 0 and found == body(number) and number % NAMES == it else -1)
+        print(name(word, place), number if number >= 0 and found == body(number) and number % NAMES == place else -1)
 
 
 def main():
-    """By the words `put PORT WORD FIRST` it puts from this number on, and never ends; by `held PORT WORD` it tells what is held."""
+    """By the words `put PORT WORD FIRST` it puts from this number on, and never ends; by `held PORT WORD` it tells what
+    is held.
+    """
     port, word = int(sys.argv[2]), sys.argv[3]
     if sys.argv[1] == "held":
-        return held(port, word)
+        return tell_resources(port, word)
     number = int(sys.argv[4])
     while True:
         put(port, word, number)

@@ -16,9 +16,10 @@ Each round also stops a folder at each call by which it changes (mirror_stops.py
 are wrong, which have to be found wrong. At the end a source of plain Python drops what a run is about to read,
 before each of its requests (mirror_drops.py).
 
-usage: python3 -m operations.tests.mirror [PROGRAM] [ROUNDS] [--seed N]     the built program and 3 rounds, where none are given
-Three rounds by themselves have a seed of their own, else one is drawn. What meets in time no seed decides, so
-no run goes as another to its end. Exit status 1 where anything differs.
+usage: python3 -m operations.tests.mirror [PROGRAM] [ROUNDS] [--seed N]
+    the built program and 3 rounds, where none are given
+Three rounds by themselves have a seed of their own, else one is drawn. What meets in time no seed decides, so no run
+goes as another to its end. Exit status 1 where anything differs.
 """
 import argparse
 import collections
@@ -51,13 +52,13 @@ SEED, ROUNDS, RUNS = 20261125, 3, 5
 # This many commands at most meet one run.
 COMMANDS = 30
 NAMES = ["a", "a/b", "a/b/c", "a/d", "b", "b/b", "%2E", "a%2Fb", "x&y", "o'k", "e!$*+", "~u", "m@h:1", "q;r,t"]
-NAMES += [f"n/{it}" for it in range(8)]
+NAMES += [f"n/{number}" for number in range(8)]
 METHODS = ["PUT", "PUT", "PUT", "PUT", "DELETE", "DELETE", "POST", "POST"]
 # The longest takes a server several writes to send.
 LENGTHS = [0, 1, 40, 40, 512, 512, 3_000, 400_000]
 # A run of the destination that ended: the moment it told, the folder then, and how many changes stood when it
 # began and when it ended.
-Ended = collections.namedtuple("Ended", "until folder least most")
+Ended = collections.namedtuple("Ended", "until folder least greatest")
 
 
 class Server:
@@ -69,15 +70,16 @@ class Server:
         self.run("format", self.file, "33554432", self.base, str(limit))
         self.start()
 
-    def run(self, *words, given=b""):
+    def run(self, *words, script=b""):
         """What a run of the program writes."""
-        how = {"input": given, "capture_output": True, "timeout": SECONDS}
-        ran = subprocess.run([self.program, *words], **how)
-        if ran.returncode:
-            raise Differs(f"{words[0]}: status {ran.returncode}, {ran.stderr.decode(errors='replace')}")
-        return ran.stdout.decode()
+        how = {"input": script, "capture_output": True, "timeout": SECONDS}
+        process = subprocess.run([self.program, *words], **how)
+        if process.returncode:
+            raise Differs(f"{words[0]}: status {process.returncode}, {process.stderr.decode(errors='replace')}")
+        return process.stdout.decode()
 
     def start(self):
+        """Serves the source, and waits until it listens."""
         words = [self.program, "serve", self.file, str(self.port), "1000000"]
         self.process = subprocess.Popen(words, stdout=subprocess.PIPE)
         with self.process.stdout as output:
@@ -85,13 +87,15 @@ class Server:
                 raise Differs(f"the server ended with status {self.process.wait(SECONDS)}")
 
     def kill(self):
+        """Kills the server."""
         self.process.kill()
         self.process.wait()
 
     def is_killed(self):
+        """Whether the server has ended."""
         return self.process.returncode is not None
 
-    def asked(self, method, path, body, delay):
+    def request(self, method, path, body, delay):
         """The status of an answer, or None where there is none. After `delay` seconds the server is killed."""
         connection = http.client.HTTPConnection("127.0.0.1", self.port, timeout=SECONDS)
         with contextlib.closing(connection):
@@ -113,17 +117,17 @@ class Server:
 
     def counts(self):
         """How many changes and publications the source tells of, while nobody serves it."""
-        told = self.run("run", self.file, given=b"status")
-        return tuple(map(int, re.search(r"changes (\d+) publication (\d+)", told).groups()))
+        output = self.run("run", self.file, script=b"status")
+        return tuple(map(int, re.search(r"changes (\d+) publication (\d+)", output).groups()))
 
     def changes(self):
         """The moment, the name and the digests of each change that is listed."""
         head = self.shown("/changelist.xml")
-        paths = [it.text.removeprefix(self.base) for it in head.iterfind(f"{SITEMAP}sitemap/{SITEMAP}loc")]
-        urls = [url for it in [head, *map(self.shown, paths)] for url in it.iterfind(SITEMAP + "url")]
-        told = [(it.find(RS + "md").attrib, it.find(SITEMAP + "loc").text) for it in urls]
+        paths = [child.text.removeprefix(self.base) for child in head.iterfind(f"{SITEMAP}sitemap/{SITEMAP}loc")]
+        urls = [url for page in [head, *map(self.shown, paths)] for url in page.iterfind(SITEMAP + "url")]
+        pairs = [(child.find(RS + "md").attrib, child.find(SITEMAP + "loc").text) for child in urls]
         front = self.base + "/resource/"
-        return [(said["datetime"], loc.removeprefix(front), said.get("hash")) for said, loc in told]
+        return [(facts["datetime"], loc.removeprefix(front), facts.get("hash")) for facts, loc in pairs]
 
 
 class Round:
@@ -135,11 +139,11 @@ class Round:
         # What each change that stands made of its name, how many publications stand, and the runs that ended.
         self.changes, self.publications, self.ended = [], 0, []
         # What the source told of each change before it could drop it.
-        self.told, self.dropped = [], 0
+        self.reported, self.dropped = [], 0
         # How many seconds the last run took that ended.
         self.usual = 0.3
 
-    def held(self, count):
+    def resources_after(self, count):
         """What is held after this many changes."""
         return {name: body for name, body in dict(self.changes[:count]).items() if body is not None}
 
@@ -152,7 +156,7 @@ class Round:
         path, delay = f"/resource/{name}" if name else "/publish", self.delay() if is_killed else None
         if method == "POST" or is_killed:
             self.note_history()
-        status = self.server.asked(method, path, body, delay)
+        status = self.server.request(method, path, body, delay)
         self.counts["commands"] += 1
         self.counts["kills"] += is_killed
         self.note(method, name, body, status)
@@ -162,9 +166,9 @@ class Round:
     def note_history(self):
         """Notes what the source tells of the changes that are not noted yet, and how many of all it has dropped."""
         listed = self.server.changes()
-        self.told += [it for it in listed if not self.told or it[0] > self.told[-1][0]]
-        self.counts["dropped"] += len(self.told) - len(listed) - self.dropped
-        self.dropped = len(self.told) - len(listed)
+        self.reported += [change for change in listed if not self.reported or change[0] > self.reported[-1][0]]
+        self.counts["dropped"] += len(self.reported) - len(listed) - self.dropped
+        self.dropped = len(self.reported) - len(listed)
 
     def delay(self):
         """How many seconds after a command was sent the server is killed."""
@@ -172,7 +176,7 @@ class Round:
 
     def note(self, method, name, body, status):
         """Notes what stands of a command."""
-        is_held = name in self.held(len(self.changes))
+        is_held = name in self.resources_after(len(self.changes))
         made = (0, 1) if name is None else (int(method == "PUT" or is_held), 0)
         wanted = {"POST": 200, "PUT": 204 if is_held else 201, "DELETE": 204 if is_held else 404}[method]
         if status not in (wanted, None if self.server.is_killed() else wanted):
@@ -196,10 +200,10 @@ class Round:
 
     def mirror(self):
         """A run of the destination in a process of its own, with commands beside it, and a kill by chance."""
-        least, started, told = len(self.changes), time.monotonic(), self.folder.with_name("told")
+        least, started, output = len(self.changes), time.monotonic(), self.folder.with_name("told")
         words = [self.server.base, str(self.folder), "--yes", *self.rng.choice([[], [], [], ["--baseline"]])]
         lasting = self.rng.uniform(0, self.usual) if self.rng.random() < 0.5 else SECONDS
-        process = multiprocessing.get_context("fork").Process(target=destined, args=(words, told))
+        process = multiprocessing.get_context("fork").Process(target=destined, args=(words, output))
         process.start()
         for _ in range(self.rng.randrange(COMMANDS)):
             if process.is_alive() and time.monotonic() - started < lasting:
@@ -214,23 +218,23 @@ class Round:
             self.look_at_pieces()
         else:
             self.usual = time.monotonic() - started
-            self.end(process.exitcode, told.read_text(), least)
+            self.end(process.exitcode, output.read_text(), least)
 
     def mirror_at_last(self):
         """A run of the destination as a command, without commands to the source."""
         words, environment = [*COMMAND, "mirror", self.server.base, self.folder], os.environ | DIRECT
-        ran = subprocess.run(words, env=environment, capture_output=True, text=True, timeout=SECONDS)
+        process = subprocess.run(words, env=environment, capture_output=True, text=True, timeout=SECONDS)
         self.counts["runs"] += 1
-        self.end(ran.returncode, ran.stdout + ran.stderr, len(self.changes))
+        self.end(process.returncode, process.stdout + process.stderr, len(self.changes))
 
-    def end(self, status, told, least):
+    def end(self, status, message, least):
         """Notes what a run told that ended by itself, and its folder."""
-        told = "".join(it for it in told.splitlines(True) if "; asking again for " not in it)
-        if status or told.count("\n") != 1:
-            raise Differs(f"the destination ended with status {status}: {told}")
-        self.counts["baselines"] += told.startswith("baseline")
-        self.counts["anew"] += int((re.search(r"(\d+) anew", told) or [0, 0])[1])
-        self.ended.append(Ended(told.split()[-1], files_of(self.folder), least, len(self.changes)))
+        message = "".join(line for line in message.splitlines(True) if "; asking again for " not in line)
+        if status or message.count("\n") != 1:
+            raise Differs(f"the destination ended with status {status}: {message}")
+        self.counts["baselines"] += message.startswith("baseline")
+        self.counts["anew"] += int((re.search(r"(\d+) anew", message) or [0, 0])[1])
+        self.ended.append(Ended(message.split()[-1], files_of(self.folder), least, len(self.changes)))
 
     def look_at_pieces(self):
         """What a killed run leaves is whole, file by file."""
@@ -242,25 +246,25 @@ class Round:
 
     def fault(self, ended, moments):
         """What is wrong with a folder, or nothing."""
-        count = sum(it <= ended.until for it in moments)
-        if not ended.least <= count <= ended.most:
-            return f"it is of {count} changes, not of {ended.least} to {ended.most}"
-        wanted, found = laid_out(self.held(count)), ended.folder
-        differing = sorted(it for it in wanted.keys() | found.keys() if wanted.get(it, 0) != found.get(it, 0))
+        count = sum(moment <= ended.until for moment in moments)
+        if not ended.least <= count <= ended.greatest:
+            return f"it is of {count} changes, not of {ended.least} to {ended.greatest}"
+        wanted, found = laid_out(self.resources_after(count)), ended.folder
+        differing = sorted(name for name in wanted.keys() | found.keys() if wanted.get(name, 0) != found.get(name, 0))
         return f"after {count} changes these differ: {differing}" if differing else ""
 
     def judge(self):
         """Holds each folder against the history that the source tells at the end."""
         self.note_history()
         made = [(name, digests(body)) for name, body in self.changes]
-        if [it[1:] for it in self.told] != made:
-            raise Differs(f"the Change List had {len(self.told)} changes, and not the {len(made)} that were made")
-        moments = [it[0] for it in self.told]
-        for number, it in enumerate(self.ended, 1):
-            if why := self.fault(it, moments):
-                raise Differs(f"run {number} of {len(self.ended)} that ended, as of {it.until}: {why}")
-            count = sum(moment <= it.until for moment in moments)
-            self.counts["within"] += it.least < count < it.most
+        if [change[1:] for change in self.reported] != made:
+            raise Differs(f"the Change List had {len(self.reported)} changes, and not the {len(made)} that were made")
+        moments = [change[0] for change in self.reported]
+        for number, run in enumerate(self.ended, 1):
+            if why := self.fault(run, moments):
+                raise Differs(f"run {number} of {len(self.ended)} that ended, as of {run.until}: {why}")
+            count = sum(moment <= run.until for moment in moments)
+            self.counts["within"] += run.least < count < run.greatest
         self.see_wrong(self.ended[-1], moments)
 
     def see_wrong(self, last, moments):
@@ -268,8 +272,8 @@ class Round:
         made_up = [last._replace(folder=last.folder | {"zz": b""})]
         files = [path for path, body in last.folder.items() if body is not None]
         made_up += [last._replace(folder=last.folder | {path: b"made up"}) for path in files]
-        made_up += [last._replace(until=it) for it in moments[-2:-1]]
-        if not all(self.fault(it, moments) for it in made_up):
+        made_up += [last._replace(until=moment) for moment in moments[-2:-1]]
+        if not all(self.fault(run, moments) for run in made_up):
             raise Differs("a folder that was made up passes, and this test is blind")
 
     def go(self):
@@ -294,10 +298,10 @@ def digests(body):
     return f"md5:{hashlib.md5(body).hexdigest()} sha-256:{hashlib.sha256(body).hexdigest()}"
 
 
-def destined(words, told):
+def destined(words, output):
     """A run of the destination in this process, whose lines go to a file."""
     os.environ.update(DIRECT)
-    with open(told, "w", encoding="utf-8") as file:
+    with open(output, "w", encoding="utf-8") as file:
         with contextlib.redirect_stdout(file), contextlib.redirect_stderr(file):
             status = command.main(["mirror", *words])
     sys.exit(status)
@@ -305,7 +309,8 @@ def destined(words, told):
 
 # What the end prints. A run ended within if it met commands before its point, and commands after it.
 TOLD = """mirror: seed {seed}, {rounds} rounds, {seconds:.1f} seconds
-mirror: {commands} commands, {kills} kills of the server; {unanswered} unanswered, of which {standing} stand; {dropped} changes dropped
+mirror: {commands} commands, {kills} kills of the server; {unanswered} unanswered, of which {standing} stand; \
+{dropped} changes dropped
 mirror: {runs} runs, {killed} killed, {baselines} baselines ended, {within} ended within, {anew} fetches anew
 mirror: {stops} stops at a call, {moves} moves of a source between requests, {begun} increments begun anew by them
 mirror: each folder is what its source held at the moment that was told"""
@@ -330,22 +335,23 @@ def look(program, rounds, rng, counts):
 
 
 def main():
+    """Does the rounds by the options of the command line. Gives the exit status."""
     words = argparse.ArgumentParser(usage="python3 -m operations.tests.mirror [PROGRAM] [ROUNDS] [--seed N]")
     words.add_argument("given", nargs="*")
     words.add_argument("--seed", type=int)
-    given, started = words.parse_args(), time.monotonic()
-    numbers = [int(it) for it in given.given if it.isdecimal()]
-    programs = [it for it in given.given if not it.isdecimal()]
+    options, started = words.parse_args(), time.monotonic()
+    numbers = [int(argument) for argument in options.given if argument.isdecimal()]
+    programs = [argument for argument in options.given if not argument.isdecimal()]
     rounds, program = (numbers or [ROUNDS])[0], os.path.abspath((programs or [PROGRAM])[0])
     drawn = random.randrange(10**9) if numbers else SEED
-    seed, counts = drawn if given.seed is None else given.seed, collections.Counter()
+    seed, counts = drawn if options.seed is None else options.seed, collections.Counter()
     fault = look(program, rounds, random.Random(seed), counts)
     if fault:
         print(f"mirror: seed {seed}, {fault}")
         return 1
     seconds = time.monotonic() - started
-    told = collections.defaultdict(int, counts, seed=seed, rounds=rounds, seconds=seconds)
-    print(TOLD.format_map(told))
+    figures = collections.defaultdict(int, counts, seed=seed, rounds=rounds, seconds=seconds)
+    print(TOLD.format_map(figures))
     return 0
 
 

@@ -1,9 +1,9 @@
 """A destination whose source drops what it is about to read.
 
-What operations/tests/mirror leaves to chance is here at each place: between any two requests of a run, and before the first
-one, a source (crash_model.py) does some commands, whose publications drop the parts of the Change List that the run
-knows of, and take the parts of the Resource List away. The run has to end all the same, with what the source held at
-the moment that it prints.
+What operations/tests/mirror leaves to chance is here at each place: between any two requests of a run, and before the
+first one, a source (crash_model.py) does some commands, whose publications drop the parts of the Change List that the
+run knows of, and take the parts of the Resource List away. The run has to end all the same, with what the source held
+at the moment that it prints.
 """
 import shutil
 
@@ -15,7 +15,8 @@ from tests.reading import crash_model
 
 BASE, LIMIT = "http://127.0.0.1:8080", 2
 # What is there before the first run, and what is done on the way: one publication, two, and two that drop all.
-BEFORE = [f"put {name} {name.encode().hex()} text/plain" for name in "abcde"] + ["publish", "delete a", "put f - text/plain"]
+BEFORE = [
+    f"put {name} {name.encode().hex()} text/plain" for name in "abcde"] + ["publish", "delete a", "put f - text/plain"]
 ONE = ["put b 6262 text/plain", "publish", "put g 67 text/plain"]
 TWO = [*ONE, "delete c", "publish", "put h - text/plain"]
 ALL = [*TWO, "put i 69 text/plain", "publish", "publish", "publish"]
@@ -27,17 +28,19 @@ class Moving:
     """A source that does some commands before its request of one number, and what it held at each moment."""
 
     def __init__(self, lines, at):
-        self.state, self.held, self.requests = crash_model.State(BASE, LIMIT), {}, 0
+        self.state, self.resources, self.requests = crash_model.State(BASE, LIMIT), {}, 0
         self.lines, self.at, self.begun, self.address, self.longest = lines, at, 0, BASE, LONGEST_DOCUMENT
         self.patience = PATIENCE
         self.does(BEFORE)
 
     def does(self, lines):
+        """Does commands, and notes what is held after each."""
         for line in lines:
             self.state = self.state.after(line, 0)[1] or self.state
-            self.held[crash_model.moment_text(self.state.last)] = {name: body for name, (body, _) in self.state.held.items()}
+            resources = {name: body for name, (body, _) in self.state.held.items()}
+            self.resources[crash_model.moment_text(self.state.last)] = resources
 
-    def ask(self, method, path, most):
+    def ask(self, method, path, limit):
         """What a path answers, as connections give it."""
         if self.requests == self.at:
             self.does(self.lines)
@@ -50,7 +53,9 @@ class Moving:
 
 
 def run(source, path):
-    """A run of the destination on a folder. Gives the moment that it told, and how often it asked for the Resource List."""
+    """A run of the destination on a folder. Gives the moment that it told, and how often it asked for the Resource
+    List.
+    """
     folder, begun = Folder(path, BASE), source.begun
     folder.begin()
     try:
@@ -65,8 +70,9 @@ def runs(source, path, files_of, laid_out):
     for lines in ([], LATER):
         source.does(lines)
         until, begun = run(source, path)
-        if files_of(path) != laid_out(source.held[until]):
-            raise Differs(f"before request {source.at} {source.lines}: as of {until} the folder has {sorted(files_of(path))}")
+        if files_of(path) != laid_out(source.resources[until]):
+            raise Differs(
+                f"before request {source.at} {source.lines}: as of {until} the folder has {sorted(files_of(path))}")
     return source.requests, begun
 
 

@@ -28,17 +28,18 @@ class Stopping:
     """The system's calls, of which a chosen number succeed."""
 
     def __init__(self, count):
-        self.left = count
+        self.remaining = count
 
     def __getattr__(self, name):
         return self.call(name) if name in CALLS else getattr(os, name)
 
     def call(self, name):
-        def counted(*words, **named):
-            if self.left == 0:
+        """A call of the system that counts, and ends the run at its number."""
+        def counted(*words, **settings):
+            if self.remaining == 0:
                 raise Stop
-            self.left -= 1
-            return getattr(os, name)(*words, **named)
+            self.remaining -= 1
+            return getattr(os, name)(*words, **settings)
 
         return counted
 
@@ -62,7 +63,8 @@ def bring(folder, wanted):
         folder.remove(name)
     for name, body in wanted.items():
         if body is not None:
-            if not folder.has(name, exact_facts({"length": str(len(body)), "hash": f"sha-256:{hashlib.sha256(body).hexdigest()}"})):
+            if not folder.has(name, exact_facts({"length": str(len(body)),
+                                                 "hash": f"sha-256:{hashlib.sha256(body).hexdigest()}"})):
                 folder.write(name, body)
     folder.settle()
     folder.remember(MOMENT, MOMENT)
@@ -82,10 +84,10 @@ def is_stopped(path, calls, wanted):
     return True
 
 
-def go_on(path, later, held, is_baseline):
+def go_on(path, later, resources, is_baseline):
     """A whole run: an increment, which knows what has changed, or a baseline, which knows what is held."""
     with opened(path, math.inf) as folder:
-        bring(folder, dict.fromkeys(folder.names()) | held if is_baseline else later)
+        bring(folder, dict.fromkeys(folder.names()) | resources if is_baseline else later)
 
 
 def look(rng, room, rounds, files_of, laid_out):
@@ -94,14 +96,14 @@ def look(rng, room, rounds, files_of, laid_out):
     for _ in range(rounds):
         before = {name: name.encode() for name in at_random(rng, 1)}
         changes, more = at_random(rng, 2), at_random(rng, 3)
-        held = {name: body for name, body in (before | changes | more).items() if body is not None}
+        resources = {name: body for name, body in (before | changes | more).items() if body is not None}
         with opened(first, math.inf) as folder:
             bring(folder, before)
         for calls in itertools.count():
             shutil.copytree(first, path)
             was_stopped = is_stopped(path, calls, changes)
-            go_on(path, changes | more, held, rng.random() < 0.5)
-            if files_of(path) != laid_out(held):
+            go_on(path, changes | more, resources, rng.random() < 0.5)
+            if files_of(path) != laid_out(resources):
                 then = f"{changes} up to call {calls}, then {more}"
                 raise Differs(f"{before}, then {then}: {sorted(files_of(path))}")
             shutil.rmtree(path)

@@ -29,8 +29,8 @@ FINDING = ["/.well-known/resourcesync", "/capabilitylist.xml"]
 LISTS = {"/resourcelist.xml": "Resource List", "/changelist.xml": "Change List"}
 # A command, its moment, and what is held after it; a fetch of a path, and what it brought; and the end of a run of
 # the destination with the moment that it told.
-Command = collections.namedtuple("Command", "told moment held")
-Fetch = collections.namedtuple("Fetch", "path came")
+Command = collections.namedtuple("Command", "text moment resources")
+Fetch = collections.namedtuple("Fetch", "path body")
 End = collections.namedtuple("End", "until")
 
 
@@ -39,7 +39,7 @@ class Story:
 
     def __init__(self, port, changed):
         self.port, self.changed = port, changed
-        self.columns, self.held, self.states, self.requests = [], {}, {}, 0
+        self.columns, self.resources, self.states, self.requests = [], {}, {}, 0
 
     def command(self, method, name, value):
         """One command, and what is held after it."""
@@ -51,28 +51,28 @@ class Story:
             response.read()
         if response.status not in (200, 201, 204):
             raise Differs(f"{method} {path} was answered {response.status}")
-        told = {"PUT": f"put {name} = {value}", "DELETE": f"delete {name}", "POST": "publish"}[method]
-        others = {key: old for key, old in self.held.items() if key != name}
-        self.held = others | {name: value} if method == "PUT" else others
+        text = {"PUT": f"put {name} = {value}", "DELETE": f"delete {name}", "POST": "publish"}[method]
+        others = {key: old for key, old in self.resources.items() if key != name}
+        self.resources = others | {name: value} if method == "PUT" else others
         moment = f"2000-02-29T00:00:00.{len(self.states):03d}Z"
-        self.states[moment] = self.held
-        self.columns.append(Command(told, moment, self.held))
+        self.states[moment] = self.resources
+        self.columns.append(Command(text, moment, self.resources))
 
-    def ask(self, asking, path, most):
+    def ask(self, asking, path, limit):
         """The request of a destination, noted, with the commands before it."""
-        for it in COMMANDS.get(self.requests, []):
-            self.command(*it)
+        for arguments in COMMANDS.get(self.requests, []):
+            self.command(*arguments)
         self.requests += 1
-        answer = asking("GET", path, most=most)
-        came = answer.body.decode() if path.startswith("/resource/") else ""
-        self.columns.append(Fetch(path, came if answer.status == 200 else str(answer.status)))
+        answer = asking("GET", path, limit=limit)
+        body = answer.body.decode() if path.startswith("/resource/") else ""
+        self.columns.append(Fetch(path, body if answer.status == 200 else str(answer.status)))
         return answer
 
     def run(self, base, folder):
         """A run of the destination. The folder is compared with the state at the moment that it told."""
         opened, connections = Folder(folder, base), Connections(base)
         asking = connections.ask
-        connections.ask = lambda method, path, most: self.ask(asking, path, most)
+        connections.ask = lambda method, path, limit: self.ask(asking, path, limit)
         opened.begin()
         try:
             mirror.Run(lists.Source(connections, is_at_base=True), opened).go(opened.until is None)
@@ -105,12 +105,12 @@ def served(program, room):
 def story(program, room, changed):
     """All columns, of real runs."""
     with served(program, room) as port:
-        told = Story(port, changed)
-        for it in BEFORE:
-            told.command(*it)
+        events = Story(port, changed)
+        for arguments in BEFORE:
+            events.command(*arguments)
         for _ in range(2):
-            told.run(f"http://127.0.0.1:{port}", os.path.join(room, "mirror"))
-    return told.columns
+            events.run(f"http://127.0.0.1:{port}", os.path.join(room, "mirror"))
+    return events.columns
 
 
 TOLD = ["Above, the commands of a source, each with the point of its history that it makes. Below, what a destination "
@@ -121,41 +121,42 @@ SOURCE, HISTORY, ABOVE, FETCHES, BELOW, RIGHT = 122, 172, 234, 316, 378, 870
 WIDE, WIDEST = 46, 62
 
 
-def spelled(held):
-    return [f"{name} = {value}" for name, value in sorted(held.items())]
+def spelled(resources):
+    """Resources as the picture has them."""
+    return [f"{name} = {value}" for name, value in sorted(resources.items())]
 
 
 def placed(columns):
     """The columns with the middles that they are drawn at. The two fetches that find the lists are one column."""
     found, x = [], 30
-    for it in columns:
-        if isinstance(it, Fetch) and it.path == FINDING[1]:
+    for column in columns:
+        if isinstance(column, Fetch) and column.path == FINDING[1]:
             continue
-        width = WIDEST if isinstance(it, End) else WIDE
-        found.append((x + width / 2, it))
+        width = WIDEST if isinstance(column, End) else WIDE
+        found.append((x + width / 2, column))
         x += width
     return found
 
 
 def draw_command(picture, x, command, number):
     """A command above, and below it the point of the history that it makes."""
-    what, _, of = command.told.partition(" ")
+    what, _, of = command.text.partition(" ")
     picture.lines(x, SOURCE, [what, of] if of else ["", what], 12, anchor="middle")
     picture.element("circle", cx=x, cy=HISTORY, r=10, fill=FILLS["dir"], stroke=INK)
     picture.text(x, HISTORY + 4, str(number), 11, "middle", True)
-    picture.lines(x, HISTORY + 28, spelled(command.held), 11, anchor="middle", is_code=True)
+    picture.lines(x, HISTORY + 28, spelled(command.resources), 11, anchor="middle", is_code=True)
 
 
 def draw_fetch(picture, x, fetch):
     """A fetch below: what is asked for, and what came where it is a resource."""
     picture.box(x - 5, FETCHES - 5, 10, 10, FILLS["rec"], INK)
     name = fetch.path.removeprefix("/resource/")
-    told = [f"get {name}", fetch.came if fetch.came == "404" else f"{name} = {fetch.came}"]
+    lines = [f"get {name}", fetch.body if fetch.body == "404" else f"{name} = {fetch.body}"]
     if fetch.path in FINDING:
-        told = ["finds", "the lists"]
+        lines = ["finds", "the lists"]
     elif fetch.path in LISTS:
-        told = LISTS[fetch.path].split(" ")
-    picture.lines(x, FETCHES + 24, told, 10, anchor="middle")
+        lines = LISTS[fetch.path].split(" ")
+    picture.lines(x, FETCHES + 24, lines, 10, anchor="middle")
 
 
 def draw_end(picture, x, number, point, read):
@@ -167,14 +168,14 @@ def draw_end(picture, x, number, point, read):
     picture.lines(x, FETCHES + 24, ["the mirror", f"is point {number}"], 10, anchor="middle", font_weight="bold")
 
 
-def draw_run(picture, begin, end, told):
+def draw_run(picture, begin, end, text):
     """A bracket below the fetches of a run."""
     picture.element("path", d=f"M{begin:.1f} {BELOW - 6}V{BELOW}H{end:.1f}V{BELOW - 6}", fill="none", stroke=SOFT)
-    picture.text((begin + end) / 2, BELOW + 16, told, 12, "middle", fill=SOFT)
+    picture.text((begin + end) / 2, BELOW + 16, text, 12, "middle", fill=SOFT)
 
 
 def as_it_is(folder):
-    pass
+    """Leaves a mirror as it is."""
 
 
 def draw(program, room, changed=as_it_is):
@@ -188,15 +189,15 @@ def draw(program, room, changed=as_it_is):
     picture.line(30, HISTORY, RIGHT, HISTORY, INK)
     picture.line(30, FETCHES, RIGHT, FETCHES, INK)
     points, begin, read, runs = {}, None, None, iter(["first run: a baseline", "second run: an increment"])
-    for x, it in placed(columns):
-        if isinstance(it, Command):
-            points[it.moment] = (len(points) + 1, x)
-            draw_command(picture, x, it, len(points))
-        elif isinstance(it, Fetch):
-            begin, read = begin or x, x if LISTS.get(it.path) == "Change List" else read
-            draw_fetch(picture, x, it)
+    for x, column in placed(columns):
+        if isinstance(column, Command):
+            points[column.moment] = (len(points) + 1, x)
+            draw_command(picture, x, column, len(points))
+        elif isinstance(column, Fetch):
+            begin, read = begin or x, x if LISTS.get(column.path) == "Change List" else read
+            draw_fetch(picture, x, column)
         else:
-            draw_end(picture, x, points[it.until][0], points[it.until], read)
+            draw_end(picture, x, points[column.until][0], points[column.until], read)
             draw_run(picture, begin - 12, x + 12, next(runs))
             begin = None
     return picture
@@ -204,14 +205,14 @@ def draw(program, room, changed=as_it_is):
 
 def description(columns):
     """The picture in words."""
-    told, points = [], {}
-    for it in columns:
-        if isinstance(it, Command):
-            points[it.moment] = len(points) + 1
-            held = " and ".join(spelled(it.held)) or "nothing"
-            told.append(f"the source does {it.told}, point {points[it.moment]}, and holds {held}")
-        elif isinstance(it, Fetch):
-            told.append(f"the destination fetches {it.path}{', which is ' + it.came if it.came else ''}")
+    events, points = [], {}
+    for column in columns:
+        if isinstance(column, Command):
+            points[column.moment] = len(points) + 1
+            resources = " and ".join(spelled(column.resources)) or "nothing"
+            events.append(f"the source does {column.text}, point {points[column.moment]}, and holds {resources}")
+        elif isinstance(column, Fetch):
+            events.append(f"the destination fetches {column.path}{', which is ' + column.body if column.body else ''}")
         else:
-            told.append(f"the run ends, and the mirror is point {points[it.until]}")
-    return "A time line, from left to right: " + "; ".join(told) + "."
+            events.append(f"the run ends, and the mirror is point {points[column.until]}")
+    return "A time line, from left to right: " + "; ".join(events) + "."

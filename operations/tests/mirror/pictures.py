@@ -1,6 +1,8 @@
-"""Draws the picture of a mirror again, from runs of `ropepeach mirror` on the proved program, and compares it byte for byte.
+"""Draws the picture of a mirror again, from runs of `ropepeach mirror` on the proved program, and compares it byte for
+byte.
 
-usage: python3 -m operations.tests.mirror.pictures [PROGRAM] [--draw]     the built program, where none is given; --draw keeps what it draws
+usage: python3 -m operations.tests.mirror.pictures [PROGRAM] [--draw]
+    the built program, where none is given; --draw keeps what it draws
 Exit status 1 where the picture differs (`make pictures` draws it anew), or where something wrong is not noticed.
 """
 

@@ -6,6 +6,7 @@ that a name leaves; runs are killed (taking.py). Behind each answer of each sour
 every resource is held somewhere, with its newest bytes.
 
 usage: python3 -m operations.tests.model.collection [--short] [--histories N] [--seed N] [--first N]
+                                                [--most-faults N]
 Exit status 1 where something is not as the model says.
 A history is repeated by the seed and the number that are printed.
 """
@@ -30,7 +31,7 @@ from operations.tests.model.trials import Counts, look
 from tests.program import Differs
 from tests.reading import crash_model
 
-HISTORIES, SHORT, RUNS = 500, 20, 4
+HISTORIES, SHORT, RUNS = 1_000, 20, 4
 NAMES = ["a", "b/c", "d", "e", "x&y", "z%20z"] + [f"n/{number:02}" for number in range(18)]
 WEATHER = ["calm", "calm", "refusing", "losing", "unread", "shared", "shared", "killing", "gone", "full"]
 # Which settings a run of grow has, and one of fill.
@@ -44,7 +45,7 @@ class Whole:
                  stack: contextlib.ExitStack) -> None:
         self.rng, self.file = rng, room / "collection.toml"
         self.front = stack.enter_context(MadeUpSource(self.described))
-        self.named: list[str] = []
+        self.names: list[str] = []
         self.sources: dict[str, Taking] = {}
         self.servers: dict[str, MadeUpSource] = {}
         self.newest: dict[str, bytes | None] = {}
@@ -58,7 +59,7 @@ class Whole:
 
     def write(self, names: list[str]) -> None:
         """Writes the file of the collection, and the description, with these sources."""
-        self.named = names
+        self.names = names
         lines = [f'address = "{self.front.base}"']
         for name in names:
             lines += [f"[source.{name}]", f'address = "{self.servers[name].base}"',
@@ -70,22 +71,22 @@ class Whole:
         if request.path != "/.well-known/resourcesync":
             return word(404, "NoSuchDocument")
         links = [f"<url><loc>{self.front.base}/{name}/capabilitylist.xml</loc>"
-                 '<rs:md capability="capabilitylist"/></url>' for name in self.named]
+                 '<rs:md capability="capabilitylist"/></url>' for name in self.names]
         return Answer(200, crash_model.document("urlset", [], 'capability="description"', links).encode())
 
     def answered(self, name: str, request: Request) -> Answer | None:
         """The answer of a source. Behind it each resource has to be held somewhere, as it was put last."""
         answer = self.sources[name].answer(request)
-        held = [self.held(member) for member in self.sources]
-        for it, body in self.newest.items():
-            if body not in [those.get(it) for those in held] and not self.lost:
-                asked = f"{request.method} {request.path} of {name}"
-                self.lost = f"{it} is nowhere with its newest bytes, behind {asked}"
+        holdings = [self.resources_of(member) for member in self.sources]
+        for path, body in self.newest.items():
+            if body not in [those.get(path) for those in holdings] and not self.lost:
+                request_text = f"{request.method} {request.path} of {name}"
+                self.lost = f"{path} is nowhere with its newest bytes, behind {request_text}"
         return answer
 
-    def held(self, name: str) -> dict[str, bytes]:
+    def resources_of(self, name: str) -> dict[str, bytes]:
         """What a source holds."""
-        return {it: body for it, (body, _) in self.sources[name].history.state.held.items()}
+        return {path: body for path, (body, _) in self.sources[name].history.state.held.items()}
 
     def note(self) -> None:
         """Notes what is held where, before a run of grow.
@@ -94,7 +95,7 @@ class Whole:
         """
         self.lost, found = "", collections.defaultdict[str, set[bytes]](set)
         for member in self.sources:
-            for name, body in self.held(member).items():
+            for name, body in self.resources_of(member).items():
                 found[name].add(body)
         self.newest = {name: next(iter(bodies)) for name, bodies in found.items() if len(bodies) == 1}
 
@@ -146,7 +147,7 @@ class Trial:
         """Which sources hold each name."""
         found = collections.defaultdict[str, list[str]](list)
         for member in self.whole.sources:
-            for name in self.whole.held(member):
+            for name in self.whole.resources_of(member):
                 found[name].append(member)
         return found
 
@@ -155,17 +156,17 @@ class Trial:
         where a name is astray.
         """
         self.begin("calm")
-        ended, sources = self.ran("collection", self.whole.file), self.whole.sources
+        ended, sources = self.run_command("collection", self.whole.file), self.whole.sources
         members = list(sources)
-        told = re.findall(r"(?m)^(s\d): (\d+) held at \S+, (all published|with changes)", ended.output)
+        found = re.findall(r"(?m)^(s\d): (\d+) held at \S+, (all published|with changes)", ended.output)
         words = {True: "all published", False: "with changes"}
-        meant = [(name, str(len(taking.history.state.held)), words[taking.is_published()])
-                 for name, taking in sources.items()]
+        wanted = [(name, str(len(taking.history.state.held)), words[taking.is_published()])
+                  for name, taking in sources.items()]
         astray = sum(home_of(name, members) != member
                      for name, those in self.holders().items() for member in those)
         is_told = not astray or f"{astray} names are where they do not live" in ended.complaints
-        if told != meant or ended.status != bool(astray) or not is_told:
-            raise Differs(f"collection: {astray} are astray, {meant}; it ended with {ended}")
+        if found != wanted or ended.status != bool(astray) or not is_told:
+            raise Differs(f"collection: {astray} are astray, {wanted}; it ended with {ended}")
 
     def unsettle(self) -> None:
         """Moves some names to where they do not live, as if a source had been added, and leaves some in both
@@ -188,9 +189,9 @@ class Trial:
         """
         if request.method != "GET" or (request.path != "/changelist.xml" and self.rng.random() < 0.95):
             return
-        held = sorted(self.whole.held(member))
+        names_held = sorted(self.whole.resources_of(member))
         members, newest = list(self.whole.sources), self.whole.newest
-        going = [name for name in held if home_of(name, members) != member and name in newest]
+        going = [name for name in names_held if home_of(name, members) != member and name in newest]
         if going:
             name, body = self.rng.choice(going), b"theirs" + self.rng.randbytes(4)
             self.whole.sources[member].history.put(name, body, "a/theirs")
@@ -204,7 +205,7 @@ class Trial:
             own = weather if name == ill or weather == "shared" or self.rng.random() < 0.3 else "calm"
             taking.begin(own, self.runner.kill, functools.partial(self.others_put, name))
 
-    def ran(self, *words: object) -> Ended:
+    def run_command(self, *words: object) -> Ended:
         """A run of the command, whose sources served as they should."""
         ended = self.runner.run(self.room, *words, "--patience", "0.3")
         for server in self.whole.servers.values():
@@ -219,11 +220,11 @@ class Trial:
         self.foreign.clear()
         is_named = self.rng.random() < 0.9 or weather == "calm"
         names = list(self.whole.sources)
-        self.whole.named = names if is_named else names[:-1]
+        self.whole.names = names if is_named else names[:-1]
         is_dry = self.rng.random() < 0.15
         expected = Expected(self.whole.sources, is_named)
         self.begin(weather)
-        ended = self.ran("grow", self.whole.file, *options, *["--dry-run"] * is_dry)
+        ended = self.run_command("grow", self.whole.file, *options, *["--dry-run"] * is_dry)
         fault = self.whole.lost or fault_of(expected, ended, options, self.foreign, is_dry)
         if fault:
             raise Differs(f"grow, {weather}, {options}{' dry' * is_dry}: {fault}; it ended with {ended}")
@@ -240,11 +241,12 @@ class Trial:
         """A run of fill on the collection, from a new folder that has much of what is held."""
         self.whole.newest, self.whole.lost = {}, ""
         folder, files = self.room / f"folder{self.rng.random()}", dict[str, bytes]()
-        held = {name: body for member in self.whole.sources for name, body in self.whole.held(member).items()}
+        resources = {name: body for member in self.whole.sources
+                     for name, body in self.whole.resources_of(member).items()}
         for name in NAMES:
             if "%" not in name and self.rng.random() < 0.7:
-                is_same = name in held and self.rng.random() < 0.6
-                files[name] = held[name] if is_same else self.rng.randbytes(9)
+                is_same = name in resources and self.rng.random() < 0.6
+                files[name] = resources[name] if is_same else self.rng.randbytes(9)
                 path = folder / name
                 path.parent.mkdir(parents=True, exist_ok=True)
                 path.write_bytes(files[name])
@@ -254,8 +256,8 @@ class Trial:
         expected = {member: fill_model.Expected(self.wanted(files, member), self.whole.sources[member])
                     for member in members}
         is_astray = any(home_of(name, members) != member
-                        for member in members for name in self.whole.held(member))
-        ended = self.ran("fill", folder, self.whole.file, "--yes")
+                        for member in members for name in self.whole.resources_of(member))
+        ended = self.run_command("fill", folder, self.whole.file, "--yes")
         fault = self.fault_of_fill(expected, ended, is_astray)
         if fault:
             raise Differs(f"fill, {weather}: {fault}; it said {ended.output!r} {ended.complaints[-500:]!r}")

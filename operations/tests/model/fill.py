@@ -5,6 +5,7 @@ it amid a run; runs are killed (taking.py). The folder changes between two runs,
 resource. fill_model.py says what the source must hold after each run, and what the run may count.
 
 usage: python3 -m operations.tests.model.fill [--short] [--histories N] [--seed N] [--first N]
+                                                [--most-faults N]
 Exit status 1 where something is not as the model says.
 A history is repeated by the seed and the number that are printed.
 """
@@ -26,7 +27,7 @@ from tests.program import Differs
 HISTORIES, SHORT, RUNS = 1_000, 40, 5
 PLAIN = b"ABCDEFGHIJKLMNOPQRSTUVWXYZabcdefghijklmnopqrstuvwxyz0123456789-._~!$&'()*+,;=:@/"
 NAMES = ["a.txt", "b.html", "c", "d e", "\u00fc", "n/1", "n/2.txt", "n/deep/3", "p%41", "q?x",
-         *(f"many/{number:02}" for number in range(20))]
+         "m" * 240, *(f"many/{number:02}" for number in range(20))]
 TYPES = {".txt": "text/plain", ".html": "text/html", "": "application/octet-stream"}
 # What cannot be a resource, by its name.
 UNFIT = ["l" * 241, "link", "pipe", "large", "linked"]
@@ -48,7 +49,12 @@ class Trial:
         self.folder.mkdir()
         self.unfit, self.foreign = set[str](), set[str]()
         self.are_typed = self.rng.random() < 0.3
-        (room / "types").write_text("n/* application/x-n\n*.html text/x-page\n")
+        self.give_type("application/x-n")
+
+    def give_type(self, kind: str) -> None:
+        """Gives the files of a folder this type."""
+        self.kind = kind
+        (self.room / "types").write_text(f"n/* {kind}\n*.html text/x-page\n")
 
     def go(self) -> None:
         """All runs of a history; the last two, in calm weather, have to end well."""
@@ -58,13 +64,17 @@ class Trial:
             self.source.stays = self.rng.random() < 0.3
             for _ in range(self.rng.randrange(8)):
                 self.history.advance([*map(name_of, NAMES), "link/x", "linked/y", "other"])
+            if self.rng.random() < 0.5:
+                # (these stay once `link` and `linked` are links, and go before)
+                self.history.put("link/x", b"x")
+                self.history.put("linked/y", b"y")
             for weather in [*self.rng.choices(WEATHER, k=RUNS), "calm", "calm"]:
                 self.change_folder()
                 self.run(weather, self.rng.choice(OPTIONS))
             self.run("calm", ["--yes"])
 
     def change_folder(self) -> None:
-        """Writes, changes and removes files, and things that cannot be resources.
+        """Writes, changes and removes files, and things that cannot be resources; gives files another type.
 
         Each file has a time of its own.
         """
@@ -81,6 +91,8 @@ class Trial:
                 os.utime(path, (1_700_000_000 + self.number, 1_700_000_000 + self.number))
         if self.rng.random() < 0.2:
             self.make_unfit(self.rng.choice(UNFIT))
+        if self.rng.random() < 0.2:
+            self.give_type(self.rng.choice(["application/x-n", "application/x-m"]))
 
     def make_unfit(self, name: str) -> None:
         """Makes something that is left out."""
@@ -104,17 +116,17 @@ class Trial:
             name = name_of(path)
             kind = TYPES[pathlib.PurePath(path).suffix]
             if self.are_typed and (path.startswith("n/") or path.endswith(".html")):
-                kind = "application/x-n" if path.startswith("n/") else "text/x-page"
+                kind = self.kind if path.startswith("n/") else "text/x-page"
                 typed.add(name)
             files[name] = (body, kind)
         return Wanted(files, typed, self.unfit, options)
 
     def others_put(self, request: Request) -> None:
         """Somebody else puts a body, by a name of the folder or another one, or deletes one."""
-        held = sorted(self.history.state.held)
+        names = sorted(self.history.state.held)
         name = self.rng.choice([*map(name_of, NAMES), "theirs"])
-        if held and self.rng.random() < 0.4:
-            name = self.rng.choice(held)
+        if names and self.rng.random() < 0.4:
+            name = self.rng.choice(names)
             self.history.do(f"delete {name}")
         else:
             self.history.put(name, b"theirs" + self.rng.randbytes(4), "a/theirs")
@@ -127,18 +139,18 @@ class Trial:
         self.foreign.clear()
         self.taking.begin(weather, self.runner.kill, self.others_put)
         expected = Expected(self.wanted(options), self.taking)
-        ended = self.ran(options)
+        ended = self.run_command(options)
         fault = fault_of(expected, ended, self.foreign)
         if fault:
-            said = f"it said {ended.output!r} {ended.complaints[-300:]!r}"
-            raise Differs(f"{weather}, {' '.join(options)}: {fault}; {said}")
+            message = f"it said {ended.output!r} {ended.complaints[-300:]!r}"
+            raise Differs(f"{weather}, {' '.join(options)}: {fault}; {message}")
         self.counts["runs"] += 1
         self.counts[f"status {ended.status}"] += 1
         self.counts["faults served"] += self.taking.faults
         self.counts["changes by others"] += len(self.foreign)
         self.counts["changes acknowledged"] += len(self.taking.acknowledged)
 
-    def ran(self, options: list[str]) -> Ended:
+    def run_command(self, options: list[str]) -> Ended:
         """A run of the command."""
         types = ["--types", self.room / "types"] if self.are_typed else []
         words = ["fill", self.folder, self.source.base, "--patience", "0.3", *types, *options]
@@ -152,14 +164,14 @@ class Trial:
         """A dry run changes nothing, and tells what a run would do."""
         self.taking.begin("calm", lambda: None, lambda request: None)
         expected = Expected(self.wanted(options), self.taking)
-        ended = self.ran([*options, "--dry-run"])
+        ended = self.run_command([*options, "--dry-run"])
         if self.taking.sent or self.taking.publications:
             raise Differs(f"a dry run changed the source: {self.taking.sent}")
-        told = [line for line in ended.output.splitlines() if line.startswith(("put ", "delete "))]
+        lines = [line for line in ended.output.splitlines() if line.startswith(("put ", "delete "))]
         deletions, puts = sorted(expected.gone), sorted(expected.differing)
-        meant = [f"delete {name}" for name in deletions] + [f"put {name}" for name in puts]
-        if told != meant:
-            raise Differs(f"a dry run told {told}, and the model has {meant}")
+        lines_wanted = [f"delete {name}" for name in deletions] + [f"put {name}" for name in puts]
+        if lines != lines_wanted:
+            raise Differs(f"a dry run told {lines}, and the model has {lines_wanted}")
         wanted = 1 if expected.is_refused() else 3 if self.unfit else 0
         if ended.status != wanted:
             raise Differs(f"a dry run ended with status {ended.status}, and not {wanted}")

@@ -7,7 +7,8 @@ fill(1)).
   - A run that ends early: each name has what it had or what the folder has. It counts what the source
     acknowledged, and nothing else.
   - No run puts what is held, deletes what has a file, or deletes more than it may: then nothing is changed.
-  - Deletions come first, which makes room. Behind a refusal that ends the run nothing more is sent.
+  - Deletions come first, which makes room. Behind a refusal that ends the run nothing more is sent. No group
+    has more than 16 changes.
   - What others put or delete meanwhile stays theirs, or is the folder's; the run goes on.
 """
 from __future__ import annotations
@@ -52,8 +53,8 @@ class Expected:
 
     def differs(self, name: str, body: bytes, kind: str) -> bool:
         """Whether a file has to be put."""
-        held = self.before.get(name)
-        return held is None or held[0] != body or (name in self.wanted.is_typed and held[1] != kind)
+        before = self.before.get(name)
+        return before is None or before[0] != body or (name in self.wanted.is_typed and before[1] != kind)
 
     def is_refused(self) -> bool:
         """Whether it would delete more than it may."""
@@ -88,9 +89,9 @@ def held_by(source: Taking) -> Bodies:
 def fault_of(expected: Expected, ended: Ended, others: set[str]) -> str:
     """What is wrong with a run, or nothing. Others have changed these names meanwhile."""
     source, wanted = expected.source, expected.wanted
-    meant = {("put", name) for name in expected.differing} | {("delete", name) for name in expected.gone}
+    all_wanted = {("put", name) for name in expected.differing} | {("delete", name) for name in expected.gone}
     is_done = ended.status in (0, 3) and not others
-    needless = sorted(meant ^ set(source.sent) if is_done else set(source.sent) - meant)
+    needless = sorted(all_wanted ^ set(source.sent) if is_done else set(source.sent) - all_wanted)
     if needless and not (others and {name for _, name in needless} <= others):
         return f"it sent too much or too little: {needless}"
     is_changed = bool(ended.status in (0, 3) or source.sent or source.publications)
@@ -98,17 +99,19 @@ def fault_of(expected: Expected, ended: Ended, others: set[str]) -> str:
         return f"it deletes {len(expected.gone)} of {len(expected.before)}"
     if "--no-publish" in wanted.options and source.publications:
         return "it published"
+    if source.misused:
+        return f"it sent {source.misused}"
     if source.behind:
         return f"it went on behind a refusal, with {source.behind}"
     if source.name == "calm" and source.sent != sorted(source.sent, key=lambda change: change[0]):
         return "it put something before a deletion"
-    held = held_by(source)
+    resources = held_by(source)
     if ended.status in (0, 3):
-        return fault_at_end(expected, ended, held, others)
+        return fault_at_end(expected, ended, resources, others)
     if ended.status >= 0 and expected.must_end_well():
         return "it ended early where nothing stood against a good end"
-    names = (held.keys() | expected.before.keys()) - others
-    wrong = sorted(name for name in names if held.get(name) not in expected.may_be(name))
+    names = (resources.keys() | expected.before.keys()) - others
+    wrong = sorted(name for name in names if resources.get(name) not in expected.may_be(name))
     return f"after an early end these are wrong: {wrong}" if wrong else fault_of_counts(ended, source)
 
 
@@ -123,15 +126,15 @@ def fault_of_counts(ended: Ended, source: Taking) -> str:
     return "" if counted == acknowledged else f"it counts {counted}, and {acknowledged} were acknowledged"
 
 
-def fault_at_end(expected: Expected, ended: Ended, held: Bodies, others: set[str]) -> str:
+def fault_at_end(expected: Expected, ended: Ended, resources: Bodies, others: set[str]) -> str:
     """What is wrong behind status 0 or 3."""
     source, wanted = expected.source, expected.wanted
     if (ended.status == 3) != bool(wanted.left_out):
         return f"status {ended.status}, and {len(wanted.left_out)} were left out"
-    meant = {name: kept for name, kept in expected.before.items() if name not in expected.gone}
-    meant |= {name: wanted.files[name] for name in expected.differing}
-    names = (meant.keys() | held.keys()) - others
-    wrong = sorted(name for name in names if meant.get(name) != held.get(name))
+    resources_wanted = {name: resource for name, resource in expected.before.items() if name not in expected.gone}
+    resources_wanted |= {name: wanted.files[name] for name in expected.differing}
+    names = (resources_wanted.keys() | resources.keys()) - others
+    wrong = sorted(name for name in names if resources_wanted.get(name) != resources.get(name))
     if wrong:
         return f"these are not what the folder has: {wrong}"
     if others:

@@ -32,11 +32,12 @@ class Expected:
     def __init__(self, sources: dict[str, Taking], is_named: bool) -> None:
         self.sources, self.is_named = sources, is_named
         self.before: Sources = {member: held_by(taking) for member, taking in sources.items()}
-        self.homes = {name: home_of(name, list(sources)) for held in self.before.values() for name in held}
-        self.going = {(member, name) for member, held in self.before.items() for name in held
+        self.homes = {name: home_of(name, list(sources)) for resources in self.before.values() for name in resources}
+        self.going = {(member, name) for member, resources in self.before.items() for name in resources
                       if self.homes[name] != member}
-        kept = {name: {held[name] for held in self.before.values() if name in held} for name in self.homes}
-        self.differing = {name for name, those in kept.items() if len(those) > 1}
+        bodies = {name: {resources[name] for resources in self.before.values() if name in resources}
+                  for name in self.homes}
+        self.differing = {name for name, those in bodies.items() if len(those) > 1}
         self.coming = {(self.homes[name], name) for _, name in self.going
                        if name not in self.before[self.homes[name]]}
 
@@ -46,8 +47,8 @@ class Expected:
 
     def after(self) -> Sources:
         """What each source holds at the end."""
-        kept = {name: held[name] for held in self.before.values() for name in held}
-        return {member: {name: kept[name] for name, home in self.homes.items() if home == member}
+        bodies = {name: resources[name] for resources in self.before.values() for name in resources}
+        return {member: {name: bodies[name] for name, home in self.homes.items() if home == member}
                 for member in self.sources}
 
 
@@ -82,14 +83,14 @@ def fault_at_end(expected: Expected, ended: Ended, options: list[str], others: s
     """What is wrong behind status 0."""
     sources = expected.sources
     found: Sources = {member: held_by(taking) for member, taking in sources.items()}
-    meant = expected.after()
+    wanted = expected.after()
     wrong = sorted({(member, name) for member in sources
-                    for name in (found[member].keys() | meant[member].keys()) - others
-                    if found[member].get(name) != meant[member].get(name)})
+                    for name in (found[member].keys() | wanted[member].keys()) - others
+                    if found[member].get(name) != wanted[member].get(name)})
     if wrong:
         return f"these are not where they live, or have other bytes: {wrong}"
-    astray = sorted((member, name) for member, held in found.items()
-                    for name in held if expected.homes[name] != member)
+    astray = sorted((member, name) for member, resources in found.items()
+                    for name in resources if expected.homes[name] != member)
     if astray:
         return f"these were changed meanwhile, and status 0 tells nothing of them: {astray}"
     if others:
@@ -103,24 +104,25 @@ def fault_at_end(expected: Expected, ended: Ended, options: list[str], others: s
 
 def first_line(expected: Expected) -> str:
     """What a run says of its work."""
-    held = sum(map(len, expected.before.values()))
+    count = sum(map(len, expected.before.values()))
     going, coming = len(expected.going), len(expected.coming)
-    return f"{going:,} of {held:,} are where they do not live; {coming:,} have to be put"
+    return f"{going:,} of {count:,} are where they do not live; {coming:,} have to be put"
 
 
 def fault_of_lines(expected: Expected, ended: Ended) -> str:
     """What is wrong with what a run told that ended well."""
     lines = [first_line(expected)]
     for member in expected.sources:
-        put, deleted = (sum(it == member for it, _ in those) for those in (expected.coming, expected.going))
+        put, deleted = (sum(destination == member for destination, _ in those)
+                        for those in (expected.coming, expected.going))
         lines += [f"{member}: {put:,} put, {deleted:,} deleted"] if put or deleted else []
-    told = ended.output.splitlines()
-    return "" if told == lines else f"it told {told}, and the model has {lines}"
+    output = ended.output.splitlines()
+    return "" if output == lines else f"it told {output}, and the model has {lines}"
 
 
 def fault_of_dry(expected: Expected, ended: Ended, others: set[str]) -> str:
     """What is wrong with what a dry run told."""
-    told = sorted(ended.output.splitlines())
+    output = sorted(ended.output.splitlines())
     moves = [f"move {member} {expected.homes[name]} {name}" for member, name in expected.going]
-    meant = sorted([first_line(expected), *moves])
-    return "" if others or told == meant else f"a dry run told {told}, and the model has {meant}"
+    wanted = sorted([first_line(expected), *moves])
+    return "" if others or output == wanted else f"a dry run told {output}, and the model has {wanted}"

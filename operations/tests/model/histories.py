@@ -8,7 +8,7 @@ from tests.reading import crash_model
 
 # The moment at which a history begins, in milliseconds since 1970: long ago.
 BEGINNING = 1_750_000_000_000
-NAMES = ["a", "a/b", "a/b/c", "a/d", "b", "b/b", "c", "%2E", "a%2Fb", "x&y", "n/1", "n/2", "n/3"]
+NAMES = ["a", "a/b", "a/b/c", "a/d", "b", "b/b", "c", "%2E", "a%2Fb", "x&y", "n/1", "n/2", "n/3", "w" * 240]
 # Lengths of bodies: many are alike, so that an older body has the length of a newer one.
 LENGTHS = [0, 1, 40, 40, 40, 40, 3_000, 70_000]
 KINDS = ["text/plain", "a/b"]
@@ -31,7 +31,7 @@ class History:
         """The source as it is now."""
         return self.states[-1]
 
-    def held(self, moment: str | None = None) -> Held:
+    def resources_at(self, moment: str | None = None) -> Held:
         """What is held now, or was held behind all changes up to a moment."""
         last = {name: body for when, name, body in self.changes if moment is None or when <= moment}
         return {name: body for name, body in last.items() if body is not None}
@@ -68,7 +68,10 @@ class History:
             self.put(name, self.rng.randbytes(self.rng.choice(LENGTHS)))
 
     def restore(self) -> None:
-        """Goes back to an earlier state, as a keeper does who takes an old copy of the file."""
+        """Goes back to an earlier state, as a keeper does who takes an old copy of the file. The clock goes on:
+        no later change has a moment that was told before.
+        """
+        self.clock = max(self.clock, self.state.last + 1)
         self.states = self.states[: self.rng.randrange(1, len(self.states) + 1)]
         self.changes = [change for change in self.changes if change[0] <= self.newest()]
 
@@ -77,7 +80,7 @@ class History:
         return self.do(f"put {name} {body.hex() or '-'} {kind or self.rng.choice(KINDS)}")
 
 
-def laid_out(held: Held) -> dict[str, bytes]:
+def laid_out(resources: Held) -> dict[str, bytes]:
     """The files that a mirror has of what is held: a name with others below it has a `#` behind it."""
-    above = {name[: found.start()] for name in held for found in re.finditer("/", name)}
-    return {name + "#" * (name in above): body for name, body in held.items()}
+    above = {name[: found.start()] for name in resources for found in re.finditer("/", name)}
+    return {name + "#" * (name in above): body for name, body in resources.items()}

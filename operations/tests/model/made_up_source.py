@@ -52,12 +52,12 @@ Answering = Callable[[Request], Answer | None]
 class MadeUpSource:
     """A server, from `with` to its end.
 
-    `asked` has the requests; it keeps a connection open where `stays` is so.
+    `requests` has them; it keeps a connection open where `stays` is so.
     """
 
     def __init__(self, answer: Answering) -> None:
         self.answer, self.stays = answer, False
-        self.asked: list[Request] = []
+        self.requests: list[Request] = []
         self.listener = socket.create_server(("127.0.0.1", 0), backlog=128)
         self.base = f"http://127.0.0.1:{self.listener.getsockname()[1]}"
         self.thread = threading.Thread(target=self.serve, daemon=True)
@@ -80,7 +80,8 @@ class MadeUpSource:
                 connection = self.listener.accept()[0]
             except OSError:
                 return
-            with connection, contextlib.suppress(OSError):
+            # (what is no request ends its connection; a listener that was closed has no number to wait for)
+            with connection, contextlib.suppress(OSError, ValueError):
                 connection.settimeout(SECONDS)
                 while self.serve_one(connection) and self.is_next_here(connection):
                     pass
@@ -95,7 +96,7 @@ class MadeUpSource:
         request = received(connection)
         if request is None:
             return False
-        self.asked.append(request)
+        self.requests.append(request)
         try:
             answer = self.answer(request)
         except BaseException as fault:

@@ -6,6 +6,7 @@ After each run mirror_model.py says what the folder must be, and which moment ma
 files of the mirror are changed by somebody else before a baseline.
 
 usage: python3 -m operations.tests.model.mirror [--short] [--histories N] [--seed N] [--first N]
+                                                [--most-faults N]
 Exit status 1 where a folder is not as the model says.
 A history is repeated by the seed and the number that are printed.
 """
@@ -49,8 +50,9 @@ class Trial:
                 self.history.advance()
             for _ in range(RUNS):
                 self.weather.change()
-                self.run(self.rng.choice(OPTIONS))
-                if self.rng.random() < 0.15:
+                status = self.run(self.rng.choice(OPTIONS))
+                # (behind a run that was stopped more often: it left newer bytes than it remembers)
+                if self.rng.random() < (0.4 if status < 0 else 0.15):
                     self.restored()
                 for _ in range(self.rng.choice([0, 0, 1, 3, 8])):
                     self.history.advance()
@@ -89,29 +91,32 @@ class Trial:
         remembered = json.loads(state.read_text())["until"] if state.exists() else None
         return Before(files_of(self.folder), remembered, len(self.history.changes), self.folder.exists())
 
-    def run(self, options: list[str]) -> None:
-        """A run, of which the model knows what has to come of it; a dry one before it at times."""
+    def run(self, options: list[str]) -> int:
+        """A run, of which the model knows what has to come of it; a dry one before it at times. Gives its
+        status.
+        """
         before = self.before()
         if self.rng.random() < 0.15:
             self.dry_run(options)
             before = self.before()
         expected = Expected(self.history, before, options, self.weather)
-        self.source.asked.clear()
+        self.source.requests.clear()
         self.weather.begin(self.runner.kill)
         ended = self.runner.run(self.room, "mirror", self.source.base, self.folder, "--patience", "0.3",
                                 *options)
         self.look(ended, "a run")
         after = self.before()
-        fault = fault_of(expected, ended, after, [request.path for request in self.source.asked])
+        fault = fault_of(expected, ended, after, [request.path for request in self.source.requests])
         if fault:
-            said = f"it said {ended.output!r} {ended.complaints[-300:]!r}"
-            raise Differs(f"{self.weather.name}, {' '.join(options)}: {fault}; {said}")
+            message = f"it said {ended.output!r} {ended.complaints[-300:]!r}"
+            raise Differs(f"{self.weather.name}, {' '.join(options)}: {fault}; {message}")
         self.counts["runs"] += 1
         self.counts[f"runs in {self.weather.name} weather"] += 1
         self.counts["ended well"] += ended.status == 0
         self.counts["killed"] += ended.status < 0
         self.counts["fetched amid changes"] += ended.status == 0 and " anew" in ended.output
         self.counts["faults served"] += self.weather.faults
+        return ended.status
 
     def look(self, ended: Ended, what: str) -> None:
         """Looks whether the source served as it should, and the run ended as a command does."""

@@ -59,7 +59,7 @@ class Expected:
         """Whether nothing stands against a good end."""
         if "--incremental" in self.options and self.before.remembered is None:
             return False
-        may_go = "--yes" in self.options or not self.lost(laid_out(self.history.held()))
+        may_go = self.lost(laid_out(self.history.resources_at())) <= self.may_lose()
         return self.weather.name == "calm" and may_go
 
     def lost(self, after: dict[str, bytes]) -> int:
@@ -68,10 +68,10 @@ class Expected:
 
     def may_lose(self) -> int:
         """How many resources may go."""
-        held = len(names_of(self.before.files))
+        count = len(names_of(self.before.files))
         if "--max-delete" in self.options:
             return int(self.options[self.options.index("--max-delete") + 1])
-        return held if "--yes" in self.options else held // 2
+        return count if "--yes" in self.options else count // 2
 
 
 def text(moment: int) -> str:
@@ -79,12 +79,12 @@ def text(moment: int) -> str:
     return str(crash_model.moment_text(moment))
 
 
-def fault_of(expected: Expected, ended: Ended, after: Before, asked: list[str]) -> str:
+def fault_of(expected: Expected, ended: Ended, after: Before, requests: list[str]) -> str:
     """What is wrong with what a run left, or nothing."""
     if expected.lost(after.files) > expected.may_lose():
         return f"{expected.lost(after.files)} resources are gone, and {expected.may_lose()} may be"
     if ended.status == 0:
-        return fault_at_end(expected, ended, after) or fault_in_calm(expected, ended, asked)
+        return fault_at_end(expected, ended, after) or fault_in_calm(expected, ended, requests)
     if expected.must_end_well():
         return f"status {ended.status} where all answers were right"
     return fault_amid(expected, after)
@@ -92,17 +92,17 @@ def fault_of(expected: Expected, ended: Ended, after: Before, asked: list[str]) 
 
 def fault_at_end(expected: Expected, ended: Ended, after: Before) -> str:
     """What is wrong behind status 0."""
-    told, history = ended.output.split()[-1], expected.history
+    moment, history = ended.output.split()[-1], expected.history
     if "--incremental" in expected.options and expected.before.remembered is None:
         return "it began with a baseline"
-    if after.remembered != told:
-        return f"it told {told}, and remembers {after.remembered}"
-    wanted = laid_out(history.held(told))
+    if after.remembered != moment:
+        return f"it told {moment}, and remembers {after.remembered}"
+    wanted = laid_out(history.resources_at(moment))
     paths = wanted.keys() | after.files.keys()
     differing = sorted(path for path in paths if wanted.get(path) != after.files.get(path))
     if differing:
-        return f"as of {told} these differ: {differing}"
-    count = sum(when <= told for when, _, _ in history.changes)
+        return f"as of {moment} these differ: {differing}"
+    count = sum(when <= moment for when, _, _ in history.changes)
     if count < expected.before.changes and not expected.weather.has_lied:
         return f"it has {count} changes, and {expected.before.changes} stood when it began"
     return ""
@@ -118,8 +118,8 @@ def fault_amid(expected: Expected, after: Before) -> str:
     foreign = [path for path, body in changed if (path.removesuffix("#"), body) not in known]
     if foreign:
         return f"these have bytes that no put made: {foreign}"
-    if remembered is not None and expected.before.files.keys() >= laid_out(history.held(remembered)).keys():
-        then = history.held(remembered)
+    if remembered is not None and expected.before.files.keys() >= laid_out(history.resources_at(remembered)).keys():
+        then = history.resources_at(remembered)
         found = {path.removesuffix("#"): body for path, body in after.files.items()}
         still = then.keys() - {name for when, name, _ in history.changes if when > remembered}
         differing = sorted(name for name in still if found.get(name) != then[name])
@@ -128,27 +128,27 @@ def fault_amid(expected: Expected, after: Before) -> str:
     return ""
 
 
-def fault_in_calm(expected: Expected, ended: Ended, asked: list[str]) -> str:
+def fault_in_calm(expected: Expected, ended: Ended, requests: list[str]) -> str:
     """What is wrong with a run of a source that stood still and answered rightly."""
     if expected.weather.name != "calm" or expected.weather.has_lied:
         return ""
     history, before = expected.history, expected.before.files
     found = {path.removesuffix("#"): body for path, body in before.items()}
-    wanted = history.held()
+    wanted = history.resources_at()
     if expected.is_incremental:
         later = {name for when, name, _ in history.changes if when > expected.since}
         wanted = {name: body for name, body in wanted.items() if name in later}
     lacking = sorted(name for name, body in wanted.items() if found.get(name) != body)
-    fetched = sorted(path.removeprefix("/resource/") for path in asked if path.startswith("/resource/"))
-    gone = len(found.keys() - history.held().keys())
+    fetched = sorted(path.removeprefix("/resource/") for path in requests if path.startswith("/resource/"))
+    gone = len(found.keys() - history.resources_at().keys())
     counted = (number_behind(word, ended.output) for word in ("fetched", "removed"))
-    told = (ended.output.split(":")[0], ended.output.split()[-1], *counted)
-    meant = ("incremental" if expected.is_incremental else "baseline", expected.until, len(lacking), gone)
-    if told != meant:
-        return f"it told {told}, and the model has {meant}"
+    counts = (ended.output.split(":")[0], ended.output.split()[-1], *counted)
+    counts_wanted = ("incremental" if expected.is_incremental else "baseline", expected.until, len(lacking), gone)
+    if counts != counts_wanted:
+        return f"it told {counts}, and the model has {counts_wanted}"
     if fetched != lacking:
         return f"it asked for {fetched}, and lacked {lacking}"
-    parts = sorted(path for path in asked if path.startswith("/changelist/"))
+    parts = sorted(path for path in requests if path.startswith("/changelist/"))
     later_parts = parts_after(history, expected.since)
     return "" if parts == later_parts else f"it asked for {parts}, and not for {later_parts}"
 

@@ -4,6 +4,7 @@ imported once.
 from __future__ import annotations
 
 import contextlib
+import ctypes
 import multiprocessing
 import os
 import pathlib
@@ -17,8 +18,10 @@ from operations.tests.mirror.mirrors import DIRECT
 from ropepeach import command
 from tests.program import Differs
 
-# No run takes longer than this.
-SECONDS = 60
+# No run takes longer than this, also on a busy machine.
+SECONDS = 300
+# A setting of prctl(2): orphans below a process become its children.
+CHILD_SUBREAPER = 36
 # The status of a run that ends by a traceback.
 BROKEN = 70
 
@@ -60,6 +63,8 @@ class Runner:
         """
         self.link.close()
         signal.signal(signal.SIGINT, signal.SIG_IGN)
+        # (what a killed run leaves becomes a child of this process, which waits for it)
+        ctypes.CDLL(None).prctl(CHILD_SUBREAPER, 1, 0, 0, 0)
         for name in command.COMMANDS:
             command.subcommand_of(name)
         with contextlib.suppress(EOFError):
@@ -67,16 +72,20 @@ class Runner:
                 room, words = link.recv()
                 number = os.fork()
                 if number == 0:
+                    os.setsid()
                     os._exit(run_within(pathlib.Path(room), words))
                 link.send(number)
-                link.send(os.waitstatus_to_exitcode(os.waitpid(number, 0)[1]))
+                status = os.waitstatus_to_exitcode(os.waitpid(number, 0)[1])
+                wait_for_all(number)
+                link.send(status)
 
     def run(self, room: pathlib.Path, *words: object) -> Ended:
         """A whole run. What it writes lies in two files of a folder meanwhile."""
         self.link.send((str(room), [str(word) for word in words]))
         self.number = self.link.recv()
         if not self.link.poll(SECONDS):
-            os.kill(self.number, signal.SIGKILL)
+            with contextlib.suppress(ProcessLookupError):
+                os.killpg(self.number, signal.SIGKILL)
             self.link.recv()
             raise Differs(f"a run goes on for more than {SECONDS} seconds: {words}")
         status = self.link.recv()
@@ -85,9 +94,17 @@ class Runner:
         return Ended(status, output.read_text(errors="replace"), complaints.read_text(errors="replace"))
 
     def kill(self) -> None:
-        """Kills the run that goes on."""
+        """Kills the run that goes on, if it has not ended by itself meanwhile."""
         if self.number:
-            os.kill(self.number, signal.SIGKILL)
+            with contextlib.suppress(ProcessLookupError):
+                os.kill(self.number, signal.SIGKILL)
+
+
+def wait_for_all(number: int) -> None:
+    """Waits until all processes of a run are gone: those of a killed one may ask a source a moment longer."""
+    with contextlib.suppress(ChildProcessError):
+        while True:
+            os.waitpid(-number, 0)
 
 
 def run_within(room: pathlib.Path, words: list[str]) -> int:

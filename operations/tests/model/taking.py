@@ -16,7 +16,7 @@ CHANGES = {"calm": 0.0, "refusing": 0.15, "losing": 0.15, "unread": 0.02, "share
            "gone": 0.0, "full": 0.0}
 LISTS = {"unread": 0.15}
 # What a source refuses a change with, and a proxy before it; none is done.
-REFUSALS = [(400, "BadLine"), (403, ""), (404, "NoSuchDocument"), (405, "BadMethod"), (413, "TooLong"),
+REFUSALS = [(400, "BadLine"), (403, ""), (404, "NoSuchDocument"), (404, ""), (405, "BadMethod"), (413, "TooLong"),
             (500, "Device"), (500, "Exhausted"), (501, ""), (502, ""), (503, "NoMemory"), (503, "Closed"),
             (504, ""), (507, "Full"), (507, "TooManyResources")]
 STATUSES = [403, 404, 500, 502, 503]
@@ -42,8 +42,8 @@ class Taking:
         self.acknowledged: set[tuple[str, str]] = set()
         self.sent: list[tuple[str, str]] = []
         self.publications = self.faults = 0
-        # Whether a refusal came that ends a run, and what was asked for behind it.
-        self.is_over, self.behind = False, list[str]()
+        # Whether a refusal came that ends a run, and what was asked for behind it; groups that no source takes.
+        self.is_over, self.behind, self.misused = False, list[str](), list[str]()
 
     def begin(self, name: str, kill: Callable[[], None], others: Callable[[Request], None]) -> None:
         """Before a run, in this weather.
@@ -55,6 +55,7 @@ class Taking:
         self.end = self.rng.randrange(1, 14) if name in ("killing", "gone") else -1
         self.due = self.rng.randrange(1, 4) if name == "full" else 0
         self.has_groups, self.is_over, self.behind = self.rng.random() < 0.85, False, []
+        self.misused.clear()
 
     def answer(self, request: Request) -> Answer | None:
         """The answer to a request."""
@@ -96,9 +97,6 @@ class Taking:
                 return self.rng.choice([None, Answer(502), Answer(504),
                                         Answer(200, b"", length=9, is_cut=True)])
             refusal = word(*self.rng.choice(REFUSALS))
-            if refusal.status == 404 and request.method == "DELETE":
-                # (it would say that there is nothing to delete)
-                refusal = word(403, "")
             return self.rng.choice([refusal, refusal, None])
         answer = self.done(request)
         if answer.status < 300 or (request.method == "DELETE" and answer.status == 404):
@@ -116,17 +114,18 @@ class Taking:
             return self.grouped(request.body.decode().splitlines())
         name = request.path.removeprefix("/resource/")
         if request.method == "PUT":
-            told = self.history.put(name, request.body, request.kind)
-            return Answer(201 if told.startswith("created") else 204)
+            answer = self.history.put(name, request.body, request.kind)
+            return Answer(201 if answer.startswith("created") else 204)
         is_refused = self.history.do(f"delete {name}").startswith("refused")
         return word(404, "NotHeld") if is_refused else Answer(204)
 
     def grouped(self, lines: list[str]) -> Answer:
         """Does a group, all of it or nothing."""
+        if not 1 <= len(lines) <= MOST_GROUPED:
+            self.misused.append(f"a group of {len(lines)}")
+            return word(400, "BadGroup")
         if not self.has_groups:
             return word(404, "NoSuchDocument")
-        if not 1 <= len(lines) <= MOST_GROUPED:
-            return word(400, "BadGroup")
         if self.history.state.after("\n".join([f"group {len(lines)}", *lines]), 0)[1] is None:
             return word(404, "NotHeld")
         answers = [self.history.do(line) for line in lines]
@@ -138,9 +137,9 @@ class Taking:
         A moment may be newer.
         """
         state: crash_model.State = self.history.state
-        listed, held = state.listed, state.entries()
-        return listed.keys() == held.keys() and all(
-            listed[name].attributes() == entry.attributes() for name, entry in held.items())
+        listed, held_entries = state.listed, state.entries()
+        return listed.keys() == held_entries.keys() and all(
+            listed[name].attributes() == entry.attributes() for name, entry in held_entries.items())
 
 
 def word(status: int, text: str) -> Answer:
@@ -158,7 +157,7 @@ def ends_run(request: Request, answer: Answer | None) -> bool:
         return False
     if request.path == "/group":
         return answer.status >= 500 and answer.status != 507
-    return not (request.method == "DELETE" and answer.status == 404)
+    return not (request.method == "DELETE" and answer.body == b"NotHeld\n")
 
 
 def items_of(request: Request) -> list[tuple[str, str]]:

@@ -84,7 +84,8 @@ class Weather:
     def wrong(self, request: Request) -> Answer | None:
         """An answer that is not right."""
         right, what = self.right(request), self.rng.choice(["cut", "short", "older", "older", "other",
-                                                            "status", "status", "none", "moved", "partial"])
+                                                            "status", "status", "none", "moved", "partial",
+                                                            "space", "space"])
         if what == "cut":
             return right._replace(body=right.body[: self.rng.randrange(len(right.body) + 1)],
                                   length=len(right.body) + 1, is_cut=True)
@@ -92,6 +93,10 @@ class Weather:
             return right._replace(body=right.body[: self.rng.randrange(len(right.body) + 1)])
         if what == "older":
             return self.older(request)
+        if what == "space":
+            # A document of another kind: its words are none of Sitemap 0.9, or of ResourceSync.
+            space = self.rng.choice([b"sitemap/0.9", b"rs/terms"])
+            return right._replace(body=right.body.replace(space, self.rng.choice([b"sitemap/0.8", b"", space.upper()])))
         if what == "other":
             return right._replace(body=self.other(right.body))
         if what == "status":

@@ -23,6 +23,7 @@ RUNS = r"^\S*rs_source .*\brun "
 
 
 def put_line(draw):
+    """A command that puts a body of a length that is drawn."""
     length = draw.choice([*LENGTHS, draw.randrange(9_000)])
     return f"put {draw.choice(NAMES)} {draw.randbytes(length).hex() or '-'} {KIND}"
 
@@ -44,8 +45,9 @@ class Program:
     """`rs_source run FILE` on a machine, asked through its pipes. No answer is waited for longer than it may take."""
 
     def __init__(self, machine, program, file):
-        self.process = machine.started(program, "run", file, stdin=subprocess.PIPE, stdout=subprocess.PIPE, stderr=subprocess.PIPE, bufsize=0)
-        self.left = b""
+        self.process = machine.started(program, "run", file, stdin=subprocess.PIPE, stdout=subprocess.PIPE,
+                                       stderr=subprocess.PIPE, bufsize=0)
+        self.rest = b""
         os.set_blocking(self.process.stdout.fileno(), False)
 
     def read(self, is_whole, seconds):
@@ -58,7 +60,7 @@ class Program:
             piece = self.process.stdout.read(65_536)
             if not piece:
                 raise Ended("the program has ended")
-            self.left += piece
+            self.rest += piece
 
     def ask(self, line, seconds=100):
         """The first line of the answer."""
@@ -66,8 +68,8 @@ class Program:
             self.process.stdin.write(line.encode() + b"\n")
         except OSError:
             raise Ended("the program takes no line") from None
-        self.read(lambda: b"\n" in self.left, seconds)
-        answer, _, self.left = self.left.partition(b"\n")
+        self.read(lambda: b"\n" in self.rest, seconds)
+        answer, _, self.rest = self.rest.partition(b"\n")
         return answer
 
     def shown(self, path, seconds=100):
@@ -76,8 +78,8 @@ class Program:
         if not answer.startswith(b"bytes "):
             return answer
         length = int(answer.split()[1])
-        self.read(lambda: len(self.left) > length, seconds)
-        body, self.left = self.left[:length], self.left[length + 1:]
+        self.read(lambda: len(self.rest) > length, seconds)
+        body, self.rest = self.rest[:length], self.rest[length + 1:]
         return body
 
     def close(self, seconds=100):
@@ -98,8 +100,8 @@ class Program:
             self.process.wait(5)
         except subprocess.TimeoutExpired:
             return
-        for it in (self.process.stdin, self.process.stdout, self.process.stderr):
-            it.close()
+        for pipe in (self.process.stdin, self.process.stdout, self.process.stderr):
+            pipe.close()
 
 
 class Source:
@@ -136,7 +138,9 @@ class Source:
             self.acknowledged += 1
 
     def settle(self, program):
-        """Compares all that a program shows with what was acknowledged, to the byte. The command without an answer may stand or not."""
+        """Compares all that a program shows with what was acknowledged, to the byte. The command without an answer may
+        stand or not.
+        """
         found = program.ask("status") + b"\n"
         if self.pending and found == self.pending.status():
             self.state, self.stood = self.pending, self.stood + 1
@@ -145,6 +149,7 @@ class Source:
         self.compare_whole(program)
 
     def compare_whole(self, program):
+        """Compares each document and each resource that a program shows, and lets it verify all."""
         for path, text in documents(self.state).items():
             compare(path, text if isinstance(text, bytes) else text.encode(), program.shown(path))
         for name in NAMES:
@@ -165,16 +170,16 @@ def opened(machine, program, file, seconds=100):
     """Opens a source, again and again while it is refused as `Device`: the program, and the seconds that it took."""
     began = time.monotonic()
     while True:
-        it = Program(machine, program, file)
+        running = Program(machine, program, file)
         try:
-            if it.ask("status", seconds).startswith(b"resources"):
+            if running.ask("status", seconds).startswith(b"resources"):
                 # (the answer is asked for again by who compares)
-                return it, time.monotonic() - began
+                return running, time.monotonic() - began
             messages = b"no status"
         except Ended:
-            messages = it.close()
+            messages = running.close()
         except Stuck as stuck:
-            it.drop()
+            running.drop()
             raise Stuck(f"opening {file} on {machine.name}: {stuck}") from None
         if messages not in NOT_OPEN:
             raise Differs(f"opening {file} on {machine.name}: {messages!r}")

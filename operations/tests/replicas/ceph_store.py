@@ -50,7 +50,8 @@ SMALL = {
     "rados_mon_op_timeout": 30,
     "crash_dir": "/nowhere",
 }
-# Asks the monitors: a line of JSON with a command in, one with the answer out. Each start of the command `ceph` takes half a second of a
+# Asks the monitors: a line of JSON with a command in, one with the answer out. Each start of the command `ceph` takes
+# half a second of a
 # processor. The Python of Debian runs it, which has the module of Ceph.
 ASKER = """
 import json, sys, rados
@@ -74,15 +75,19 @@ class Asker:
         self.switch, self.process = switch, None
 
     def start(self):
-        self.process = self.switch.started(*self.words, stdin=subprocess.PIPE, stdout=subprocess.PIPE, stderr=subprocess.DEVNULL, bufsize=0)
+        """Starts the process that asks the monitors."""
+        self.process = self.switch.started(*self.words, stdin=subprocess.PIPE, stdout=subprocess.PIPE,
+                                           stderr=subprocess.DEVNULL, bufsize=0)
         if self.line(SECONDS) != b"ready\n":
             raise Stuck("the monitors do not answer")
 
     def line(self, seconds):
+        """A line of its output, or nothing where none comes in time."""
         is_told, _, _ = select.select([self.process.stdout], [], [], seconds)
         return self.process.stdout.readline() if is_told else b""
 
     def close(self):
+        """Ends the process, if there is one."""
         if self.process:
             self.process.kill()
             self.process.wait()
@@ -90,7 +95,7 @@ class Asker:
             self.process.stdout.close()
             self.process = None
 
-    def asked(self, prefix, **words):
+    def query(self, prefix, **words):
         """The answer of the monitors as a value, or None where there is none within half a minute."""
         try:
             if not self.process:
@@ -114,13 +119,18 @@ class CephFS:
         self.asker, self.heard = Asker(switch, self.conf), None
 
     def configure(self):
-        addresses = ",".join(it.address for it in self.machines)
-        places = {"fsid": self.fsid, "mon_host": addresses, "mon_initial_members": ",".join(it.name for it in self.machines),
-                  "public_network": "10.78.0.0/24", "run_dir": "/run/ceph", "admin_socket": "/run/ceph/$cluster-$name.$pid.$cctid.asok",
+        """Writes the settings of all daemons and clients."""
+        addresses = ",".join(machine.address for machine in self.machines)
+        places = {"fsid": self.fsid, "mon_host": addresses,
+                  "mon_initial_members": ",".join(machine.name for machine in self.machines),
+                  "public_network": "10.78.0.0/24", "run_dir": "/run/ceph",
+                  "admin_socket": "/run/ceph/$cluster-$name.$pid.$cctid.asok",
                   "log_file": f"{self.room}/$host/$name.log", "mon_cluster_log_file": f"{self.room}/$host/cluster.log",
-                  "mon_data": f"{self.room}/$host/data/mon", "osd_data": f"{self.room}/$host/data/osd", "mds_data": f"{self.room}/$host/data/mds",
+                  "mon_data": f"{self.room}/$host/data/mon", "osd_data": f"{self.room}/$host/data/osd",
+                  "mds_data": f"{self.room}/$host/data/mds",
                   "mgr_data": f"{self.room}/m0/mgr", "keyring": f"{self.room}/keyring"}
-        self.conf.write_text("[global]\n" + "".join(f"{key} = {value}\n" for key, value in {**places, **self.settings}.items()))
+        self.conf.write_text("[global]\n"
+                             + "".join(f"{key} = {value}\n" for key, value in {**places, **self.settings}.items()))
         (self.room / "keyring").touch()
         (self.room / "m0" / "mgr").mkdir(parents=True, exist_ok=True)
 
@@ -129,12 +139,15 @@ class CephFS:
         return machine.done(words[0], "--conf", self.conf, *words[1:], **how)
 
     def start_monitor(self, machine):
+        """Starts the monitor of a machine."""
         self.daemon(machine, "ceph-mon", "-i", machine.name, "--public-addr", machine.address)
 
     def start_copy(self, machine):
+        """Starts the process that keeps the copy of a machine."""
         self.daemon(machine, "ceph-osd", "-i", machine.number - 1)
 
     def start_metadata(self, machine):
+        """Starts the metadata server of a machine."""
         self.daemon(machine, "ceph-mds", "-i", machine.name)
 
     def start_missing(self, machine):
@@ -146,28 +159,32 @@ class CephFS:
     def make(self):
         """Makes the cluster and its file system."""
         self.configure()
-        monitors = [words for it in self.machines for words in ("--addv", it.name, f"[v2:{it.address}:3300,v1:{it.address}:6789]")]
+        monitors = [words for machine in self.machines
+                    for words in ("--addv", machine.name, f"[v2:{machine.address}:3300,v1:{machine.address}:6789]")]
         done(["monmaptool", "--create", "--clobber", "--fsid", self.fsid, *monitors, self.room / "monmap"])
-        for it in self.machines:
-            self.daemon(it, "ceph-mon", "--mkfs", "-i", it.name, "--monmap", self.room / "monmap")
-            self.start_monitor(it)
-        until(lambda: len((self.asker.asked("quorum_status") or {"quorum": []})["quorum"]) == 3, 90, "three monitors agree")
-        self.manager = self.switch.started("ceph-mgr", "--conf", self.conf, "-i", "x", "-f", stdout=subprocess.DEVNULL, stderr=subprocess.DEVNULL)
-        for it in self.machines:
-            self.make_copy(it)
-        for it in self.machines:
-            (it.data / "mds").mkdir(exist_ok=True)
-            it.done("mkdir", "-p", it.data / "mds")
-            self.start_metadata(it)
+        for machine in self.machines:
+            self.daemon(machine, "ceph-mon", "--mkfs", "-i", machine.name, "--monmap", self.room / "monmap")
+            self.start_monitor(machine)
+        until(lambda: len((self.asker.query("quorum_status") or {"quorum": []})["quorum"]) == 3, 90,
+              "three monitors agree")
+        self.manager = self.switch.started("ceph-mgr", "--conf", self.conf, "-i", "x", "-f", stdout=subprocess.DEVNULL,
+                                           stderr=subprocess.DEVNULL)
+        for machine in self.machines:
+            self.make_copy(machine)
+        for machine in self.machines:
+            (machine.data / "mds").mkdir(exist_ok=True)
+            machine.done("mkdir", "-p", machine.data / "mds")
+            self.start_metadata(machine)
         for pool in ("data", "meta"):
             self.must("osd pool create", pool=pool, pg_num=8)
         self.must("fs new", fs_name="fs", metadata="meta", data="data")
 
     def must(self, prefix, **words):
         """A command of the monitors that has to be done; what it does is waited for elsewhere."""
-        self.asker.asked(prefix, **words)
+        self.asker.query(prefix, **words)
 
     def make_copy(self, machine):
+        """Makes the copy of a machine, and starts its process."""
         number, name = machine.number - 1, str(uuid.uuid4())
         self.must("osd new", uuid=name, id=str(number))
         machine.done("mkdir", "-p", machine.data / "osd")
@@ -175,25 +192,28 @@ class CephFS:
         self.start_copy(machine)
 
     def close(self):
+        """Ends what runs outside of the machines."""
         self.asker.close()
         if self.manager:
             self.manager.kill()
             self.manager.wait()
 
     def status(self):
-        return self.asker.asked("status") or {}
+        """The state of the cluster; nothing where the monitors do not answer."""
+        return self.asker.query("status") or {}
 
     def ails(self):
         """What keeps the cluster from being as it should, or nothing."""
-        it = self.status()
-        if not it:
+        status = self.status()
+        if not status:
             return "no answer"
-        states = {state["state_name"]: state["count"] for state in it["pgmap"].get("pgs_by_state", [])}
-        counts = len(it["quorum"]), it["osdmap"]["num_up_osds"], it["fsmap"].get("up:standby", 0)
+        states = {state["state_name"]: state["count"] for state in status["pgmap"].get("pgs_by_state", [])}
+        counts = len(status["quorum"]), status["osdmap"]["num_up_osds"], status["fsmap"].get("up:standby", 0)
         is_clean = states and all(set(state.split("+")) <= {"active", "clean", "scrubbing", "deep"} for state in states)
-        if counts == (3, 3, 2) and is_clean and it["health"]["status"] == "HEALTH_OK":
+        if counts == (3, 3, 2) and is_clean and status["health"]["status"] == "HEALTH_OK":
             return ""
-        return f"monitors, copies and servers that stand by {counts}, groups {states}, {list(it['health']['checks'])}"
+        return (f"monitors, copies and servers that stand by {counts}, groups {states}, "
+                f"{list(status['health']['checks'])}")
 
     def heal(self, seconds=180):
         """Waits until all is well, and gives the seconds that it took."""
@@ -204,17 +224,19 @@ class CephFS:
 
     # The steps of the page.
     def folder(self, machine):
+        """Where a machine has the file system."""
         return machine.room / FOLDER
 
     def file(self, machine):
+        """The file of the source on a machine."""
         return self.folder(machine) / NAME
 
     def mount(self, machine, *more, seconds=100):
         """Mounts the file system on a machine."""
         machine.done("mkdir", "-p", self.folder(machine))
-        said = self.daemon(machine, "ceph-fuse", *more, self.folder(machine), seconds=seconds)
+        output = self.daemon(machine, "ceph-fuse", *more, self.folder(machine), seconds=seconds)
         if machine.done("stat", "-f", "-c", "%T", self.folder(machine)) != "fuseblk":
-            raise Stuck(f"no file system on {machine.name}: {said}")
+            raise Stuck(f"no file system on {machine.name}: {output}")
 
     def unmount(self, machine, is_lost=False):
         """Takes a mount away: in peace, or one whose process was lost."""
@@ -228,10 +250,10 @@ class CephFS:
     def end_sessions(self, machine, by):
         """Ends the sessions of a machine's mounts. Whether the metadata server answered, and none is left."""
         try:
-            said = self.command(by, "tell", "mds.fs:0", "session", "ls", seconds=TOLD_WITHIN)
-            for it in json.loads(said[said.index("["):]):
-                if it["entity"]["addr"]["addr"].startswith(machine.address + ":"):
-                    self.command(by, "tell", "mds.fs:0", "client", "evict", f"id={it['id']}", seconds=TOLD_WITHIN)
+            output = self.command(by, "tell", "mds.fs:0", "session", "ls", seconds=TOLD_WITHIN)
+            for session in json.loads(output[output.index("["):]):
+                if session["entity"]["addr"]["addr"].startswith(machine.address + ":"):
+                    self.command(by, "tell", "mds.fs:0", "client", "evict", f"id={session['id']}", seconds=TOLD_WITHIN)
             return True
         except (Stuck, ValueError) as fault:
             self.heard = fault
@@ -239,29 +261,34 @@ class CephFS:
 
     def command(self, by, *words, seconds=SECONDS):
         """Runs the command `ceph` on a machine, and gives its output alone."""
-        quiet = ["sh", "-c", 'exec "$@" 2>/dev/null', "sh", "ceph", "--conf", self.conf, "--connect-timeout", 30, "--format", "json", *words]
+        quiet = ["sh", "-c", 'exec "$@" 2>/dev/null', "sh", "ceph", "--conf", self.conf, "--connect-timeout", 30,
+                 "--format", "json", *words]
         return by.done(*quiet, seconds=seconds)
 
     def fence(self, machine, by):
-        """Fences a machine's mounts from another machine: no copy takes anything from its address, and its sessions are ended."""
+        """Fences a machine's mounts from another machine: no copy takes anything from its address, and its sessions are
+        ended.
+        """
         self.command(by, "osd", "blocklist", "add", machine.address, A_YEAR)
         try:
-            until(lambda: self.end_sessions(machine, by), EVICTED_WITHIN, f"the end of the sessions of {machine.name}", 0.5)
+            until(lambda: self.end_sessions(machine, by), EVICTED_WITHIN, f"the end of the sessions of {machine.name}",
+                  0.5)
         except Stuck as stuck:
             raise Stuck(f"{stuck}: {self.heard}; {self.ails()}") from None
 
     def fences(self, machine):
         """The fences of a machine's mounts, each with its end, or None where the monitors do not answer."""
-        found = (self.asker.asked("osd dump") or {}).get("blocklist")
+        found = (self.asker.query("osd dump") or {}).get("blocklist")
         # (a mount has port 0, and a metadata server that was replaced another one)
-        return None if found is None else {it: end for it, end in found.items() if it.startswith(f"{machine.address}:0/")}
+        return None if found is None else {address: end for address, end in found.items()
+                                           if address.startswith(f"{machine.address}:0/")}
 
     def lift(self, machine):
         """Lets a machine's mounts in again, once nothing of before runs there."""
         def is_lifted():
             fences = self.fences(machine)
-            for it in fences or {}:
-                self.must("osd blocklist", blocklistop="rm", addr=it)
+            for address in fences or {}:
+                self.must("osd blocklist", blocklistop="rm", addr=address)
             return fences == {}
 
         until(is_lifted, SECONDS, f"the fence of {machine.name} is lifted", 0.2)

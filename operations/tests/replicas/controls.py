@@ -1,4 +1,5 @@
-"""Stores and settings that lose what was acknowledged. Each has to be seen to lose, by the very comparisons that find nothing on CephFS.
+"""Stores and settings that lose what was acknowledged. Each has to be seen to lose, by the very comparisons that find
+nothing on CephFS.
 
 Each function below is one control; it gives what was lost, or nothing where all tries were sound.
 """
@@ -70,9 +71,9 @@ def a_writer_that_is_not_fenced(relay, image):
     answers = [first.ask(f"put a{number} 00 text/plain", SECONDS) for number in range(2)]
     first.drop()
     second.drop()
-    for it in (here, there):
-        image.unmount(it)
-    if not all(it.startswith(b"created") for it in answers):
+    for machine in (here, there):
+        image.unmount(machine)
+    if not all(answer.startswith(b"created") for answer in answers):
         return ""
     image.mount(there)
     program = opened(there, relay.program, image.file(there))[0]
@@ -107,7 +108,9 @@ def gluster_at_a_handover(machines, store, program, draw):
 
 
 def gluster_with_two_writers(machines, store, program, draw):
-    """A is open and at rest. The copies' processes are started anew, one after another, and B opens beside A. Both acknowledge puts."""
+    """A is open and at rest. The copies' processes are started anew, one after another, and B opens beside A. Both
+    acknowledge puts.
+    """
     source, (here, there, _) = Source(draw), machines
     here.done("rm", "-f", store.file(here))
     formatted(here, program, store.file(here))
@@ -124,7 +127,7 @@ def gluster_with_two_writers(machines, store, program, draw):
     answers = [first.ask(f"put a{number} 00 text/plain", SECONDS) for number in range(2)]
     first.drop()
     second.drop()
-    if not all(it.startswith(b"created") for it in answers):
+    if not all(answer.startswith(b"created") for answer in answers):
         return ""
     try:
         running, _ = opened(there, program, store.file(there))
@@ -135,10 +138,10 @@ def gluster_with_two_writers(machines, store, program, draw):
     return found
 
 
-def seen(control, *given):
+def what_failed(control, *arguments):
     """Does a control, and tells what it lost. Gives what failed: a control that lost nothing."""
     try:
-        found = control(*given)
+        found = control(*arguments)
     except (Ended, Stuck, OSError, ValueError, LookupError) as fault:
         traceback.print_exception(fault)
         return [f"control {control.__name__}: {type(fault).__name__} {fault}"]
@@ -148,23 +151,25 @@ def seen(control, *given):
 
 def on_ceph(relay):
     """The controls on the cluster that runs."""
-    if missing := [it for it in ON_CEPH if not shutil.which(it)]:
+    if missing := [tool for tool in ON_CEPH if not shutil.which(tool)]:
         print(f"replicas: NOT TRIED, as there is no {', '.join(missing)}: the controls on an image of Ceph")
         return []
     image = RbdFuse(relay.store)
-    return seen(rbd_fuse_with_its_cache, relay, image) + seen(a_writer_that_is_not_fenced, relay, image)
+    return what_failed(rbd_fuse_with_its_cache, relay, image) + what_failed(a_writer_that_is_not_fenced, relay, image)
 
 
-def on_gluster(given):
+def on_gluster(options):
     """The controls on GlusterFS, on machines of their own."""
-    if missing := [it for it in ON_GLUSTER if not shutil.which(it)]:
+    if missing := [tool for tool in ON_GLUSTER if not shutil.which(tool)]:
         print(f"replicas: NOT TRIED, as there is no {', '.join(missing)}: the controls on GlusterFS")
         return []
-    draw = random.Random(given.seed)
-    with tempfile.TemporaryDirectory(prefix="replicas-", ignore_cleanup_errors=True) as room, three(room, "600M") as (_, machines):
+    draw = random.Random(options.seed)
+    with tempfile.TemporaryDirectory(
+            prefix="replicas-", ignore_cleanup_errors=True) as room, three(room, "600M") as (_, machines):
         store = GlusterFS(machines)
         try:
             store.make()
         except Stuck as fault:
             return [f"GlusterFS: {fault}"]
-        return [it for control in (gluster_at_a_handover, gluster_with_two_writers) for it in seen(control, machines, store, given.program, draw)]
+        return [fault for control in (gluster_at_a_handover, gluster_with_two_writers)
+                for fault in what_failed(control, machines, store, options.program, draw)]

@@ -1,4 +1,5 @@
-"""A GlusterFS volume over three machines, a copy on each, with no option set: a control, which has to be seen to lose."""
+"""A GlusterFS volume over three machines, a copy on each, with no option set: a control, which has to be seen to lose.
+"""
 import re
 import signal
 
@@ -22,29 +23,35 @@ class GlusterFS:
         self.machines = machines
 
     def folder(self, machine):
+        """Where a machine has the volume."""
         return machine.room / "gluster"
 
     def file(self, machine):
+        """The file of the source on a machine."""
         return self.folder(machine) / NAME
 
     def command(self, *words, seconds=SECONDS):
+        """A command of the store, by the first machine."""
         return self.machines[0].done("gluster", "--mode=script", *words, seconds=seconds)
 
     def make(self):
         """Makes the volume, and mounts it on each machine."""
-        for it in self.machines:
-            it.done("sh", "-c", FOLDERS, "sh", it.data, self.folder(it))
-            it.done("glusterd")
-        for it in self.machines[1:]:
-            self.command("peer", "probe", it.address)
+        for machine in self.machines:
+            machine.done("sh", "-c", FOLDERS, "sh", machine.data, self.folder(machine))
+            machine.done("glusterd")
+        for machine in self.machines[1:]:
+            self.command("peer", "probe", machine.address)
         until(lambda: self.command("pool", "list").count("Connected") == 3, SECONDS, "three peers", 0.5)
-        self.command("volume", "create", VOLUME, "replica", 3, *(f"{it.address}:{it.data}/copy/{VOLUME}" for it in self.machines))
+        self.command("volume", "create", VOLUME, "replica", 3,
+                     *(f"{machine.address}:{machine.data}/copy/{VOLUME}" for machine in self.machines))
         self.command("volume", "start", VOLUME)
-        for it in self.machines:
-            self.mount(it)
+        for machine in self.machines:
+            self.mount(machine)
 
     def mount(self, machine):
-        machine.done("glusterfs", "--process-name", "fuse", f"--volfile-server={machine.address}", f"--volfile-id={VOLUME}", self.folder(machine))
+        """Mounts the volume on a machine."""
+        machine.done("glusterfs", "--process-name", "fuse", f"--volfile-server={machine.address}",
+                     f"--volfile-id={VOLUME}", self.folder(machine))
         if machine.done("stat", "-f", "-c", "%T", self.folder(machine)) != "fuseblk":
             raise Stuck(f"no volume on {machine.name}")
 
@@ -55,8 +62,8 @@ class GlusterFS:
 
     def renew_copies(self, each):
         """Kills and starts the process of each copy in turn, with so much time between."""
-        for it in self.machines:
-            it.send(signal.SIGKILL, r"^\S*glusterfsd ")
+        for machine in self.machines:
+            machine.send(signal.SIGKILL, r"^\S*glusterfsd ")
             each()
             self.command("volume", "start", VOLUME, "force")
             until(lambda: self.copies() == 3, SECONDS, "three copies", 0.5)

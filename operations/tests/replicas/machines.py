@@ -1,7 +1,9 @@
-"""Three machines on one kernel. Each has a network, mounts, processes and a name of its own, and a disk of its own, an XFS on a loop device.
+"""Three machines on one kernel. Each has a network, mounts, processes and a name of its own, and a disk of its own, an
+XFS on a loop device.
 
-A machine dies as a whole with its first process, and all of them die with the process that made them. What one kernel cannot show: two
-clocks, two disks beneath, a real power cut. `drop_pages` is the nearest to one: the machine's file system forgets what it has not synced.
+A machine dies as a whole with its first process, and all of them die with the process that made them. What one kernel
+cannot show: two clocks, two disks beneath, a real power cut. `drop_pages` is the nearest to one: the machine's file
+system forgets what it has not synced.
 """
 import contextlib
 import fcntl
@@ -48,25 +50,27 @@ class Ended(Exception):
 def done(words, seconds=SECONDS, check=True):
     """What a command prints. It is killed where it takes longer."""
     try:
-        ran = subprocess.run(list(map(str, words)), stdin=subprocess.DEVNULL, stdout=subprocess.PIPE, stderr=subprocess.STDOUT, timeout=seconds + 10)
+        process = subprocess.run(list(map(str, words)), stdin=subprocess.DEVNULL, stdout=subprocess.PIPE,
+                                 stderr=subprocess.STDOUT, timeout=seconds + 10)
     except subprocess.TimeoutExpired as late:
         raise Stuck(f"{' '.join(map(str, words))}: no end within {seconds + 10} s: {late.output}") from None
-    said = ran.stdout.decode(errors="replace").strip()
-    if check and ran.returncode:
-        raise Stuck(f"{' '.join(map(str, words))}: status {ran.returncode}: {said[-500:]}")
-    return said
+    output = process.stdout.decode(errors="replace").strip()
+    if check and process.returncode:
+        raise Stuck(f"{' '.join(map(str, words))}: status {process.returncode}: {output[-500:]}")
+    return output
 
 
 def kill(process):
     """Ends a process that was started on a machine, and the one below it, which entered the machine's processes."""
     with contextlib.suppress(OSError):
-        for it in Path(f"/proc/{process.pid}/task/{process.pid}/children").read_text().split():
-            os.kill(int(it), signal.SIGKILL)
+        for number in Path(f"/proc/{process.pid}/task/{process.pid}/children").read_text().split():
+            os.kill(int(number), signal.SIGKILL)
     process.kill()
 
 
 def is_over(number):
-    """Whether a process has ended with all of its threads: until then it has its files, and no command line any more."""
+    """Whether a process has ended with all of its threads: until then it has its files, and no command line any more.
+    """
     try:
         state = Path(f"/proc/{number}/stat").read_text().rpartition(") ")[2][0]
         return state in "ZX" and len(os.listdir(f"/proc/{number}/task")) == 1
@@ -88,7 +92,8 @@ class Switch:
     """The network between the machines, with a place of its own from which one can ask the store."""
 
     def __init__(self):
-        self.process = subprocess.Popen([*DYING, "unshare", "--net", "--uts", "sh", "-c", "hostname m0; exec sleep infinity"], start_new_session=True)
+        self.process = subprocess.Popen([*DYING, "unshare", "--net", "--uts", "sh", "-c",
+                                         "hostname m0; exec sleep infinity"], start_new_session=True)
         ours = os.readlink("/proc/self/ns/net")
         until(lambda: os.readlink(f"/proc/{self.process.pid}/ns/net") != ours, SECONDS, "the network")
         for words in ("set lo up", "add br0 type bridge", "set br0 up"):
@@ -96,9 +101,11 @@ class Switch:
         self.done("ip", "address", "add", f"{NETWORK}.100/24", "dev", "br0")
 
     def within(self):
+        """The words by which a command runs within its network."""
         return ["nsenter", "-t", str(self.process.pid), "-n", "-u"]
 
     def done(self, *words, seconds=SECONDS, check=True):
+        """Runs a command within its network, and gives its output."""
         return done([*self.within(), "timeout", "-s", "KILL", seconds, *words], seconds, check)
 
     def started(self, *words, **how):
@@ -106,6 +113,7 @@ class Switch:
         return subprocess.Popen([*DYING, *self.within(), *map(str, words)], start_new_session=True, **how)
 
     def close(self):
+        """Ends it."""
         self.process.kill()
         self.process.wait()
 
@@ -125,11 +133,12 @@ class Machine:
         """Starts the machine, and joins it to the network."""
         words = [*DYING, "unshare", "--net", "--mount", "--pid", "--uts", "--fork", "--kill-child", "--mount-proc"]
         words += ["sh", "-c", FIRST, "sh", self.name, str(self.disk), str(self.data)]
-        self.process = subprocess.Popen(words, start_new_session=True, stdin=subprocess.DEVNULL, stdout=subprocess.PIPE, stderr=subprocess.STDOUT)
+        self.process = subprocess.Popen(words, start_new_session=True, stdin=subprocess.DEVNULL, stdout=subprocess.PIPE,
+                                        stderr=subprocess.STDOUT)
         is_told, _, _ = select.select([self.process.stdout], [], [], SECONDS)
-        said = self.process.stdout.readline() if is_told else b"nothing"
-        if said != b"ready\n":
-            raise Stuck(f"{self.name} did not start: {said!r}")
+        line = self.process.stdout.readline() if is_told else b"nothing"
+        if line != b"ready\n":
+            raise Stuck(f"{self.name} did not start: {line!r}")
         self.first = int(Path(f"/proc/{self.process.pid}/task/{self.process.pid}/children").read_text().split()[0])
         link, switch = f"v{self.number}", self.switch
         switch.done("ip", "link", "delete", link, check=False)
@@ -142,9 +151,11 @@ class Machine:
 
     @property
     def is_live(self):
+        """Whether the machine runs."""
         return self.process is not None
 
     def within(self):
+        """The words by which a command runs within the machine."""
         return ["nsenter", "-t", str(self.first), "-n", "-m", "-p", "-u"]
 
     def done(self, *words, seconds=SECONDS, check=True):
@@ -152,30 +163,32 @@ class Machine:
         return done([*self.within(), "timeout", "-s", "KILL", seconds, *words], seconds, check)
 
     def started(self, *words, **how):
+        """A process on the machine, which ends with it."""
         return subprocess.Popen([*DYING, *self.within(), *map(str, words)], start_new_session=True, **how)
 
     def processes(self, pattern):
         """The numbers of this machine's processes of this command line."""
         ours, found = os.readlink(f"/proc/{self.first}/ns/pid"), []
-        for it in Path("/proc").iterdir():
+        for path in Path("/proc").iterdir():
             with contextlib.suppress(OSError):
-                if it.name.isdigit() and os.readlink(it / "ns/pid") == ours:
-                    words = (it / "cmdline").read_bytes().replace(b"\0", b" ").decode(errors="replace")
-                    found += [int(it.name)] if int(it.name) != self.first and re.search(pattern, words) else []
+                if path.name.isdigit() and os.readlink(path / "ns/pid") == ours:
+                    words = (path / "cmdline").read_bytes().replace(b"\0", b" ").decode(errors="replace")
+                    found += [int(path.name)] if int(path.name) != self.first and re.search(pattern, words) else []
         return found
 
     def send(self, sign, pattern):
         """Sends a signal to processes, and gives their numbers."""
         found = self.processes(pattern)
-        for it in found:
+        for number in found:
             with contextlib.suppress(ProcessLookupError):
-                os.kill(it, sign)
+                os.kill(number, sign)
         return found
 
     def kill(self, pattern):
         """Kills processes, and waits until they are gone."""
         found = self.send(signal.SIGKILL, pattern)
-        until(lambda: all(map(is_over, found)) and not self.processes(pattern), SECONDS, f"the end of {pattern} on {self.name}", 0.02)
+        until(lambda: all(map(is_over, found)) and not self.processes(pattern), SECONDS,
+              f"the end of {pattern} on {self.name}", 0.02)
 
     def connect(self, is_up):
         """Plugs the machine in, or pulls the plug."""
@@ -219,7 +232,7 @@ def three(room, size="8G"):
             machines[-1].start()
         yield switch, machines
     finally:
-        for it in machines:
+        for machine in machines:
             with contextlib.suppress(Stuck, OSError, subprocess.SubprocessError):
-                it.die()
+                machine.die()
         switch.close()

@@ -26,17 +26,22 @@ class RbdFuse:
         machine.done("rbd", "--conf", self.conf, "import", "--dest-pool", POOL, local, IMAGE)
 
     def folder(self, machine):
+        """Where a machine has the image."""
         return machine.room / "rbd"
 
     def file(self, machine):
+        """The file of the source on a machine."""
         return self.folder(machine) / IMAGE
 
     def mount(self, machine):
+        """Mounts the image on a machine."""
         machine.done("mkdir", "-p", self.folder(machine))
         machine.done("rbd-fuse", "-c", self.conf, "-p", POOL, self.folder(machine))
-        until(lambda: machine.done("stat", "-c", "%s", self.file(machine), check=False) == str(SIZE), SECONDS, "the image is a file", 0.2)
+        until(lambda: machine.done("stat", "-c", "%s", self.file(machine), check=False) == str(SIZE), SECONDS,
+              "the image is a file", 0.2)
 
     def unmount(self, machine):
+        """Takes the image from a machine, also where its process hangs."""
         with contextlib.suppress(Stuck):
             machine.kill("^rbd-fuse ")
         machine.done("umount", "--lazy", self.folder(machine), check=False)

@@ -1,4 +1,6 @@
-"""A source that goes from machine to machine by the steps of operations/docs/REPLICAS.md, and what is acknowledged meanwhile."""
+"""A source that goes from machine to machine by the steps of operations/docs/REPLICAS.md, and what is acknowledged
+meanwhile.
+"""
 import os
 import signal
 import subprocess
@@ -23,6 +25,7 @@ class Feeding(threading.Thread):
         self.source, self.program, self.fault = source, program, None
 
     def run(self):
+        """Feeds the program until it ends, and keeps a difference that it met."""
         try:
             self.source.feed(self.program, sys.maxsize, 150)
         except Differs as fault:
@@ -61,14 +64,16 @@ class Relay:
 
         What it refuses is not lost: the store may be slow. What it lets pass is wrong.
         """
-        command = ["env", f"CEPH_CONF={self.store.conf}", PYTHON, TOOLS / "ropepeach-command", "takeover", self.store.file(to), other.address]
+        command = ["env", f"CEPH_CONF={self.store.conf}", PYTHON, TOOLS / "ropepeach-command", "takeover",
+                   self.store.file(to), other.address]
         command += ["--program", self.program, "--wait", wait, *words]
         command = [*to.within(), "timeout", "-s", "KILL", LATEST, *command]
-        it = subprocess.run(list(map(str, command)), capture_output=True, text=True, timeout=LATEST + 20)
-        if it.returncode != status:
+        process = subprocess.run(list(map(str, command)), capture_output=True, text=True, timeout=LATEST + 20)
+        if process.returncode != status:
             fault = Differs if status else Stuck
-            raise fault(f"takeover on {to.name} from {other.name}: status {it.returncode}, and not {status}: {it.stdout}{it.stderr}")
-        return it.stdout + it.stderr
+            raise fault(f"takeover on {to.name} from {other.name}: status {process.returncode}, and not {status}: "
+                        f"{process.stdout}{process.stderr}")
+        return process.stdout + process.stderr
 
     def open_on(self, to, other, *words):
         """Mounts, looks at each step and opens the source there. Gives what it took."""
@@ -81,6 +86,7 @@ class Relay:
         return f"the mount {mounted - began:.1f}, the steps {looked - mounted:.1f}"
 
     def mount(self, to, seconds=150):
+        """Mounts the store on a machine, and tries again for so many seconds."""
         end = time.monotonic() + seconds
         while True:
             try:
@@ -123,7 +129,7 @@ class Relay:
             machine.connect(True)
         else:
             machine.start()
-        for it in self.machines:
-            self.store.start_missing(it)
+        for other in self.machines:
+            self.store.start_missing(other)
         self.store.lift(machine)
         return self.store.heal()

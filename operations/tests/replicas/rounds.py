@@ -1,7 +1,9 @@
-"""Rounds: the machine that serves meets a death amid commands, another one takes over by the page's steps, and later the source goes back.
+"""Rounds: the machine that serves meets a death amid commands, another one takes over by the page's steps, and later
+the source goes back.
 
-Each kind of death is a function below; its first line says which. What the source holds is compared with what was acknowledged, to the
-byte, after each of the two ways, and once more after a machine that is still alive was let at the store again.
+Each kind of death is a function below; its first line says which. What the source holds is compared with what was
+acknowledged, to the byte, after each of the two ways, and once more after a machine that is still alive was let at the
+store again.
 """
 import signal
 import time
@@ -45,7 +47,9 @@ def power(here, there):
 
 
 def network(here, there):
-    """The machine's network, while a command is under way. The machine goes on, and comes back while another one serves."""
+    """The machine's network, while a command is under way. The machine goes on, and comes back while another one
+    serves.
+    """
     here.connect(False)
 
 
@@ -95,7 +99,8 @@ def meet(relay, kind, there):
 def let_back(relay, kind, here, feeding, late, count):
     """A machine that is alive comes back while the other one serves: it acknowledges nothing new, and changes nothing.
 
-    `count` commands may have been acknowledged: the answer of the store to a command that stands may reach the machine late.
+    `count` commands may have been acknowledged: the answer of the store to a command that stands may reach the machine
+    late.
     """
     wake(kind, here)
     if kind is not network_at_rest:
@@ -113,7 +118,7 @@ def one_round(relay, kind):
     """A round. Gives the seconds until the source was open again, and what is told of the round."""
     relay.feed(relay.draw.randrange(4, 16))
     here, late = relay.at, relay.running
-    there = relay.draw.choice([it for it in relay.machines if it is not here])
+    there = relay.draw.choice([machine for machine in relay.machines if machine is not here])
     feeding, before = meet(relay, kind, there)
     relay.store.fence(here, there)
     fenced = time.monotonic() - before
@@ -121,11 +126,11 @@ def one_round(relay, kind):
     steps = relay.open_on(there, here)
     seconds = time.monotonic() - before
     relay.source.settle(relay.running)
-    told = f"{here.name} to {there.name}, fenced after {fenced:.1f} s, {steps}, open after {seconds:.1f} s"
+    text = f"{here.name} to {there.name}, fenced after {fenced:.1f} s, {steps}, open after {seconds:.1f} s"
     if kind in SURVIVORS:
-        told += let_back(relay, kind, here, feeding, late, count + relay.source.stood - stood)
+        text += let_back(relay, kind, here, feeding, late, count + relay.source.stood - stood)
     late.drop()
     relay.feed(relay.draw.randrange(3, 9))
     healed = relay.clear(here)
     relay.go_back(here)
-    return seconds, f"{told}; well after {healed:.1f} s, and back"
+    return seconds, f"{text}; well after {healed:.1f} s, and back"

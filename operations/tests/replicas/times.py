@@ -17,7 +17,8 @@ PUTS, BODY, PORT = 150, 4_096, "8080"
 ALONE = 15
 REQUEST = """import http.client, sys, time
 began, connection = time.monotonic(), http.client.HTTPConnection("127.0.0.1", int(sys.argv[1]), timeout=170)
-connection.request(sys.argv[2], "/resource/served", b"x" * 4096 if sys.argv[2] == "PUT" else None, {"Content-Type": "text/plain"})
+body = b"x" * 4096 if sys.argv[2] == "PUT" else None
+connection.request(sys.argv[2], "/resource/served", body, {"Content-Type": "text/plain"})
 print(connection.getresponse().status, round(time.monotonic() - began, 2))
 """
 
@@ -25,14 +26,14 @@ print(connection.getresponse().status, round(time.monotonic() - began, 2))
 def median_put(machine, program, file):
     """The median of puts of 4 KiB to a new source, in milliseconds."""
     formatted(machine, program, file)
-    it, body, seconds = Program(machine, program, file), random.Random(1).randbytes(BODY).hex(), []
+    running, body, seconds = Program(machine, program, file), random.Random(1).randbytes(BODY).hex(), []
     for number in range(PUTS):
         began = time.monotonic()
-        answer = it.ask(f"put t{number % 24} {body} text/plain")
+        answer = running.ask(f"put t{number % 24} {body} text/plain")
         seconds.append(time.monotonic() - began)
         if not answer.startswith((b"created", b"updated")):
             raise Differs(f"a put: {answer!r}")
-    it.close()
+    running.close()
     return 1_000 * statistics.median(seconds)
 
 
@@ -46,32 +47,35 @@ def puts(relay):
     here.done("rm", "-f", local, remote)
 
 
-def asked(machine, method="PUT"):
+def timed_request(machine, method="PUT"):
     """The status of a request on a machine, and its seconds."""
     status, seconds = machine.done(PYTHON, "-c", REQUEST, PORT, method, seconds=180).split()
     return int(status), float(seconds)
 
 
-def told(what, found):
-    print(f"serve, {what}: {', '.join(f'{method} {status} after {seconds:.1f} s' for method, (status, seconds) in found)}", flush=True)
+def report(what, found):
+    """Prints the answers, each with its seconds."""
+    answers = ", ".join(f"{method} {status} after {seconds:.1f} s" for method, (status, seconds) in found)
+    print(f"serve, {what}: {answers}", flush=True)
 
 
 def alone(relay, here, others):
     """Both other copies are gone: what a PUT and a GET behind it are answered once one of them is back."""
-    for it in others:
-        it.kill("^ceph-osd ")
+    for machine in others:
+        machine.kill("^ceph-osd ")
     found, askers = [], []
     for method in ("PUT", "GET"):
-        askers.append(threading.Thread(target=lambda method=method: found.append((method, asked(here, method))), daemon=True))
+        askers.append(threading.Thread(target=lambda method=method: found.append((method, timed_request(here, method))),
+                                       daemon=True))
         askers[-1].start()
         time.sleep(1)
     time.sleep(ALONE)
     before = list(found)
     relay.store.start_missing(others[0])
-    for it in askers:
-        it.join(180)
+    for asker in askers:
+        asker.join(180)
     print(f"serve, with one copy of three: {before or 'no answer'} within {ALONE} s", flush=True)
-    told("and after another copy is back", found)
+    report("and after another copy is back", found)
     if len(found) != 2:
         raise Stuck("a request has no answer")
 
@@ -79,20 +83,20 @@ def alone(relay, here, others):
 def served(relay):
     """What a server on the store answers while one copy's process, one machine's network, or two copies are gone."""
     here, store = relay.at, relay.store
-    others = [it for it in relay.machines if it is not here]
+    others = [machine for machine in relay.machines if machine is not here]
     file = store.folder(here) / "served.disk"
     formatted(here, relay.program, file)
     server = here.started(relay.program, "serve", file, PORT, "1000", stdin=subprocess.DEVNULL, stdout=subprocess.PIPE)
     try:
         if not server.stdout.readline().startswith(b"listening"):
             raise Ended("the server does not listen")
-        told("with all copies", [("PUT", asked(here)), ("GET", asked(here, "GET"))])
+        report("with all copies", [("PUT", timed_request(here)), ("GET", timed_request(here, "GET"))])
         others[0].kill("^ceph-osd ")
-        told("a copy's process was killed", [("PUT", asked(here)), ("PUT", asked(here))])
+        report("a copy's process was killed", [("PUT", timed_request(here)), ("PUT", timed_request(here))])
         store.start_missing(others[0])
         store.heal()
         others[0].connect(False)
-        told("another machine lost its network", [("PUT", asked(here)), ("PUT", asked(here))])
+        report("another machine lost its network", [("PUT", timed_request(here)), ("PUT", timed_request(here))])
         others[0].connect(True)
         store.heal()
         alone(relay, here, others)

@@ -1,6 +1,7 @@
 """The four ways in which GlusterFS by default broke the promise, each tried on CephFS, where none may.
 
-Each function below is one way, or one form of it. What another machine shows is compared with what was acknowledged, to the byte.
+Each function below is one way, or one form of it. What another machine shows is compared with what was acknowledged, to
+the byte.
 """
 import signal
 import time
@@ -18,12 +19,13 @@ def copies_of(relay):
     """The numbers of the machines whose copies have the file's first object, that of the copy that answers first."""
     file = relay.store.file(relay.at)
     name = f"{int(relay.at.done('stat', '-c', '%i', file)):x}.00000000"
-    found = relay.store.asker.asked("osd map", pool="data", object=name)
-    return [it + 1 for it in found["acting"]]
+    found = relay.store.asker.query("osd map", pool="data", object=name)
+    return [number + 1 for number in found["acting"]]
 
 
 def up(relay):
-    return len([it for it in (relay.store.asker.asked("osd dump") or {"osds": []})["osds"] if it["up"]])
+    """How many copies are up, by the monitors."""
+    return len([copy for copy in (relay.store.asker.query("osd dump") or {"osds": []})["osds"] if copy["up"]])
 
 
 def leave(relay):
@@ -39,25 +41,34 @@ def take(relay, to):
     relay.source.settle(relay.running)
 
 
+def halted_and_dead(draw, first, others):
+    """The numbers of the copies that a write does not reach, one or both of the others, and of one that dies."""
+    halted = others if draw.random() < 0.5 else [draw.choice(others)]
+    living = [number for number in (first, *others) if number not in halted]
+    return halted, first if len(halted) == 2 else draw.choice(living)
+
+
 def copies_that_differ(relay):
-    """A write reaches some copies and not all, its machine and one copy die. B opens without that copy; it comes back, another one dies; C opens."""
+    """A write reaches some copies and not all, its machine and one copy die. B opens without that copy; it comes back,
+    another one dies; C opens.
+    """
     here, (first, *others) = relay.at, copies_of(relay)
-    by_number = {it.number: it for it in relay.machines}
-    halted = others if relay.draw.random() < 0.5 else [relay.draw.choice(others)]
-    dead = by_number[first] if len(halted) == 2 else by_number[relay.draw.choice([it for it in (first, *others) if it not in halted])]
-    there, third = [it for it in relay.machines if it is not here]
+    by_number = {machine.number: machine for machine in relay.machines}
+    halted, number_of_dead = halted_and_dead(relay.draw, first, others)
+    dead = by_number[number_of_dead]
+    there, third = [machine for machine in relay.machines if machine is not here]
     feeding, late = Feeding(relay.source, relay.running), relay.running
     feeding.start()
     time.sleep(relay.draw.random() * 0.3)
-    for it in halted:
-        by_number[it].send(signal.SIGSTOP, "^ceph-osd ")
+    for number in halted:
+        by_number[number].send(signal.SIGSTOP, "^ceph-osd ")
     time.sleep(0.3)
     dead.kill("^ceph-osd ")
     # (the program may hang in a call until its mount is gone)
     here.send(signal.SIGKILL, RUNS)
     here.kill("^ceph-fuse ")
-    for it in halted:
-        by_number[it].send(signal.SIGCONT, "^ceph-osd ")
+    for number in halted:
+        by_number[number].send(signal.SIGCONT, "^ceph-osd ")
     feeding.over()
     late.drop()
     relay.store.unmount(here, is_lost=True)
@@ -67,7 +78,7 @@ def copies_that_differ(relay):
     leave(relay)
     relay.store.start_missing(dead)
     until(lambda: up(relay) == 3, 60, "the copy that was dead is back")
-    again = relay.draw.choice([it for it in relay.machines if it is not dead])
+    again = relay.draw.choice([machine for machine in relay.machines if machine is not dead])
     again.kill("^ceph-osd ")
     take(relay, third)
     relay.store.start_missing(again)
@@ -75,13 +86,14 @@ def copies_that_differ(relay):
     relay.store.heal()
     leave(relay)
     take(relay, here)
-    return f"halted {halted}, dead {dead.number}, then {again.number}: {there.name}, {third.name} and {here.name} show the same"
+    return (f"halted {halted}, dead {dead.number}, then {again.number}: {there.name}, "
+            f"{third.name} and {here.name} show the same")
 
 
 def an_old_copy_that_comes_back(relay):
     """A loses its power, B takes over. A comes back, B acknowledges at once and loses its power, and A opens again."""
     here = relay.at
-    there = relay.draw.choice([it for it in relay.machines if it is not here])
+    there = relay.draw.choice([machine for machine in relay.machines if machine is not here])
     late = relay.running
     here.die(by_power=True)
     late.drop()
@@ -106,27 +118,29 @@ def an_old_copy_that_comes_back(relay):
 
 
 def an_old_copy_alone(relay):
-    """A copy misses commands, the two others die, and it comes back alone: nothing is read of it, with `min_size` 2 or 1.
+    """A copy misses commands, the two others die, and it comes back alone: nothing is read of it, with `min_size` 2 or
+    1.
 
     Once another one is back all is there.
     """
     here, seconds = relay.at, []
     for least in (2, 1):
         relay.store.must("osd pool set", pool="data", var="min_size", val=str(least))
-        old, *others = [it for it in relay.machines if it is not here] + [here]
+        old, *others = [machine for machine in relay.machines if machine is not here] + [here]
         old.kill("^ceph-osd ")
         time.sleep(1)
         relay.feed(LATE)
         leave(relay)
-        for it in others:
-            it.kill("^ceph-osd ")
+        for machine in others:
+            machine.kill("^ceph-osd ")
         relay.store.start_missing(old)
         time.sleep(2)
         # (nothing of the file's own objects comes within these seconds)
         name = f"{relay.inode:x}.00000000"
-        said = old.done("timeout", "-s", "KILL", 15, "rados", "--conf", relay.store.conf, "-p", "data", "get", name, "/run/read", check=False)
+        output = old.done("timeout", "-s", "KILL", 15, "rados", "--conf", relay.store.conf, "-p", "data", "get", name,
+                          "/run/read", check=False)
         if old.done("sh", "-c", "stat -c %s /run/read 2>/dev/null || echo 0") != "0":
-            raise Differs(f"an old copy alone was read: {said}")
+            raise Differs(f"an old copy alone was read: {output}")
         relay.store.start_missing(others[0])
         began = time.monotonic()
         take(relay, here)
@@ -134,17 +148,19 @@ def an_old_copy_alone(relay):
         relay.store.start_missing(others[1])
         relay.store.heal()
     relay.store.must("osd pool set", pool="data", var="min_size", val="2")
-    return f"with another one it was open after {', '.join(f'{it:.1f}' for it in seconds)} s"
+    return f"with another one it was open after {', '.join(f'{duration:.1f}' for duration in seconds)} s"
 
 
 def two_writers(relay):
-    """A's program is open and at rest. Copies are started anew, the metadata server fails: at no moment does the file open on B, or is taken over."""
-    here, there = relay.at, next(it for it in relay.machines if it is not relay.at)
+    """A's program is open and at rest. Copies are started anew, the metadata server fails: at no moment does the file
+    open on B, or is taken over.
+    """
+    here, there = relay.at, next(machine for machine in relay.machines if machine is not relay.at)
     relay.mount(there)
     refusals = 0
-    for it in relay.machines:
-        it.kill("^ceph-osd ")
-        relay.store.start_missing(it)
+    for machine in relay.machines:
+        machine.kill("^ceph-osd ")
+        relay.store.start_missing(machine)
         relay.store.must("mds fail", role_or_gid="0")
         for _ in range(2):
             program = Program(there, relay.program, relay.store.file(there))
@@ -165,7 +181,7 @@ def two_writers(relay):
 
 def old_bytes_at_a_handover(relay):
     """Both mounts stay. A ends in peace and B opens at once, and back, again and again."""
-    here, there = relay.at, next(it for it in relay.machines if it is not relay.at)
+    here, there = relay.at, next(machine for machine in relay.machines if machine is not relay.at)
     relay.mount(there)
     waits = []
     for _ in range(HANDOVERS):
@@ -180,7 +196,8 @@ def old_bytes_at_a_handover(relay):
     return f"{HANDOVERS} handovers, the longest of {max(waits):.1f} s"
 
 
-WAYS = [copies_that_differ] * TIMES + [an_old_copy_that_comes_back] * TIMES + [an_old_copy_alone, two_writers, old_bytes_at_a_handover]
+WAYS = [copies_that_differ] * TIMES + [an_old_copy_that_comes_back] * TIMES + [an_old_copy_alone, two_writers,
+                                                                               old_bytes_at_a_handover]
 
 
 def run(relay):
@@ -190,10 +207,11 @@ def run(relay):
         began = time.monotonic()
         try:
             relay.feed(4)
-            told = way(relay)
+            text = way(relay)
         except (Differs, Ended, Stuck) as fault:
             traceback.print_exception(fault)
             return [f"{way.__name__}: {type(fault).__name__} {fault}"]
-        print(f"way: {way.__name__}: nothing is lost, {time.monotonic() - began:.0f} s: {told}", flush=True)
-    print(f"replicas: {len(WAYS)} trials of four ways, {relay.source.acknowledged} commands acknowledged, 0 lost", flush=True)
+        print(f"way: {way.__name__}: nothing is lost, {time.monotonic() - began:.0f} s: {text}", flush=True)
+    print(f"replicas: {len(WAYS)} trials of four ways, {relay.source.acknowledged} commands acknowledged, 0 lost",
+          flush=True)
     return []

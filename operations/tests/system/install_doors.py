@@ -7,8 +7,9 @@ import time
 
 from operations.package import places
 from operations.tests import PYTHON
-from operations.tests.system import install_looks
-from operations.tests.system.install_looks import SECONDS, asked, compare_answers, far, proxied, without_tls
+from operations.tests.system import install_looks, install_shared
+from operations.tests.system.install_looks import far, proxied, without_tls
+from operations.tests.system.install_shared import SECONDS, compare_answers, request
 from tests.program import TOOLS, compare
 from tests.served_source import connected, read_to_end
 
@@ -26,9 +27,11 @@ CONDITIONS = [{"If-Match": '"a"'}, {"If-Match": "*"}, {"If-None-Match": "*"}, {"
               {"If-Unmodified-Since": "Tue, 29 Feb 2000 00:00:00 GMT"}]
 BODY = b"a whole resource"
 # What is asked for, and its status.
-ASKED = [("GET", "/resource/a.js", 200), ("GET", "/resource/none", 404), ("GET", "/changelist.xml", 200), ("GET", "/", 404),
+ASKED = [("GET", "/resource/a.js", 200), ("GET", "/resource/none", 404), ("GET", "/changelist.xml", 200),
+         ("GET", "/", 404),
          ("GET", "/robots.txt", 200), ("PATCH", "/resource/a.js", 405), ("GET", "/site/none.js", 404),
-         ("PUT", "/changelist.xml", 405), ("DELETE", "/resourcelist/1/0.xml", 405), ("POST", "/capabilitylist.xml", 405)]
+         ("PUT", "/changelist.xml", 405), ("DELETE", "/resourcelist/1/0.xml", 405),
+         ("POST", "/capabilitylist.xml", 405)]
 # A connection that is quiet for so many seconds has answered all that it was sent.
 QUIET = 0.5
 # How many bodies one visitor asks for at a time in the attack, and how many of them the site lets pass.
@@ -45,29 +48,32 @@ def fields_of(port, path, method="GET", **sent):
 
 
 def put(port, name, body=BODY, **fields):
-    compare_answers(f"put {name}", True, asked(port, "PUT", f"/resource/{name}", body, **fields)[0] in (201, 204))
+    """Puts a resource, which has to be taken."""
+    compare_answers(f"put {name}", True, request(port, "PUT", f"/resource/{name}", body, **fields)[0] in (201, 204))
 
 
 def a_page_of_another_host_changes_nothing(program, room):
-    """A change that a page of another host, or a depositor's body, asks for is refused; the site's own page may change."""
+    """A change that a page of another host, or a depositor's body, asks for is refused; the site's own page may change.
+    """
     with proxied(program, room) as (port, _, behind):
         put(port, "kept")
-        before = asked(behind, "GET", "/changelist.xml")
+        before = request(behind, "GET", "/changelist.xml")
         own, tries = f"http://127.0.0.1:{port}", 0
-        origins = [own.replace("http:", "https:"), f"http://127.0.0.1:{port + 1}", f"{own}.evil.example", "http://127.0.0.1"]
-        strangers = [*STRANGERS, *({"Origin": it} for it in origins)]
+        origins = [own.replace("http:", "https:"), f"http://127.0.0.1:{port + 1}", f"{own}.evil.example",
+                   "http://127.0.0.1"]
+        strangers = [*STRANGERS, *({"Origin": origin} for origin in origins)]
         for method, path, body in SIMPLE:
             for fields in strangers:
-                compare_answers(f"{method} {path} {fields}", 403, asked(port, method, path, body, **fields)[0])
+                compare_answers(f"{method} {path} {fields}", 403, request(port, method, path, body, **fields)[0])
                 tries += 1
-        compare("nothing is changed", repr(before).encode(), repr(asked(behind, "GET", "/changelist.xml")).encode())
+        compare("nothing is changed", repr(before).encode(), repr(request(behind, "GET", "/changelist.xml")).encode())
         friends = [{"Origin": own}, {"Origin": own, "Sec-Fetch-Site": "same-origin"}, {"Sec-Fetch-Site": "none"}, {}]
         for number, fields in enumerate(friends):
             put(port, f"own{number}", **fields)
-            compare_answers(f"delete, {fields}", 204, asked(port, "DELETE", f"/resource/own{number}", **fields)[0])
-            compare_answers(f"publish, {fields}", 200, asked(port, "POST", "/publish", **fields)[0])
+            compare_answers(f"delete, {fields}", 204, request(port, "DELETE", f"/resource/own{number}", **fields)[0])
+            compare_answers(f"publish, {fields}", 200, request(port, "POST", "/publish", **fields)[0])
         for fields in strangers:
-            compare_answers(f"a reader, {fields}", (200, BODY), asked(port, "GET", "/resource/kept", **fields))
+            compare_answers(f"a reader, {fields}", (200, BODY), request(port, "GET", "/resource/kept", **fields))
     print(f"{tries} changes of strangers' pages are refused")
 
 
@@ -89,7 +95,7 @@ def another_name_is_not_served(program, room):
                 compare_answers(f"{line}, {name}", True, raw(port, head) in ([b"421"], [b"400"]))
         head = b"DELETE http://evil.example/resource/kept HTTP/1.1\r\nHost: 127.0.0.1\r\nConnection: close\r\n\r\n"
         compare_answers("a whole address", [b"421"], raw(port, head))
-        compare_answers("it is kept", (200, BODY), asked(behind, "GET", "/resource/kept"))
+        compare_answers("it is kept", (200, BODY), request(behind, "GET", "/resource/kept"))
         for fields in (b"Host: 127.0.0.1\r\n", b"Host: 127.0.0.1:%d\r\n" % port, b"Host: 127.0.0.1:443\r\n"):
             head = b"GET /resource/kept HTTP/1.1\r\n" + fields + b"Connection: close\r\n\r\n"
             compare_answers(f"{fields}", [b"200"], raw(port, head))
@@ -98,28 +104,40 @@ def another_name_is_not_served(program, room):
 
 def hidden(body, *fields):
     """A reader's request that carries another request."""
-    lines = ["GET /resource/kept HTTP/1.1", "Host: 127.0.0.1", *(it.replace("LENGTH", str(len(body))) for it in fields)]
+    lines = ["GET /resource/kept HTTP/1.1", "Host: 127.0.0.1",
+             *(field.replace("LENGTH", str(len(body))) for field in fields)]
     return "\r\n".join([*lines, "", body]).encode("latin-1")
 
 
 def hidden_requests_are_not_done(program, room):
-    """From an address that is not near no change gets in behind, within or between the requests of a reader, however their ends are told."""
+    """From an address that is not near no change gets in behind, within or between the requests of a reader, however
+    their ends are told.
+    """
     change = "DELETE /resource/kept HTTP/1.1\r\nHost: 127.0.0.1\r\nConnection: close\r\n\r\n"
     chunked, length = "Transfer-Encoding: chunked", "Content-Length: LENGTH"
-    tries = [hidden(change), hidden(change, length), hidden(change, length, "Content-Length: 0"), hidden(change, "Content-Length: 0"),
-             hidden(change, "Content-Length: 0", length), hidden(f"0\r\n\r\n{change}", chunked), hidden(f"0\r\n\r\n{change}", length, chunked),
-             hidden(f"0\r\n\r\n{change}", chunked, "Content-Length: 5"), hidden(f"{len(change):x}\r\n{change}\r\n0\r\n\r\n", chunked),
-             hidden(f"0\r\n\r\n{change}", "Transfer-Encoding: xchunked", length), hidden(f"0\r\n\r\n{change}", "Transfer-Encoding:\tchunked"),
-             hidden(f"0\r\n\r\n{change}", "Transfer-Encoding : chunked"), hidden(f"0\r\n\r\n{change}", "Transfer-Encoding: chunked, identity"),
-             hidden(change, "Content-Length : LENGTH"), hidden(change, "Content-Length: +LENGTH"), hidden(change, "Content-Length: 0\n" + length),
-             hidden(change, "X: a\n\n" + change), hidden(change, "X: a", " Content-Length: 0"), hidden(change, "X: \0", length),
+    tries = [hidden(change), hidden(change, length), hidden(change, length, "Content-Length: 0"),
+             hidden(change, "Content-Length: 0"),
+             hidden(change, "Content-Length: 0", length), hidden(f"0\r\n\r\n{change}", chunked),
+             hidden(f"0\r\n\r\n{change}", length, chunked),
+             hidden(f"0\r\n\r\n{change}", chunked, "Content-Length: 5"),
+             hidden(f"{len(change):x}\r\n{change}\r\n0\r\n\r\n", chunked),
+             hidden(f"0\r\n\r\n{change}", "Transfer-Encoding: xchunked", length),
+             hidden(f"0\r\n\r\n{change}", "Transfer-Encoding:\tchunked"),
+             hidden(f"0\r\n\r\n{change}", "Transfer-Encoding : chunked"),
+             hidden(f"0\r\n\r\n{change}", "Transfer-Encoding: chunked, identity"),
+             hidden(change, "Content-Length : LENGTH"), hidden(change, "Content-Length: +LENGTH"),
+             hidden(change, "Content-Length: 0\n" + length),
+             hidden(change, "X: a\n\n" + change), hidden(change, "X: a", " Content-Length: 0"),
+             hidden(change, "X: \0", length),
              hidden(change, "X-HTTP-Method-Override: DELETE"), hidden(change, "Connection: Upgrade", "Upgrade: h2c"),
-             hidden(change.replace("DELETE /", "DELETE http://127.0.0.1/")), change.replace("\r\n", "\n").encode(), change.lower().encode(),
-             change.replace(" HTTP/1.1", "").encode(), change.replace("/kept", "/kept%00").encode(), change.replace("DELETE", "GET\0DELETE").encode(),
+             hidden(change.replace("DELETE /", "DELETE http://127.0.0.1/")), change.replace("\r\n", "\n").encode(),
+             change.lower().encode(),
+             change.replace(" HTTP/1.1", "").encode(), change.replace("/kept", "/kept%00").encode(),
+             change.replace("DELETE", "GET\0DELETE").encode(),
              change.replace("DELETE /", "DELETE /a/../").encode(), change.replace("/resource", "//resource").encode()]
     with proxied(program, room, lambda site: far(without_tls(site))) as (port, _, behind):
         put(behind, "kept")
-        before = asked(behind, "GET", "/changelist.xml")
+        before = request(behind, "GET", "/changelist.xml")
         for sent in tries:
             with connected(port) as connection:
                 # (a client that ends its side is one that nginx takes to have left)
@@ -127,7 +145,8 @@ def hidden_requests_are_not_done(program, room):
                 connection.sendall(sent)
                 with contextlib.suppress(TimeoutError):
                     read_to_end(connection)
-            compare(f"behind {sent[:300]}", repr(before).encode(), repr(asked(behind, "GET", "/changelist.xml")).encode())
+            compare(f"behind {sent[:300]}", repr(before).encode(),
+                    repr(request(behind, "GET", "/changelist.xml")).encode())
     print(f"{len(tries)} hidden changes are not done")
 
 
@@ -138,15 +157,15 @@ def a_part_or_a_condition_is_refused(program, room):
         changes = [("PUT", "/resource/kept", b"tail"), ("POST", "/group", GROUP), ("DELETE", "/resource/kept", None)]
         for method, path, body in changes:
             for field in ("bytes 4-7/8", "bytes */8", "x"):
-                found = asked(port, method, path, body, **{"Content-Range": field})
+                found = request(port, method, path, body, **{"Content-Range": field})
                 compare_answers(f"{method} {field}", 400, found[0])
             for fields in CONDITIONS:
-                compare_answers(f"{method} {fields}", 501, asked(port, method, path, body, **fields)[0])
-        compare_answers("a new one", 501, asked(port, "PUT", "/resource/new", b"a", **{"If-None-Match": "*"})[0])
-        compare_answers("it is kept", (200, BODY), asked(behind, "GET", "/resource/kept"))
-        compare_answers("no new one", 404, asked(behind, "GET", "/resource/new")[0])
+                compare_answers(f"{method} {fields}", 501, request(port, method, path, body, **fields)[0])
+        compare_answers("a new one", 501, request(port, "PUT", "/resource/new", b"a", **{"If-None-Match": "*"})[0])
+        compare_answers("it is kept", (200, BODY), request(behind, "GET", "/resource/kept"))
+        compare_answers("no new one", 404, request(behind, "GET", "/resource/new")[0])
         for fields in [*CONDITIONS, {"Content-Range": "bytes 4-7/8"}]:
-            compare_answers(f"a reader, {fields}", (200, BODY), asked(port, "GET", "/resource/kept", **fields))
+            compare_answers(f"a reader, {fields}", (200, BODY), request(port, "GET", "/resource/kept", **fields))
 
 
 def a_client_that_goes_on_replaces_nothing(program, room):
@@ -156,9 +175,9 @@ def a_client_that_goes_on_replaces_nothing(program, room):
     with proxied(program, room) as (port, _, behind):
         put(port, "kept")
         words = ["curl", "-sS", "--noproxy", "*", "-o", "/dev/null", "-w", "%{http_code}", "-C", str(len(BODY)), "-T"]
-        told, _ = install_looks.told_by(*words, f"{room}/longer", f"http://127.0.0.1:{port}/resource/kept")
-        compare("the answer", b"400", told.encode())
-        compare_answers("it is kept", (200, BODY), asked(behind, "GET", "/resource/kept"))
+        output, _ = install_shared.told_by(*words, f"{room}/longer", f"http://127.0.0.1:{port}/resource/kept")
+        compare("the answer", b"400", output.encode())
+        compare_answers("it is kept", (200, BODY), request(behind, "GET", "/resource/kept"))
 
 
 def the_bare_program_looks_at_none_of_these(program, room):
@@ -166,9 +185,9 @@ def the_bare_program_looks_at_none_of_these(program, room):
     with proxied(program, room) as (_, _, behind):
         put(behind, "kept", **{"Origin": "https://evil.example", "Sec-Fetch-Site": "cross-site"})
         put(behind, "kept", b"tail", **{"Content-Range": "bytes 4-7/8"})
-        compare_answers("the tail", (200, b"tail"), asked(behind, "GET", "/resource/kept"))
+        compare_answers("the tail", (200, b"tail"), request(behind, "GET", "/resource/kept"))
         put(behind, "kept", b"other", **{"If-Match": '"none"', "If-None-Match": "*", "Host": "evil.example"})
-        compare_answers("a condition", (200, b"other"), asked(behind, "GET", "/resource/kept"))
+        compare_answers("a condition", (200, b"other"), request(behind, "GET", "/resource/kept"))
 
 
 def begun(port, path):
@@ -185,31 +204,35 @@ def ended(connection):
 
 
 def a_visitor_gets_few_bodies_at_a_time(program, room):
-    """Of eight bodies that a visitor asks for at a time four are sent, and four are to be asked for later; lists are not counted."""
+    """Of eight bodies that a visitor asks for at a time four are sent, and four are to be asked for later; lists are
+    not counted.
+    """
     with proxied(program, room) as (port, source, _):
         put(port, "long", bytes(1_000_000))
-        compare_answers("a list", 200, asked(port, "POST", "/publish")[0])
+        compare_answers("a list", 200, request(port, "POST", "/publish")[0])
         source.send_signal(signal.SIGSTOP)
         downloads = [begun(port, "/resource/long") for _ in range(PASSED)]
         time.sleep(0.5)
-        more = [begun(port, f"/resource/{it}") for it in ["long"] * (DOWNLOADS - PASSED - 1) + ["none"]]
-        refused = [ended(it) for it in more]
+        more = [begun(port, f"/resource/{name}") for name in ["long"] * (DOWNLOADS - PASSED - 1) + ["none"]]
+        refused = [ended(download) for download in more]
         other = [begun(port, "/changelist.xml"), begun(port, "/capabilitylist.xml")]
         source.send_signal(signal.SIGCONT)
         compare_answers("more", [(503, True)] * (DOWNLOADS - PASSED), refused)
-        compare_answers("the first", [(200, False)] * PASSED, [ended(it) for it in downloads])
-        compare_answers("lists", [(200, False)] * 2, [ended(it) for it in other])
-        compare_answers("later", 200, asked(port, "GET", "/resource/long")[0])
+        compare_answers("the first", [(200, False)] * PASSED, [ended(download) for download in downloads])
+        compare_answers("lists", [(200, False)] * 2, [ended(download) for download in other])
+        compare_answers("later", 200, request(port, "GET", "/resource/long")[0])
 
 
 def each_answer_has_its_fields(program, room):
-    """Each answer forbids to guess its type, and asks for TLS from here on; the page runs files of its own folder alone."""
+    """Each answer forbids to guess its type, and asks for TLS from here on; the page runs files of its own folder
+    alone.
+    """
     with proxied(program, room) as (port, _, _):
         put(port, "a.js", b"alert(1)", **{"Content-Type": "text/javascript"})
         for method, path, status in ASKED:
             found, fields = fields_of(port, path, method)
-            told = found, fields["X-Content-Type-Options"], fields["Strict-Transport-Security"]
-            compare_answers(f"{method} {path}", (status, "nosniff", "max-age=31536000"), told)
+            facts = found, fields["X-Content-Type-Options"], fields["Strict-Transport-Security"]
+            compare_answers(f"{method} {path}", (status, "nosniff", "max-age=31536000"), facts)
         _, fields = fields_of(port, "/", "PUT", Origin="https://evil.example")
         compare_answers("a refusal", "nosniff", fields["X-Content-Type-Options"])
         policy, own = fields_of(port, "/")[1]["Content-Security-Policy"], f"http://127.0.0.1:{port}/site/"
@@ -223,13 +246,15 @@ def each_answer_has_its_fields(program, room):
 def the_site_is_what_the_template_makes(program, room):
     """operations/install/ropepeach.nginx is what `ropepeach site` writes for the address that it has."""
     words = [PYTHON, str(TOOLS / "ropepeach-command"), "site", "https://source.example.org"]
-    told, status = install_looks.told_by(*words)
+    output, status = install_shared.told_by(*words)
     compare_answers("its status", 0, status)
-    compare("the site", told.encode(), install_looks.INSTALL.joinpath("ropepeach.nginx").read_bytes())
+    compare("the site", output.encode(), install_looks.INSTALL.joinpath("ropepeach.nginx").read_bytes())
 
 
 def the_units_have_limits(program, room):
-    """Each service has a limit on processes, memory and time, and those that ask a source run as a user whom guard.conf names."""
+    """Each service has a limit on processes, memory and time, and those that ask a source run as a user whom guard.conf
+    names.
+    """
     units = {name: text for name, text in places.units(install_looks.INSTALL) if name.endswith(".service")}
     for name, text in units.items():
         for limit in ("TasksMax", "MemoryMax", "TimeoutStartSec"):
@@ -244,7 +269,8 @@ def the_units_have_limits(program, room):
 
 # What is looked at, and which tools it needs.
 CHECKS = {
-    a_page_of_another_host_changes_nothing: ["nginx"], another_name_is_not_served: ["nginx"], hidden_requests_are_not_done: ["nginx"],
+    a_page_of_another_host_changes_nothing: ["nginx"], another_name_is_not_served: ["nginx"],
+    hidden_requests_are_not_done: ["nginx"],
     a_part_or_a_condition_is_refused: ["nginx"],
     a_client_that_goes_on_replaces_nothing: ["nginx", "curl"], a_visitor_gets_few_bodies_at_a_time: ["nginx"],
     each_answer_has_its_fields: ["nginx"], the_site_is_what_the_template_makes: [], the_units_have_limits: [],

@@ -3,11 +3,12 @@ import pathlib
 import subprocess
 import tempfile
 
-from operations.tests.system import install_looks, install_packages
+from operations.tests.system import install_packages, install_shared
 from tests.program import Differs
 
 # A program in C, whose text says where it was built.
-TEXT = '#include <stdio.h>\n#include <math.h>\nint main(int count, char **words) { return puts("%s") + (int) floor(count * 0.5); }\n'
+TEXT = ('#include <stdio.h>\n#include <math.h>\nint main(int count, char **words) { return puts("%s") '
+        '+ (int) floor(count * 0.5); }\n')
 # What is wrong with a program: its text, and what stands in the place of what in its file.
 PROGRAMS = {
     "a program that another loader starts": ("a", b"/lib64/ld-linux-x86-64.so.2", b"/lib64/ld-musl-x86_64.so.1\0"),
@@ -17,12 +18,16 @@ PROGRAMS = {
 }
 # What is wrong with what is packed: a file of the repository, and what stands in it in the place of what.
 FILES = {
-    "a package with a path of the build": ("operations/install/closed", "No answer", "{folder}/operations/install/closed: no answer"),
-    "a package with a path of `make install`": ("operations/ropepeach-command", "#!/usr/bin/python3", "#!/usr/local/bin/python3"),
-    "a package of the hour": ("debian/rules", "\tdh_builddeb", "\tdate +%N > debian/ropepeach/usr/share/doc/ropepeach/hour\n\tdh_builddeb"),
+    "a package with a path of the build": ("operations/install/closed", "No answer",
+                                           "{folder}/operations/install/closed: no answer"),
+    "a package with a path of `make install`": ("operations/ropepeach-command", "#!/usr/bin/python3",
+                                                "#!/usr/local/bin/python3"),
+    "a package of the hour": ("debian/rules", "\tdh_builddeb",
+                              "\tdate +%N > debian/ropepeach/usr/share/doc/ropepeach/hour\n\tdh_builddeb"),
     "a package that lintian refuses": ("debian/control", "Section: web\n", "Section: webs\n"),
     "a package without the C library": ("debian/control", "${shlibs:Depends}, ", ""),
-    "a package of any program": ("operations/package/stamp.py", "if stamp.sha256 != digest(program):", "if not stamp.sha256:"),
+    "a package of any program": ("operations/package/stamp.py", "if stamp.sha256 != digest(program):",
+                                 "if not stamp.sha256:"),
     "a package whose wheel lacks a module": ("pyproject.toml", 'packages = ["ropepeach"]', 'packages = []'),
     "a source package without the program": ("debian/source/options", 'tar-ignore = "build"', 'tar-ignore = "proved"'),
     "a command that pip does not install": ("pyproject.toml", 'ropepeach = "ropepeach.__main__:main"', ""),
@@ -57,7 +62,8 @@ def wrong_program(room, text, old, new):
     """A program in C whose file is changed."""
     source, made = pathlib.Path(room, "wrong.c"), pathlib.Path(room, "wrong")
     source.write_text(TEXT % text)
-    subprocess.run(["cc", "-O0", "-o", made, source, "-Wl,--no-as-needed", "-lm"], check=True, capture_output=True, timeout=60)
+    subprocess.run(["cc", "-O0", "-o", made, source, "-Wl,--no-as-needed", "-lm"], check=True, capture_output=True,
+                   timeout=60)
     content = made.read_bytes()
     if old not in content:
         raise ValueError(f"a program in C has no {old!r}")
@@ -82,12 +88,13 @@ def is_noticed(program, what):
 
     install_packages.copied = changed
     try:
-        return bool(install_looks.fault_of(NOTICED_BY[what], program))
+        return bool(install_shared.fault_of(NOTICED_BY[what], program))
     finally:
         install_packages.copied = right
 
 
 def look(program, tried):
     """Which wrong packages are not noticed by what was tried, and how many there were for it."""
-    made = [it for it in [*PROGRAMS, *FILES] if NOTICED_BY.get(it, install_packages.two_builds_are_the_same) in tried]
-    return [it for it in made if not is_noticed(program, it)], len(made)
+    made = [name
+            for name in [*PROGRAMS, *FILES] if NOTICED_BY.get(name, install_packages.two_builds_are_the_same) in tried]
+    return [name for name in made if not is_noticed(program, name)], len(made)

@@ -11,7 +11,7 @@ import subprocess
 
 from operations.tests import PYTHON
 from operations.tests.system import install_looks, install_scripts
-from operations.tests.system.install_looks import asked, compare_answers, told_by
+from operations.tests.system.install_shared import compare_answers, request, told_by
 from tests.program import TOOLS, compare
 from tests.served_source import serving
 
@@ -21,8 +21,8 @@ BASE = "http://a.example"
 def published(port: int) -> tuple[str, int]:
     """What `publish` prints, and its exit status."""
     environment = os.environ | {"PYTHONPATH": str(TOOLS), "no_proxy": "127.0.0.1"}
-    told: tuple[str, int] = told_by(PYTHON, install_looks.INSTALL / "publish", str(port), env=environment)
-    return told
+    answer: tuple[str, int] = told_by(PYTHON, install_looks.INSTALL / "publish", str(port), env=environment)
+    return answer
 
 
 def a_publication_without_changes_is_skipped(program: str, room: str) -> None:
@@ -37,19 +37,19 @@ def a_publication_without_changes_is_skipped(program: str, room: str) -> None:
                         ("nothing changed since the publication of 1970-01-01T00:00:00.000Z\n", 0),
                         published(port))
         for number in (1, 2):
-            asked(port, "PUT", "/resource/a", b"%d" % number)
-            told, status = published(port)
-            compare_answers(f"change {number}", (f"published {number} ", 0), (told[:12], status))
-            told, status = published(port)
-            compare_answers(f"no change after {number}", ("nothing changed since", 0), (told[:21], status))
-        asked(port, "PUT", "/resource/b", b"1")
-        asked(port, "DELETE", "/resource/b")
-        told, status = published(port)
-        compare_answers("a change that was taken back", ("nothing changed since", 0), (told[:21], status))
+            request(port, "PUT", "/resource/a", b"%d" % number)
+            output, status = published(port)
+            compare_answers(f"change {number}", (f"published {number} ", 0), (output[:12], status))
+            output, status = published(port)
+            compare_answers(f"no change after {number}", ("nothing changed since", 0), (output[:21], status))
+        request(port, "PUT", "/resource/b", b"1")
+        request(port, "DELETE", "/resource/b")
+        output, status = published(port)
+        compare_answers("a change that was taken back", ("nothing changed since", 0), (output[:21], status))
     with install_scripts.answering(404, b"no\x1b[2J") as port:
-        told, status = published(port)
+        output, status = published(port)
     compare_answers("no source", (1, True, 1),
-                    (status, "404" in told and "\x1b" not in told, told.count("\n")))
+                    (status, "404" in output and "\x1b" not in output, output.count("\n")))
 
 
 def the_unit_fills(program: str, room: str) -> None:
@@ -77,11 +77,11 @@ def the_unit_fills(program: str, room: str) -> None:
                 braced = re.fullmatch(r"\$\{(\w+)\}", word)
                 split = settings[word[1:]].split() if word.startswith("$") and not braced else [word]
                 words += [settings[braced[1]]] if braced else split
-            told, status = told_by(*words, env=os.environ
-                                   | {"XDG_STATE_HOME": f"{room}/state", "no_proxy": "127.0.0.1"})
-            compare_answers(f"{options}: {told}", wanted, status)
+            output, status = told_by(*words, env=os.environ
+                                     | {"XDG_STATE_HOME": f"{room}/state", "no_proxy": "127.0.0.1"})
+            compare_answers(f"{options}: {output}", wanted, status)
         compare_answers("what is held", (200, b"a"),
-                        asked(int(url.rpartition(":")[2]), "GET", "/resource/a.txt"))
+                        request(int(url.rpartition(":")[2]), "GET", "/resource/a.txt"))
     compare("what is remembered", b"1",
             b"%d" % len(list(pathlib.Path(room, "state/ropepeach/fill").iterdir())))
 

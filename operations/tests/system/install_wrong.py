@@ -1,15 +1,18 @@
-"""Files of operations/install/ that are wrong, made out of the right ones by a change each. A test that lets one pass is blind."""
+"""Files of operations/install/ that are wrong, made out of the right ones by a change each. A test that lets one pass
+is blind.
+"""
 import contextlib
 import io
 import pathlib
 import shutil
 import tempfile
 
-from operations.tests.system import install_looks
+from operations.tests.system import install_looks, install_shared
 from tests.program import ROOT
 
 PAGE, SERVICE, VERIFY, SITE = "rs_source.8", "ropepeach@.service", "ropepeach-verify@.service", "ropepeach.nginx"
-STRANGERS, STRICT = "a_page_of_another_host_changes_nothing", "add_header Strict-Transport-Security \"max-age=31536000\" always;"
+STRANGERS = "a_page_of_another_host_changes_nothing"
+STRICT = "add_header Strict-Transport-Security \"max-age=31536000\" always;"
 NAMED = "    if ($host != $server_name) {\n        return 421;\n    }\n"
 FILTER = "SystemCallFilter=~@privileged @resources"
 # What has to notice it, the file, and what stands in it in the place of what. A slow client is not here: the source
@@ -30,7 +33,8 @@ WRONG = [
     ("the_filter_lets_the_verification_work", VERIFY, FILTER, FILTER + " @process"),
     ("the_longest_body_passes", SITE, "client_max_body_size      16m", "client_max_body_size      15m"),
     ("names_pass_as_they_were_sent", SITE, "map $request_uri $rp_source_asked", "map $uri $rp_source_asked"),
-    ("parts_are_kept_and_heads_for_a_second", SITE, "map $rp_source_asked $rp_source_part", 'map "a$uri" $rp_source_part'),
+    ("parts_are_kept_and_heads_for_a_second", SITE, "map $rp_source_asked $rp_source_part",
+     'map "a$uri" $rp_source_part'),
     ("who_may_change_is_asked", SITE, "        return 403;", "        set $nothing 1;"),
     ("lists_are_compressed", SITE, "gzip_proxied              any;", "gzip_proxied              off;"),
     ("lists_are_found", SITE, "map $request_uri $rp_source_page {", "map $uri $rp_source_page {"),
@@ -44,7 +48,8 @@ WRONG = [
     (STRANGERS, SITE, "[A-Z]+ 1 .*00$", "[A-Z]+ 1 .*0$"),
     (STRANGERS, SITE, "[A-Z]+ 1 .*00$", "(PUT|DELETE) 1 .*00$"),
     ("another_name_is_not_served", SITE, f"{NAMED}    if ($rp_source_refused)", "    if ($rp_source_refused)"),
-    ("another_name_is_not_served", SITE, f"{NAMED}    if ($rp_source_refused)", f"{NAMED.replace('!= ', '!~ ^')}    if ($rp_source_refused)"),
+    ("another_name_is_not_served", SITE, f"{NAMED}    if ($rp_source_refused)",
+     f"{NAMED.replace('!= ', '!~ ^')}    if ($rp_source_refused)"),
     ("hidden_requests_are_not_done", SITE, '"~^[A-Z]+ 0 SUCCESS 00$"', '"~^[A-Z]+ 0 .*00$"'),
     ("a_part_or_a_condition_is_refused", SITE, "        return 400;", "        set $nothing 1;"),
     ("a_part_or_a_condition_is_refused", SITE, "$http_if_match$http_if_none_match", "$http_if_match"),
@@ -77,16 +82,18 @@ def changed(folder, file, old, new):
 
 
 def is_noticed(program, check, *change):
+    """Whether a check does not hold with a wrong file."""
     with tempfile.TemporaryDirectory() as room, contextlib.redirect_stdout(io.StringIO()):
         right, install_looks.INSTALL = install_looks.INSTALL, changed(f"{room}/install", *change)
         try:
-            return bool(install_looks.fault_of(check, program))
+            return bool(install_shared.fault_of(check, program))
         finally:
             install_looks.INSTALL = right
 
 
 def look(program, tried):
     """Which wrong files are not noticed by what was tried, and how many there were for it."""
-    named = {it.__name__: it for it in tried}
-    made = [it for it in WRONG if it[0] in named]
-    return [f"{it[0]}: {it[1]} with {it[3]!r}" for it in made if not is_noticed(program, named[it[0]], *it[1:])], len(made)
+    by_name = {check.__name__: check for check in tried}
+    made = [row for row in WRONG if row[0] in by_name]
+    return [f"{row[0]}: {row[1]} with {row[3]!r}" for row in made
+            if not is_noticed(program, by_name[row[0]], *row[1:])], len(made)

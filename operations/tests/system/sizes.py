@@ -1,4 +1,5 @@
-"""Compares how large a disk operations/docs/OPERATING.md tells a keeper to make with the blocks that the proved program takes.
+"""Compares how large a disk operations/docs/OPERATING.md tells a keeper to make with the blocks that the proved program
+takes.
 
 The formula of the page is spelled here once more. The table of the page has to be what it gives, number by number.
 Then sources are filled on disks of the size that it gives: resources are put in the order of their names,
@@ -33,6 +34,7 @@ SPARE, SECONDS = 100, 120
 
 
 def blocks(size):
+    """How many blocks so many bytes take."""
     return -(-size // BLOCK)
 
 
@@ -54,9 +56,9 @@ def look_at_table(text):
     """Whether each number of the page's table is the one of the formula, in MiB, and what is too much is so."""
     table = re.search(r"(?m)^\| resources \|(.*)\n\|[-|]+\n((?:\|.*\n)+)", text)
     sizes = [int(number) * {"KiB": KIB, "MiB": MIB}[unit] for number, unit in re.findall(r"of (\d+) (\w+)", table[1])]
-    rows = [[it.strip().replace(",", "") for it in row.strip("|\n").split("|")] for row in table[2].splitlines()]
-    for resources, *told in rows:
-        for size, cell in zip(sizes, told, strict=True):
+    rows = [[cell.strip().replace(",", "") for cell in row.strip("|\n").split("|")] for row in table[2].splitlines()]
+    for resources, *cells in rows:
+        for size, cell in zip(sizes, cells, strict=True):
             wanted = disk_size(int(resources), size, CHANGES)
             is_other = cell.isdecimal() and int(cell) != -(-wanted // MIB)
             if cell.startswith("too much") != (wanted > MOST) or is_other:
@@ -68,7 +70,7 @@ def lines_of(filling):
     """The commands that fill a disk: each name has its bytes, and each body other bytes than the one before it."""
     names = [f"{number:0{NAME}d}" for number in range(filling.resources)]
     for time in range(filling.again + 1):
-        yield from (f"put {it} {f'{time:02x}' * filling.size or '-'} {TYPE}" for it in names)
+        yield from (f"put {name} {f'{time:02x}' * filling.size or '-'} {TYPE}" for name in names)
         if time == 0:
             yield "publish"
 
@@ -79,31 +81,31 @@ def fill(program, room, filling, formula):
     size, file = disk_size(filling.resources, filling.size, changes, formula), pathlib.Path(room, "a.disk")
     file.unlink(missing_ok=True)
     subprocess.run([program, "format", file, str(size), BASE, "1000"], check=True, capture_output=True, timeout=SECONDS)
-    *most, last = lines_of(filling)
+    *earlier, last = lines_of(filling)
     sources = []
-    for script in (most, [last]):
-        text = "".join(f"{it}\n" for it in script).encode()
+    for script in (earlier, [last]):
+        text = "".join(f"{line}\n" for line in script).encode()
         how = {"input": text, "capture_output": True, "check": True, "timeout": SECONDS}
-        told = subprocess.run([program, "run", file], **how).stdout
-        if b"refused" in told:
-            raise Differs(f"{filling} on {size} bytes: {told[told.index(b'refused'):][:40].decode()}")
+        output = subprocess.run([program, "run", file], **how).stdout
+        if b"refused" in output:
+            raise Differs(f"{filling} on {size} bytes: {output[output.index(b'refused'):][:40].decode()}")
         sources.append(disk_reader.source_of(file.read_bytes()))
-    held = [set(disk_reader.extents(it)) for it in sources]
-    taken = [2 + sum(blocks_of for _, blocks_of in it) for it in (held[1], held[0] | held[1])]
+    used = [set(disk_reader.extents(disk)) for disk in sources]
+    taken = [2 + sum(blocks_of for _, blocks_of in extents) for extents in (used[1], used[0] | used[1])]
     return (*taken, formula(filling.resources, filling.size, changes))
 
 
 def look(program, formula):
     """Fills each disk, and compares what is taken with the formula."""
-    told = []
+    lines = []
     with tempfile.TemporaryDirectory() as room:
         for filling in FILLINGS:
-            end, most, wanted = fill(program, room, filling, formula)
-            if not most <= wanted <= most * 1.1 + SPARE:
-                raise Differs(f"{filling}: {most} blocks were taken, and the formula has {wanted}")
-            counts = f"{end} blocks held, {most} while a command is at work, {wanted} by the formula"
-            told.append(f"{filling.resources} of {filling.size:,} bytes, each put {filling.again + 1} times: {counts}")
-    return told
+            end, greatest, wanted = fill(program, room, filling, formula)
+            if not greatest <= wanted <= greatest * 1.1 + SPARE:
+                raise Differs(f"{filling}: {greatest} blocks were taken, and the formula has {wanted}")
+            counts = f"{end} blocks held, {greatest} while a command is at work, {wanted} by the formula"
+            lines.append(f"{filling.resources} of {filling.size:,} bytes, each put {filling.again + 1} times: {counts}")
+    return lines
 
 
 def too_small(resources, size, changes):
@@ -112,19 +114,21 @@ def too_small(resources, size, changes):
     return wanted_blocks(resources, size, changes) - -(-resources // 32) * page - 64
 
 
-def is_noticed(call, *given):
+def is_noticed(call, *arguments):
+    """Whether a call ends by a difference."""
     try:
-        call(*given)
+        call(*arguments)
     except Differs:
         return True
     return False
 
 
 def main():
+    """Compares the page and the formula with the program. Gives the exit status."""
     program, text = os.path.abspath(sys.argv[1] if len(sys.argv) > 1 else PROGRAM), PAGE.read_text()
     try:
         print(f"sizes: the {look_at_table(text)} numbers of the page are those of the formula")
-        print("".join(f"sizes: {it}\n" for it in look(program, wanted_blocks)), end="")
+        print("".join(f"sizes: {line}\n" for line in look(program, wanted_blocks)), end="")
         row = re.search(r"(?m)^\| 1,000 \| (\d+)", text)
         wrong = text[:row.start(1)] + str(int(row[1]) - 1) + text[row.end(1):]
         if not is_noticed(look_at_table, wrong) or not is_noticed(look, program, too_small):
