@@ -1,8 +1,9 @@
 """Finds sources from each address by `ropepeach mirror --any-source`, and looks at hosts, limits, and what is
 known.
 
-usage: python3 -m operations.tests.tools.any_found [PROGRAM] [NAME..]     names of functions (all, if none is given); the
-program is not run Exit status 1 if one does not hold.
+usage: python3 -m operations.tests.tools.any_found [PROGRAM] [NAME..]
+    names of functions (all, if none is given); the program is not run
+Exit status 1 if one does not hold.
 """
 import dataclasses
 import hashlib
@@ -57,13 +58,13 @@ def several_sets_are_mirrored_together(program: str, room: pathlib.Path) -> None
         server.hold(first, FILES)
         both |= {path: body for path, body in server.files.items() if not path.startswith("/.well")}
         both["/.well-known/resourcesync"] = urlset(md(capability="description"), [
-            url(f"{server.base}{it}capabilitylist.xml", inner=md(capability="capabilitylist"))
-            for it in ("/rs/", "/rs2/")])
+            url(f"{server.base}{folder}capabilitylist.xml", inner=md(capability="capabilitylist"))
+            for folder in ("/rs/", "/rs2/")])
         server.files = dict(both)
         mirrored("both", server, says="fetched 5 ")
         names = {f"../data/{name}": body for name, body in FILES.items()} | {"x": b"x"}
-        found = {str(it.relative_to("m")) for it in pathlib.Path("m").rglob("*")
-                 if it.is_file() and it.name[0] != "#"}
+        found = {str(path.relative_to("m")) for path in pathlib.Path("m").rglob("*")
+                 if path.is_file() and path.name[0] != "#"}
         same("files", 5, len(found))
         change = urlset(md(capability="changelist", **{"from": SECOND}),
                         [listed(second, server, "x", "updated", THIRD, b"y")])
@@ -83,7 +84,7 @@ def only_allowed_hosts_are_asked(program: str, room: pathlib.Path) -> None:
         server.files["/rs/resourcelist.xml"] = both.replace(b"/data/d</loc>", b"/data/d#x</loc>")
         says = "not exact (1 no address passed over; 1 of other hosts passed over)"
         mirrored("another host", server, says=says)
-        same("the other host was asked", [], other.asked)
+        same("the other host was asked", [], other.requests)
         mirrored("again", server, says=says)
         name = other.base.removeprefix("http://")
         mirrored("--host", server, "--host", name, "--baseline", says="not exact (1 no address passed over)")
@@ -93,7 +94,7 @@ def only_allowed_hosts_are_asked(program: str, room: pathlib.Path) -> None:
         server.files["/.well-known/resourcesync"] = other.files["/.well-known/resourcesync"]
         mirrored("a list elsewhere", server, status=1, says=f"refused, as its host is not allowed; --host "
                                                             f"{name} allows it")
-        same("the other host was asked", [], other.asked)
+        same("the other host was asked", [], other.requests)
         server.fields["/page"] = [("Link", f'<{other.base}/rs/capabilitylist.xml>; rel="resourcesync"')]
         server.files["/page"] = b"page"
         mirrored("a link elsewhere", server, path="/page", into="n", status=1, says="its host is not allowed")
@@ -165,16 +166,18 @@ def what_is_known_can_be_asked(program: str, room: pathlib.Path) -> None:
             wanted.append(f"{path}{'#' * (name == 'd')} {address} {FIRST} {len(body)} "
                           f"{hashlib.sha256(body).hexdigest()} application/pdf")
         same("the lines", wanted, output.splitlines())
-        same("places", True, all(it.startswith(front) for it in wanted))
+        same("places", True, all(line.startswith(front) for line in wanted))
         found = json.loads(ropepeach("mirror", server.base, "--any-source", "--list", "m",
                                      "--json")[1])["results"]
-        same("objects", [it.split(" ") for it in wanted], [[str(it) for it in row.values()] for row in found])
+        same("objects", [line.split(" ") for line in wanted], [[str(cell) for cell in row.values()] for row in found])
         same("what was asked", {}, server.statuses())
         for what, status, words in (("no mirror", 3, ["--any-source", server.base, "."]),
                                     ("no folder", 3, ["--any-source", server.base, "none"]),
                                     ("another source", 3, ["--any-source", server.base + "/x", "m"]),
-                                    ("a Ropepeach", 2, [server.base, "m"])):
+                                    ("a Ropepeach", 3, [server.base + "/y", "m"])):
             same(what, status, ropepeach("mirror", "--list", *words)[0])
+        for words in (["--list", "m"], ["m", "--list"], [server.base, "--list", "m"]):
+            same(f"{words}", output, ropepeach("mirror", *words)[1])
 
 
 def a_program_reads_changes(program: str, room: pathlib.Path) -> None:
@@ -184,14 +187,14 @@ def a_program_reads_changes(program: str, room: pathlib.Path) -> None:
     with static() as server:
         server.hold(WHOLE, FILES, FIRST, [listed(WHOLE, server, "a.txt", "updated", SECOND, b"new"),
                                           listed(WHOLE, server, "c", "deleted", THIRD)])
-        found = {it.address.removeprefix(server.base): it for it in changes(server.base)}
+        found = {change.address.removeprefix(server.base): change for change in changes(server.base)}
         same("listed", {f"/data/{name}": ("listed", FIRST, len(body)) for name, body in FILES.items()},
-             {name: (it.change, it.moment, it.length) for name, it in found.items()})
+             {name: (change.change, change.moment, change.length) for name, change in found.items()})
         digests = {"sha-256": hashlib.sha256(b"one").hexdigest(), "md5": hashlib.md5(b"one").hexdigest()}
         same("digests", (digests, "text/plain"), (found["/data/a.txt"].digests, found["/data/a.txt"].kind))
         for since, wanted in ((FIRST, ["updated", "deleted"]), (THIRD, ["deleted"]),
                               ("2013-01-03", ["updated", "deleted"])):
-            same(since, wanted, [it.change for it in changes(server.base, since)])
+            same(since, wanted, [change.change for change in changes(server.base, since)])
         for since, kind in (("2012", Dropped), ("never", Misused)):
             try:
                 list(changes(server.base, since))

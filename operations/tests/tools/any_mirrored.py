@@ -29,9 +29,9 @@ def place(server: Static, path: str) -> str:
 def holds(what: str, server: Static, style: Style, files: dict[str, bytes], into: str = "m") -> None:
     """Looks whether a folder has these files of a source, and no others but the mirror's own."""
     paths = {place(server, style.resources + name): body for name, body in files.items()}
-    aside = {name: f"{name}#" if any(it.startswith(f"{name}/") for it in paths) else name for name in paths}
-    found = {str(it.relative_to(into)): it.read_bytes() for it in pathlib.Path(into).rglob("*")
-             if it.is_file()}
+    aside = {name: f"{name}#" if any(path.startswith(f"{name}/") for path in paths) else name for name in paths}
+    found = {str(path.relative_to(into)): path.read_bytes() for path in pathlib.Path(into).rglob("*")
+             if path.is_file()}
     own = {name for name in found if name in ("#state", "#known")}
     same(what, {aside[name]: body for name, body in paths.items()},
          {name: body for name, body in found.items() if name not in own})

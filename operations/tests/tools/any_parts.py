@@ -5,7 +5,8 @@ Each row is worked by hand from W3C Datetime, RFC 3986 and the manual; places ar
 from a generator (hypothesis).
 
 usage: python3 -m operations.tests.tools.any_parts [PROGRAM] [NAME..]     names of rows (all, if none is given); the
-program is not run Exit status 1 if one does not hold.
+program is not run
+Exit status 1 if one does not hold.
 """
 import hashlib
 import os
@@ -60,7 +61,8 @@ def what_is_listed_of_a_body(program: str, room: pathlib.Path) -> None:
     over.
     """
     body = b"body"
-    digests = {it.word: hashlib.new(it.word.replace("-", ""), body).hexdigest() for it in Algorithm}
+    digests = {algorithm.word: hashlib.new(algorithm.word.replace("-", ""), body).hexdigest()
+               for algorithm in Algorithm}
     for word, digest in digests.items():
         facts = any_facts({"hash": f"crc:1 {word}:{digest.upper()}"})
         same(f"{word}", (True, False, Check(word), False),
@@ -70,9 +72,8 @@ def what_is_listed_of_a_body(program: str, room: pathlib.Path) -> None:
         facts = any_facts({"hash": whole.replace(digest, "0" * len(digest)), "length": "4"})
         same(f"all but {word} are right", False, fit(facts, body))
     same("all are right", True, fit(any_facts({"hash": whole, "length": " 4 "}), body))
-    same("a length", (True, False, Check.LENGTH), (*(fit(any_facts({"length": "4"}), it)
-                                                     for it in (body, b"bod")),
-                                                     check_of(any_facts({"length": "4"}))))
+    length = any_facts({"length": "4"})
+    same("a length", (True, False, Check.LENGTH), (fit(length, body), fit(length, b"bod"), check_of(length)))
     same("nothing", (True, Check.NOTHING), (fit(any_facts({}), body), check_of(any_facts({}))))
     for text in ("md5:12", "md5:" + "g" * 32, f"md5:{digests['md5']} md5:{digests['md5']}", "md5",
                  "MD5:" + digests["md5"]):
@@ -81,7 +82,8 @@ def what_is_listed_of_a_body(program: str, room: pathlib.Path) -> None:
         same(f"a length of {text!r}", False, has_length(any_facts({"length": text})))
     same("a length that nothing has", False, fit(any_facts({"length": "9" * 18}), body))
     same("a Ropepeach lists both", [None] * 3,
-         [exact_facts(it) for it in ({"length": "4"}, {"hash": whole}, {"length": "4", "hash": "crc:1"})])
+         [exact_facts(attributes)
+          for attributes in ({"length": "4"}, {"hash": whole}, {"length": "4", "hash": "crc:1"})])
     same("no digest that is known", {}, digests_in("crc:1"))
 
 
@@ -95,11 +97,11 @@ def what_a_run_says(program: str, room: pathlib.Path) -> None:
     table: list[tuple[dict[Check, int], dict[str, int], str | None, str]] = [
         ({Check.SHA_256: 1, Check.MD5: 2}, {}, "2013", "exact, as listed at 2013"),
         (all_three, {}, "2013", "not exact (12 without a digest), as listed at 2013"),
-             ({Check.MD5: 1}, {"of other hosts": 2}, "2013", "not exact (2 of other hosts passed over), as "
-                                                             "listed at 2013"),
-             ({Check.SHA_512: 1}, {}, None, "not exact (the Resource List has no `at`)"),
-             ({}, {}, "2013", "exact, as listed at 2013"),
-             ({Check.LENGTH: 1}, {}, "2013", "not exact (1 without a digest), as listed at 2013")]
+        ({Check.MD5: 1}, {"of other hosts": 2}, "2013",
+         "not exact (2 of other hosts passed over), as listed at 2013"),
+        ({Check.SHA_512: 1}, {}, None, "not exact (the Resource List has no `at`)"),
+        ({}, {}, "2013", "exact, as listed at 2013"),
+        ({Check.LENGTH: 1}, {}, "2013", "not exact (1 without a digest), as listed at 2013")]
     for compared, passed, when, wanted in table:
         same(wanted, wanted, standing(compared, passed, when))
 
@@ -177,7 +179,7 @@ def no_two_addresses_share_a_place(program: str, room: pathlib.Path) -> None:
         whole = os.path.normpath(os.path.join("/folder", place))
         same(f"{text!r}: it stays in the folder", (f"/folder/{place}", False),
              (whole, "#" in place or "\0" in place or len(place) > 240))
-        same(f"{text!r}: short segments", True, all(0 < len(it) <= 200 for it in place.split("/")))
+        same(f"{text!r}: short segments", True, all(0 < len(segment) <= 200 for segment in place.split("/")))
 
     tried({"text": text}, look, 1_500)
     same("addresses that were tried", True, len(places) > 400)

@@ -5,7 +5,8 @@ Each row is worked by hand from the standard, Sitemap 0.9 and W3C Datetime. Noth
 operations/tests/tools/any_source.py mirrors.
 
 usage: python3 -m operations.tests.tools.any_reading [PROGRAM] [NAME..]     names of rows (all, if none is given); the
-program is not run Exit status 1 if one does not hold.
+program is not run
+Exit status 1 if one does not hold.
 """
 import gzip
 import hashlib
@@ -82,7 +83,8 @@ RESOURCE_INDEX = f"""<?xml version="1.0" encoding="UTF-8"?>
   <sitemap><loc>http://example.com/resourcelist1.xml</loc><rs:md at="2013-01-03T09:00:00Z"/></sitemap>
 </sitemapindex>"""
 LISTS = Lists(Address("http", "example.com", 80, "/dataset1/resourcelist.xml"),
-              Address("http", "example.com", 80, "/dataset1/changelist.xml"))
+              Address("http", "example.com", 80, "/dataset1/changelist.xml"),
+              Address("http", "example.com", 80, "/dataset1/resourcedump.xml"))
 
 
 class Told:
@@ -138,7 +140,7 @@ def the_change_list_of_the_standard(program: str, room: pathlib.Path) -> None:
               "res3.tiff": ("deleted", "2013-01-03T18:00:00Z")}
     same("all", wanted, changes_of(CHANGE_LIST, "2013-01-03T00:00:00Z"))
     same("of another offset", wanted, changes_of(CHANGE_LIST, "2013-01-03T12:00:00+01:00"))
-    same("since 18 o'clock", {name: it for name, it in wanted.items() if name != "res1.html"},
+    same("since 18 o'clock", {name: body for name, body in wanted.items() if name != "res1.html"},
          changes_of(CHANGE_LIST, "2013-01-03T18:00:00Z"))
     same("since the last one", {"res2.pdf": res2}, changes_of(CHANGE_LIST, "2013-01-03T21:00:00Z"))
     same("after it", {}, changes_of(CHANGE_LIST, "2013-01-03T21:00:01Z"))
@@ -186,9 +188,8 @@ def changes_of_one_moment_in_any_order(program: str, room: pathlib.Path) -> None
         found.append((entry.change is not Change.DELETED, entry.is_doubtful, entry.fits(b"1"),
                       entry.fits(b"2"), entry.fits(b"3")))
     same("it is asked for, it may be gone, which bytes it may have",
-         [(True, True, True, False, False), (True, False, True, True, False),
-                                                                     (True, True, True, False, False)] * 2,
-                                                                     found)
+         [(True, True, True, False, False), (True, False, True, True, False), (True, True, True, False, False)] * 2,
+         found)
     later = list_of(nine, change("a", "deleted", ten), change("a", "created", nine, b"1"))
     entry = reading({f"{SITE}/c.xml": later}).changes(at(f"{SITE}/c.xml"),
                                                       moment(nine)).entries["http+example.com/a"]
@@ -210,7 +211,7 @@ def parts_of_a_change_list(program: str, room: pathlib.Path) -> None:
     texts = {f"{SITE}/{name}.xml": list_of(start, change(name, "created", until or "2013-01-04"))
              for name, start, until in parts}
     bounds = [(name, f'from="{start}"' + (f' until="{until}"' if until else "")) for name, start, until in parts]
-    pointers = [f"<sitemap><loc>{SITE}/{name}.xml</loc><rs:md {said}/></sitemap>" for name, said in bounds]
+    pointers = [f"<sitemap><loc>{SITE}/{name}.xml</loc><rs:md {attributes}/></sitemap>" for name, attributes in bounds]
     texts[f"{SITE}/i.xml"] = list_of(parts[0][1], *pointers).replace("urlset", "sitemapindex")
     for since, wanted in (("2013-01-01T00:00:00Z", "abc"), ("2013-01-02T00:00:00Z", "abc"),
                           ("2013-01-03T00:00:00Z", "bc"), ("2013-01-04", "c")):
@@ -234,6 +235,9 @@ def lists_are_found(program: str, room: pathlib.Path) -> None:
         document = asking.document(at(f"{SITE}/{name}.xml"))
         found = Discovery(asking).of_document(document)  # type: ignore[arg-type]
         same(name, [LISTS], found)
+    dump = Told({f"{SITE}/r.xml": RESOURCE_LIST.replace("resourcelist", "resourcedump").replace('"up"', '"x"')})
+    same("a dump alone", [Lists(at(f"{SITE}/r.xml"), dump=at(f"{SITE}/r.xml"))],
+         Discovery(dump).of_document(dump.document(at(f"{SITE}/r.xml"))))  # type: ignore[arg-type]
     elsewhere = Told({f"{SITE}/x.xml": RESOURCE_LIST} | up)
     same("a Resource List that the one above doesn't name", [Lists(at(f"{SITE}/x.xml"))],
          Discovery(elsewhere).of_document(elsewhere.document(at(f"{SITE}/x.xml"))))  # type: ignore[arg-type]

@@ -5,7 +5,8 @@ The sources are static files in five styles (static_source.py). operations/tests
 are read as, any_hostile.py sources that lie.
 
 usage: python3 -m operations.tests.tools.any_source [PROGRAM] [NAME..]     names of functions (all, if none is given);
-the program is not run Exit status 1 if one does not hold.
+the program is not run
+Exit status 1 if one does not hold.
 """
 import dataclasses
 import json
@@ -78,7 +79,7 @@ def a_source_without_changes_is_asked_by_conditions(program: str, room: pathlib.
         server.has_tags = False
         mirrored("without ETag", server, "--baseline", says="fetched 4 ")
         same("what is sent then", True,
-             all(it in (200, 304) for it in server.statuses(style.resources).values()))
+             all(status in (200, 304) for status in server.statuses(style.resources).values()))
         server.has_dates = False
         mirrored("without both", server, "--baseline", says="fetched ")
         mirrored("without both", server, "--baseline", says="fetched 4 ")
@@ -98,7 +99,7 @@ def a_run_says_what_it_could_compare(program: str, room: pathlib.Path) -> None:
         for check in ("length", "md5", "sha-256", "sha-512"):
             says = f"resources are listed with less than --require {check}: "
             mirrored(check, server, "--require", check, status=1, says=says, into=f"no-{check}")
-            same(f"{check}: files", set(), {it for it in os.listdir(f"no-{check}") if not it.startswith("#")})
+            same(f"{check}: files", set(), {name for name in os.listdir(f"no-{check}") if not name.startswith("#")})
         output = mirrored("at first", server)
         has("the line", "compared 2 by SHA-256, 1 by length, 1 not at all; not exact (2 without a digest), "
                         "as listed at " + FIRST, output)
@@ -106,7 +107,7 @@ def a_run_says_what_it_could_compare(program: str, room: pathlib.Path) -> None:
         has("the line", "compared 4 by SHA-256; exact, as listed at " + FIRST,
             mirrored("whole", server, "--baseline", "--require", "sha-256"))
         changes = [listed(BARE, server, "../data/a.txt", "updated", SECOND)]
-        server.hold(WHOLE, FILES, changes=[it.replace("concern/works/../", "") for it in changes])
+        server.hold(WHOLE, FILES, changes=[change.replace("concern/works/../", "") for change in changes])
         mirrored("a change with less", server, "--require", "md5", status=1,
                  says="1 resources are listed with less than --require md5")
         has("the line",
@@ -177,35 +178,36 @@ def changes_of_one_moment_are_all_taken(program: str, room: pathlib.Path) -> Non
         server.files |= {"/data/e": b"e", "/data/f": b"f"}
         mirrored("two more of that moment", server, says="incremental: fetched 1 (1 bytes, 0.0 MB a second), "
                                                          "removed 1")
-        left = {name: body for name, body in FILES.items() if name != "a.txt"} | {"e": b"e", "f": b"f"}
-        holds("two more of that moment", server, WHOLE, left)
+        remaining = {name: body for name, body in FILES.items() if name != "a.txt"} | {"e": b"e", "f": b"f"}
+        holds("two more of that moment", server, WHOLE, remaining)
         server.hold(WHOLE, FILES, changes=[*changes, listed(WHOLE, server, "e", "deleted", SECOND)])
         server.files |= {"/data/f": b"f"}
         server.files.pop("/data/e", None)
         mirrored("it went in that moment", server, says="removed 1")
-        holds("it went in that moment", server, WHOLE, {name: body for name, body in left.items()
+        holds("it went in that moment", server, WHOLE, {name: body for name, body in remaining.items()
                                                         if name != "e"})
 
 
 def a_killed_run_goes_on(program: str, room: pathlib.Path) -> None:
     """Runs that are killed ten times leave whole files, and the next run has all."""
     style = dataclasses.replace(WHOLE, resources="/f/")
-    files = {f"{it % 10}/{it}": b"%06d" % it * 100 for it in range(int(os.environ.get("ENTRIES", "1500")))}
+    files = {f"{number % 10}/{number}": b"%06d" % number * 100
+             for number in range(int(os.environ.get("ENTRIES", "1500")))}
     with static() as server:
         server.hold(style, files)
         at, kills = len(files) // 12, 0
         for turn in range(10):
             run = begun("mirror", "--any-source", server.base, "m")
-            wait_until(lambda: run.poll() is not None or sum(1 for it in server.asked
-                                                             if it[0].startswith("/f/")) > at, "requests")
+            wait_until(lambda: run.poll() is not None or sum(1 for request in server.requests
+                                                             if request[0].startswith("/f/")) > at, "requests")
             run.send_signal(signal.SIGKILL)
             kills += ended(run)[0] == -signal.SIGKILL
-            found = {str(it.relative_to("m")): it for it in pathlib.Path("m").rglob("*")
-                     if it.is_file() and "#" not in str(it)}
+            found = {str(path.relative_to("m")): path for path in pathlib.Path("m").rglob("*")
+                     if path.is_file() and "#" not in str(path)}
             names = {place(server, style.resources + name): body for name, body in files.items()}
-            same(f"turn {turn}: whole files", [], [name for name, it in found.items()
-                                                   if it.read_bytes() != names[name]])
-            server.asked.clear()
+            same(f"turn {turn}: whole files", [], [name for name, path in found.items()
+                                                   if path.read_bytes() != names[name]])
+            server.requests.clear()
         same("kills", True, kills >= 3)
         mirrored("at the end", server, says="exact, as listed at")
         holds("at the end", server, style, files)

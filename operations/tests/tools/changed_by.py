@@ -20,7 +20,7 @@ import sys
 from collections.abc import Iterator
 
 from operations.tests.system import install_looks
-from operations.tests.system.install_looks import certified
+from operations.tests.system.install_shared import certified
 from operations.tests.tools.running import SECONDS, begun, ended, has, ropepeach, rows, same, written
 from ropepeach.site_text import PREFIX, SUBJECT, Rule
 from tests.served_source import free_port
@@ -50,8 +50,8 @@ class Site:
     def __init__(self, room: pathlib.Path, port: int) -> None:
         self.room, self.port, self.url = room, port, f"https://127.0.0.1:{port}"
 
-    def asked(self, method: str, path: str, certificate: str = "", body: bytes | None = None,
-              **fields: str) -> int:
+    def request(self, method: str, path: str, certificate: str = "", body: bytes | None = None,
+                **fields: str) -> int:
         """The status of the answer to a request with a certificate."""
         context = ssl.create_default_context(cafile=f"{self.room}/server.crt")
         if certificate:
@@ -76,8 +76,8 @@ def site(program: str, room: pathlib.Path, *words: str) -> Iterator[Site]:
     """The site that `ropepeach site` writes by these words, to which no address is near unless they say so."""
     certified(str(room), "server")
     certified(str(room), "authority")
-    given = ["site", "https://source.example.org", "--depositors", f"{room}/authority.crt", *words]
-    status, text, messages = ropepeach(*given)
+    arguments = ["site", "https://source.example.org", "--depositors", f"{room}/authority.crt", *words]
+    status, text, messages = ropepeach(*arguments)
     same(f"the site: {messages}", 0, status)
 
     def change(_: str) -> str:
@@ -106,11 +106,11 @@ def each_change_is_logged(program: str, room: pathlib.Path) -> None:
     """
     with site(program, room, "--near", "none") as served:
         alice = certificate(room, "alice", "/O=A Library/CN=alice \x1b[2J\"x")
-        same("a put", 201, served.asked("PUT", "/resource/a%20b", alice, b"1"))
-        same("a deletion", 204, served.asked("DELETE", "/resource/a%20b", alice))
-        same("nobody", 403, served.asked("PUT", "/resource/c", "", b"1"))
-        same("a publication", 200, served.asked("POST", "/publish", alice, b""))
-        same("a read", 200, served.asked("GET", "/resourcelist.xml", alice))
+        same("a put", 201, served.request("PUT", "/resource/a%20b", alice, b"1"))
+        same("a deletion", 204, served.request("DELETE", "/resource/a%20b", alice))
+        same("nobody", 403, served.request("PUT", "/resource/c", "", b"1"))
+        same("a publication", 200, served.request("POST", "/publish", alice, b""))
+        same("a read", 200, served.request("GET", "/resourcelist.xml", alice))
         hostile = r'/resource/q"\x\",\"status\":\"201\"}' + "\u00ff"
         context = ssl.create_default_context(cafile=f"{room}/server.crt")
         with contextlib.closing(http.client.HTTPSConnection("127.0.0.1", served.port, context=context,
@@ -124,9 +124,8 @@ def each_change_is_logged(program: str, room: pathlib.Path) -> None:
         changes = served.changes()
         same("fields", [FIELDS] * 5, [list(change) for change in changes])
         same("changes", [("PUT", "/resource/a%20b", "201"), ("DELETE", "/resource/a%20b", "204"),
-                         ("PUT", "/resource/c", "403"),
-                         ("POST", "/publish", "200")],
-                         [(it["method"], it["path"], it["status"]) for it in changes[:4]])
+                         ("PUT", "/resource/c", "403"), ("POST", "/publish", "200")],
+             [(change["method"], change["path"], change["status"]) for change in changes[:4]])
         same("addresses", {"127.0.0.1"}, {change["address"] for change in changes})
         same("who", [True, True, False, True, False],
              ["A Library" in change["subject"] for change in changes])
@@ -164,8 +163,7 @@ def a_certificate_changes_its_names_alone(program: str, room: pathlib.Path) -> N
     rules = ["--may", "CN=alice,O=A Library", "papers/", "--may", "CN=alice,O=A Library", "data.", "--may",
              "CN=root", ""]
     with site(program, room, "--near", "none", *rules) as served:
-        alice, root = certificate(room, "alice",
-                                  "/O=A Library/CN=alice"), certificate(room, "root", "/CN=root")
+        alice, root = certificate(room, "alice", "/O=A Library/CN=alice"), certificate(room, "root", "/CN=root")
         others = {name: certificate(room, name, subject) for name, subject in {
             "bob": "/CN=bob", "alice2": "/CN=alice", "longer": "/C=DE/O=A Library/CN=alice",
             "shorter": "/O=A Library/CN=alic",
@@ -175,38 +173,42 @@ def a_certificate_changes_its_names_alone(program: str, room: pathlib.Path) -> N
                               "papers": False, "papers/": False, "Papers/1": False, "%70apers/1": False,
                               "x/papers/1": False, "other": False,
                               "papers/../other": None, "papers%2F1": False}.items():
-            status = served.asked("PUT", f"/resource/{path}", alice, b"x")
+            status = served.request("PUT", f"/resource/{path}", alice, b"x")
             same(f"alice puts {path}: {status}", allowed,
                  True if status in (201, 204) else False if status == 403 else None)
         for method, path in (("POST", "/publish"), ("POST", "/group"), ("PUT", "/group?/resource/papers/1"),
                              ("DELETE", "/resource/other"),
                              ("PUT", "//resource/papers/1"), ("PUT", "/x/resource/papers/1"),
                              ("PUT", "/resource/../resource/papers/1")):
-            status = served.asked(method, path, alice, b"")
+            status = served.request(method, path, alice, b"")
             same(f"alice {method} {path}: {status}", True, status in (400, 403, 404))
-        same("alice reads", 200, served.asked("GET", "/resource/papers/1", alice))
-        same("alice deletes", 204, served.asked("DELETE", "/resource/papers/a/b", alice))
+        same("alice reads", 200, served.request("GET", "/resource/papers/1", alice))
+        same("alice deletes", 204, served.request("DELETE", "/resource/papers/a/b", alice))
         for name, other in others.items():
-            same(f"{name} puts", 403, served.asked("PUT", "/resource/papers/1", other, b"x"))
-        same("nobody puts", 403, served.asked("PUT", "/resource/papers/1", "", b"x"))
+            same(f"{name} puts", 403, served.request("PUT", "/resource/papers/1", other, b"x"))
+        same("nobody puts", 403, served.request("PUT", "/resource/papers/1", "", b"x"))
         same("root", [201, 200, 204],
-             [served.asked("PUT", "/resource/other", root, b"x"), served.asked("POST", "/publish", root, b""),
-                                       served.asked("DELETE", "/resource/other", root)])
-        written("folder", {f"papers/{number}": b"y" for number in range(1, 21)} | {"data.csv": b"x"})
-        trusting = os.environ | {"SSL_CERT_FILE": f"{room}/server.crt", "no_proxy": "127.0.0.1"}
-        status, printed, messages = ended(begun("fill", "folder", served.url, "--certificate", alice,
-                                                "--no-publish", env=trusting))
-        same(f"alice fills: {messages}", (0, "20 put"), (status, printed.split(" (")[0]))
-        groups = [change for change in served.changes() if change["path"] == "/group"
-                  and change["status"] == "403"]
-        same("groups that fill tried", 2, len(groups))
+             [served.request("PUT", "/resource/other", root, b"x"), served.request("POST", "/publish", root, b""),
+              served.request("DELETE", "/resource/other", root)])
+        a_certificate_fills(served, room, alice)
+
+
+def a_certificate_fills(served: Site, room: pathlib.Path, certificate_of_alice: str) -> None:
+    """By a certificate with a prefix `fill` puts one by one what it may not send in groups."""
+    written("folder", {f"papers/{number}": b"y" for number in range(1, 21)} | {"data.csv": b"x"})
+    trusting = os.environ | {"SSL_CERT_FILE": f"{room}/server.crt", "no_proxy": "127.0.0.1"}
+    status, printed, messages = ended(begun("fill", "folder", served.url, "--certificate", certificate_of_alice,
+                                            "--no-publish", env=trusting))
+    same(f"alice fills: {messages}", (0, "20 put"), (status, printed.split(" (")[0]))
+    groups = [change for change in served.changes() if change["path"] == "/group" and change["status"] == "403"]
+    same("groups that fill tried", 2, len(groups))
 
 
 def a_near_address_is_not_bound(program: str, room: pathlib.Path) -> None:
     """Who is near changes all, with rules for certificates too."""
     with site(program, room, "--may", "CN=alice", "papers/") as served:
         same("a near address", [201, 200],
-             [served.asked("PUT", "/resource/other", "", b"x"), served.asked("POST", "/publish", "", b"")])
+             [served.request("PUT", "/resource/other", "", b"x"), served.request("POST", "/publish", "", b"")])
 
 
 def rules_that_nginx_would_misread_are_refused(program: str, room: pathlib.Path) -> None:

@@ -1,11 +1,15 @@
 """What others may try on a mirror's folder by a list, a link or a name, and what `ropepeach mirror` does then.
 
-Each row was done once, and did harm: a source that isn't trusted, or somebody who may write below the folder, had a file outside changed,
-the mirror frozen or emptied, a disk filled. operations/tests/tools/hostile.py has lists that are refused, bounds.py what a run may take.
+Each row was done once, and did harm: a source that isn't trusted, or somebody who may write below the folder, had a
+file outside changed, the mirror frozen or emptied, a disk filled. operations/tests/tools/hostile.py has lists that are
+refused, bounds.py what a run may take.
 
-usage: python3 -m operations.tests.tools.doors [PROGRAM] [NAME..]     names of rows (all, if none is given); the program is not run
+usage: python3 -m operations.tests.tools.doors [PROGRAM] [NAME..]
+    names of rows (all, if none is given); the program is not run
 Exit status 1 if one does not hold.
 """
+from __future__ import annotations
+
 import datetime
 import errno
 import json
@@ -13,12 +17,13 @@ import os
 import pathlib
 import shutil
 import sys
+from collections.abc import Iterator
 
 from operations.tests.tools.folded import folding
 from operations.tests.tools.hostile_source import (
     MOMENT, answered, changed, collected, entry, gone, in_parts, lying,
 )
-from operations.tests.tools.mirrored import held, mirrored, state
+from operations.tests.tools.mirrored import hold_files, mirrored, state
 from operations.tests.tools.noted_calls import noted
 from operations.tests.tools.running import files_of, has, ropepeach, rows, same
 
@@ -28,13 +33,13 @@ FAR = "9999-12-31T00:00:00.000Z"
 LONGEST = 16_777_216
 
 
-def in_time(days):
+def in_time(days: float) -> str:
     """The moment so many days from now."""
     there = datetime.datetime.now(datetime.timezone.utc) + datetime.timedelta(days)
     return there.strftime("%Y-%m-%dT%H:%M:%S.000Z")
 
 
-def victim():
+def victim() -> dict[str, bytes]:
     """A folder outside of the mirror with files that have to stay, and what it holds."""
     pathlib.Path("victim").mkdir()
     for name in ("x", "0", "1", "a"):
@@ -42,11 +47,13 @@ def victim():
     return {name: b"theirs" for name in ("x", "0", "1", "a")}
 
 
-def a_link_below_the_folder_is_not_followed(program, room):
-    """Links in the place of a folder, of a file, of `#incoming` and `#state`: nothing outside is written, read or removed."""
+def a_link_below_the_folder_is_not_followed(program: str, room: pathlib.Path) -> None:
+    """Links in the place of a folder, of a file, of `#incoming` and `#state`: nothing outside is written, read or
+    removed.
+    """
     theirs = victim()
     with lying() as liar:
-        held(liar, {"d/x": b"ours", "a": b"ours"})
+        hold_files(liar, {"d/x": b"ours", "a": b"ours"})
         mirrored("at first", liar)
         shutil.rmtree("m/d")
         os.symlink("../victim", "m/d")
@@ -54,7 +61,7 @@ def a_link_below_the_folder_is_not_followed(program, room):
         liar.documents({"/resource/d/x": b"later"})
         mirrored("an increment, with a link for a folder", liar, status=3, says="m/d: is a link")
         same("what is remembered", MOMENT, state()["until"])
-        held(liar, {"d/x": b"later", "a": b"ours"}, LATER)
+        hold_files(liar, {"d/x": b"later", "a": b"ours"}, LATER)
         mirrored("a baseline, with a link for a folder", liar, "--baseline")
         same("the folder", {"d/x": b"later", "a": b"ours"}, files_of("m"))
         pathlib.Path("same").write_bytes(b"ours")
@@ -72,8 +79,10 @@ def a_link_below_the_folder_is_not_followed(program, room):
     same("what is theirs", theirs, files_of("victim"))
 
 
-def a_link_for_a_part_is_not_followed(program, room):
-    """A link in the place of a source's folder in the mirror of a collection: nothing of it is read, written or removed."""
+def a_link_for_a_part_is_not_followed(program: str, room: pathlib.Path) -> None:
+    """A link in the place of a source's folder in the mirror of a collection: nothing of it is read, written or
+    removed.
+    """
     theirs = victim()
     with lying() as liar:
         collected(liar, ["s1", "s2"])
@@ -91,7 +100,7 @@ def a_link_for_a_part_is_not_followed(program, room):
     same("what is theirs", theirs, files_of("victim"))
 
 
-def files_that_begin_with_a_mark_stay(program, room):
+def files_that_begin_with_a_mark_stay(program: str, room: pathlib.Path) -> None:
     """What a user keeps as `#notes` is no mirror's: such a folder isn't empty, and no baseline removes them."""
     notes = {"#notes": b"1", "#letter.txt#": b"2", "#dir/x": b"3"}
     with lying() as liar:
@@ -117,39 +126,49 @@ def files_that_begin_with_a_mark_stay(program, room):
         mirrored("what a stop left of the first state", liar, into="own")
 
 
-def a_moment_that_is_none_is_refused(program, room):
-    """Moments are dates of ASCII digits, and no later than a day ahead: else status 1, a line, and nothing is remembered."""
-    odd = ["9999-99-99T99:99:99.999Z", "2000-02-30T00:00:00.000Z", "2000-02-29T24:00:00.000Z", "٢٠٠٠-02-29T00:00:00.000Z",
-           "0000-01-01T00:00:00.000Z", "2000-02-29T00:00:00.000Z\n", "2000-02-29T00:00:00.000", "~~~", "0"]
+def a_moment_that_is_none_is_refused(program: str, room: pathlib.Path) -> None:
+    """Moments are dates of ASCII digits, and no later than a day ahead: else status 1, a line, and nothing is
+    remembered.
+    """
+    odd = ["9999-99-99T99:99:99.999Z", "2000-02-30T00:00:00.000Z", "2000-02-29T24:00:00.000Z",
+           "٢٠٠٠-02-29T00:00:00.000Z", "0000-01-01T00:00:00.000Z", "2000-02-29T00:00:00.000Z\n",
+           "2000-02-29T00:00:00.000", "~~~", "0"]
     late = [FAR, in_time(days=2)]
     with lying() as liar:
         mirrored("at first", liar)
         for text in odd + late:
             says = "refused, as it is no moment" if text in odd else "later than"
-            held(liar, {"a": b"body"}, at=text)
+            hold_files(liar, {"a": b"body"}, at=text)
             mirrored(f"at {text!r}", liar, "--baseline", status=1, says=says)
-            held(liar, {"a": b"body"})
+            hold_files(liar, {"a": b"body"})
             changed(liar, [entry(f"{liar.base}/resource/a", moment=text)])
             mirrored(f"a change at {text!r}", liar, status=1, says=says)
             changed(liar, [], start=text)
             mirrored(f"from {text!r}", liar, status=1, says=says)
             changed(liar, [])
             same(f"{text!r}: what is remembered", MOMENT, state()["until"])
-        held(liar, {"a": b"body"}, at=in_time(days=0.9))
+        hold_files(liar, {"a": b"body"}, at=in_time(days=0.9))
         changed(liar, [], start=MOMENT)
         mirrored("a clock that is ahead", liar, "--baseline", says="as of 2")
         pathlib.Path("m/#state").write_text(json.dumps({"source": liar.base, "until": FAR, "newest": FAR}))
-        held(liar, {"a": b"other"}, at=LATER)
-        mirrored("what an earlier version remembered", liar, says="which no source may have by now: this run is a baseline")
+        hold_files(liar, {"a": b"other"}, at=LATER)
+        mirrored("what an earlier version remembered", liar,
+                 says="which no source may have by now: this run is a baseline")
         same("the folder", ({"a": b"other"}, LATER), (files_of("m"), state()["until"]))
 
 
-def parts_are_in_order(program, room):
-    """The bounds of the parts of a Change List are moments in order, and only the last part is open: else the list is refused."""
-    first, last = (f"2000-02-29T00:00:00.00{it}Z" for it in (3, 5))
-    bounds = [("until 0", [(MOMENT, "0"), ("0", None)]), ("until tilde", [(MOMENT, "~~~")]), ("until before from", [(first, LATER)]),
-              ("until from", [(LATER, LATER)]), ("turned", [(first, last), (MOMENT, first)]), ("one in another", [(MOMENT, last), (first, None)]),
-              ("open amid", [(MOMENT, None), (first, last)]), ("before the head", [("1999-12-31T00:00:00.000Z", LATER)]),
+def parts_are_in_order(program: str, room: pathlib.Path) -> None:
+    """The bounds of the parts of a Change List are moments in order, and only the last part is open: else the list is
+    refused.
+    """
+    first, last = (f"2000-02-29T00:00:00.00{number}Z" for number in (3, 5))
+    bounds: list[tuple[str, list[tuple[str | None, str | None]]]] = [
+              ("until 0", [(MOMENT, "0"), ("0", None)]), ("until tilde", [(MOMENT, "~~~")]),
+              ("until before from", [(first, LATER)]),
+              ("until from", [(LATER, LATER)]), ("turned", [(first, last), (MOMENT, first)]),
+              ("one in another", [(MOMENT, last), (first, None)]),
+              ("open amid", [(MOMENT, None), (first, last)]),
+              ("before the head", [("1999-12-31T00:00:00.000Z", LATER)]),
               ("far", [(MOMENT, FAR)]), ("no from", [(None, LATER)])]
     with lying() as liar:
         mirrored("at first", liar)
@@ -164,43 +183,49 @@ def parts_are_in_order(program, room):
         same("the folder", ({"b": b"b"}, first), (files_of("m"), state()["until"]))
 
 
-def a_list_that_goes_does_not_empty_a_mirror(program, room):
-    """More than half of a mirror is removed only with --yes or --max-delete, by lists and by changes; --dry-run changes nothing."""
-    files = {f"d/{it}": b"%d" % it for it in range(20)}
+def a_list_that_goes_does_not_empty_a_mirror(program: str, room: pathlib.Path) -> None:
+    """More than half of a mirror is removed only with --yes or --max-delete, by lists and by changes; --dry-run changes
+    nothing.
+    """
+    files = {f"d/{number}": b"%d" % number for number in range(20)}
     with lying() as liar:
-        held(liar, files)
+        hold_files(liar, files)
         mirrored("a dry run of nothing", liar, "--dry-run", says="baseline: 20 to fetch (30 bytes), 0 to remove")
         same("a folder", False, os.path.exists("m"))
         mirrored("at first", liar)
         before = state()
-        held(liar, {})
-        mirrored("none is left", liar, "--baseline", status=1, says="20 of 20 resources would be removed, more than half")
-        told, _ = mirrored("a dry run", liar, "--baseline", "--dry-run", status=1, says="0 to fetch (0 bytes), 20 to remove")
-        same("a dry run", sorted(f"remove {it}" for it in files), sorted(told.splitlines()[:-1]))
+        hold_files(liar, {})
+        mirrored("none is left", liar, "--baseline", status=1,
+                 says="20 of 20 resources would be removed, more than half")
+        output, _ = mirrored("a dry run", liar, "--baseline", "--dry-run", status=1,
+                             says="0 to fetch (0 bytes), 20 to remove")
+        same("a dry run", sorted(f"remove {name}" for name in files), sorted(output.splitlines()[:-1]))
         mirrored("too many", liar, "--baseline", "--max-delete", "19", status=1, says="more than --max-delete 19")
         same("the mirror", (files, before), (files_of("m"), state()))
-        changed(liar, [gone(f"{liar.base}/resource/{name}", in_order(it)) for it, name in enumerate(list(files)[:11])])
+        changed(liar, [gone(f"{liar.base}/resource/{name}", in_order(number))
+                       for number, name in enumerate(list(files)[:11])])
         mirrored("by changes", liar, status=1, says="11 of 20 resources would be removed")
         same("the mirror", (files, before), (files_of("m"), state()))
-        changed(liar, [gone(f"{liar.base}/resource/{name}", in_order(it)) for it, name in enumerate(list(files)[:10])])
+        changed(liar, [gone(f"{liar.base}/resource/{name}", in_order(number))
+                       for number, name in enumerate(list(files)[:10])])
         mirrored("half", liar, says="removed 10")
         changed(liar, [])
         mirrored("as many as are allowed", liar, "--baseline", "--max-delete", "10", says="removed 10")
-        held(liar, files)
+        hold_files(liar, files)
         mirrored("again", liar, "--baseline")
-        held(liar, {})
+        hold_files(liar, {})
         mirrored("all", liar, "--baseline", "--yes", says="removed 20")
         same("the mirror", {}, files_of("m"))
 
 
-def what_was_fetched_in_the_same_run_may_go(program, room):
+def what_was_fetched_in_the_same_run_may_go(program: str, room: pathlib.Path) -> None:
     """Only what was there before a run counts as removed: what came and went while it fetched is nobody's loss."""
     with lying() as liar:
-        held(liar, {"a": b"a", "b": b"b", "c": b"c"})
+        hold_files(liar, {"a": b"a", "b": b"b", "c": b"c"})
         well = liar.answers["/resource/c"]
 
-        def late():
-            changed(liar, [gone(f"{liar.base}/resource/{name}", in_order(it)) for it, name in enumerate("abc")])
+        def late() -> Iterator[bytes]:
+            changed(liar, [gone(f"{liar.base}/resource/{name}", in_order(number)) for number, name in enumerate("abc")])
             yield answered(b"NoSuchResource", "404 Not Found")
 
         liar.answers["/resource/c"] = late
@@ -215,79 +240,93 @@ def what_was_fetched_in_the_same_run_may_go(program, room):
         same("the folder", {"a": b"a", "b": b"b", "c": b"changed"}, files_of("m"))
 
 
-def in_order(number):
+def in_order(number: int) -> str:
     """One of many moments after the first publication."""
     return f"2000-02-29T00:00:01.{number:03}Z"
 
 
-def a_collection_that_goes_does_not_empty_a_mirror(program, room):
+def a_collection_that_goes_does_not_empty_a_mirror(program: str, room: pathlib.Path) -> None:
     """The same of all sources of a collection together."""
     with lying() as liar:
-        files = {name: {f"{name}-{it}": b"body" for it in range(6)} for name in ("s1", "s2")}
+        files = {name: {f"{name}-{number}": b"body" for number in range(6)} for name in ("s1", "s2")}
         collected(liar, files)
-        told, _ = mirrored("a dry run of nothing", liar, "--dry-run", says="s2: baseline: 6 to fetch (24 bytes), 0 to remove")
+        output, _ = mirrored("a dry run of nothing", liar, "--dry-run",
+                             says="s2: baseline: 6 to fetch (24 bytes), 0 to remove")
         same("a folder", False, os.path.exists("m"))
         mirrored("at first", liar)
         before = {name: state(f"m/{name}") for name in files}
-        for left, status, says in ((0, 1, "12 of 12 resources would be removed, more than half"), (2, 1, "8 of 12")):
-            collected(liar, {name: dict(list(it.items())[:left]) for name, it in files.items()})
-            mirrored(f"{left} are left", liar, "--baseline", status=status, says=says)
-            mirrored(f"{left} are left: a dry run", liar, "--baseline", "--dry-run", status=status, says=says)
-            same(f"{left} are left: files", {name: it for name, it in files.items()}, {name: files_of(f"m/{name}") for name in files})
+        for remaining, status, says in ((0, 1, "12 of 12 resources would be removed, more than half"),
+                                        (2, 1, "8 of 12")):
+            collected(liar, {name: dict(list(bodies.items())[:remaining]) for name, bodies in files.items()})
+            mirrored(f"{remaining} are left", liar, "--baseline", status=status, says=says)
+            mirrored(f"{remaining} are left: a dry run", liar, "--baseline", "--dry-run", status=status, says=says)
+            same(f"{remaining} are left: files", {name: bodies for name, bodies in files.items()},
+                 {name: files_of(f"m/{name}") for name in files})
         mirrored("too many", liar, "--baseline", "--max-delete", "7", status=1, says="more than --max-delete 7")
         mirrored("as many as are allowed", liar, "--baseline", "--max-delete", "8", says="removed 4")
         same("what is left", 2, len(files_of("m/s1")))
         same("it was remembered before", MOMENT, before["s1"]["until"])
 
 
-def a_file_system_that_folds_case_is_refused(program, room):
-    """Where `Report` and `report` are one file, a run ends by status 3 before it fetches anything; so for other names that are none."""
+def a_file_system_that_folds_case_is_refused(program: str, room: pathlib.Path) -> None:
+    """Where `Report` and `report` are one file, a run ends by status 3 before it fetches anything; so for other names
+    that are none.
+    """
     with lying() as liar:
-        held(liar, {"Report": b"1", "report": b"2"})
+        hold_files(liar, {"Report": b"1", "report": b"2"})
         several = "has several names as one"
-        for how, says in (("fold", several), ("keep", several), ("dots", several), ("refuse", "does not take each name")):
+        for how, says in (("fold", several), ("keep", several), ("dots", several),
+                          ("refuse", "does not take each name")):
             shutil.rmtree("m", ignore_errors=True)
-            status, told, said = ropepeach("mirror", liar.base, "m", env=folding(room, how))
-            same(f"{how}: {said}", (3, "", 1), (status, told, said.count("\n")))
-            has(how, says, said)
+            status, output, messages = ropepeach("mirror", liar.base, "m", env=folding(room, how))
+            same(f"{how}: {messages}", (3, "", 1), (status, output, messages.count("\n")))
+            has(how, says, messages)
             same(f"{how}: what is there", ["#state"], os.listdir("m"))
-        same("resources that were asked", [], [it for it in liar.asked if it.startswith("/resource/")])
+        same("resources that were asked", [], [path for path in liar.requests if path.startswith("/resource/")])
 
 
-def a_list_that_no_disk_has_room_for_is_refused(program, room):
-    """More bodies of 16 MiB than there is room for end a run by status 3 before one is fetched; a full disk leaves nothing half done."""
+def a_list_that_no_disk_has_room_for_is_refused(program: str, room: pathlib.Path) -> None:
+    """More bodies of 16 MiB than there is room for end a run by status 3 before one is fetched; a full disk leaves
+    nothing half done.
+    """
     with lying() as liar:
         disk = os.statvfs(".")
         count = disk.f_bavail * disk.f_frsize // LONGEST + 2
         same("a list may have so many", True, count <= 50_000)
-        in_parts(liar, [entry(f"{liar.base}/resource/{it}", length=LONGEST, hashes="md5:" + "0" * 32) for it in range(count)])
-        for way in ([], ["--dry-run"]):
-            mirrored("many", liar, *way, status=3, says=f"and what the source lists takes {count * LONGEST:,} more: nothing was fetched")
-        same("resources that were asked", [], [it for it in liar.asked if it.startswith("/resource/")])
+        in_parts(liar, [entry(f"{liar.base}/resource/{number}", length=LONGEST, hashes="md5:" + "0" * 32)
+                        for number in range(count)])
+        ways: list[list[str]] = [[], ["--dry-run"]]
+        for way in ways:
+            mirrored("many", liar, *way, status=3,
+                     says=f"and what the source lists takes {count * LONGEST:,} more: nothing was fetched")
+        same("resources that were asked", [], [path for path in liar.requests if path.startswith("/resource/")])
         same("what is left", ["#state"], os.listdir("m"))
         shutil.rmtree("m")
-        held(liar, {str(it): b"body" * it for it in range(9)})
+        hold_files(liar, {str(number): b"body" * number for number in range(9)})
         calls = noted(pathlib.Path(room), [liar.base])[2]
-        numbered = enumerate([it for it in calls if it.name != "synced"], 1)
-        number = [at for at, it in numbered if it.name == "write" and it.path.startswith("#incoming/")][4]
+        numbered = enumerate([call for call in calls if call.name != "synced"], 1)
+        number = [at for at, call in numbered if call.name == "write" and call.path.startswith("#incoming/")][4]
         shutil.rmtree("m")
-        status, said, _ = noted(pathlib.Path(room), [liar.base], FAILS=number, ERROR=errno.ENOSPC)
+        status, message, _ = noted(pathlib.Path(room), [liar.base], FAILS=number, ERROR=errno.ENOSPC)
         same("a full disk", (3, False), (status, os.path.lexists("m/#incoming")))
-        has("a full disk", "No space left on device", said)
+        has("a full disk", "m: No space left on device", message)
 
 
-def a_state_that_was_changed_is_told(program, room):
+def a_state_that_was_changed_is_told(program: str, room: pathlib.Path) -> None:
     """A state that is no such text ends a run by status 3 and one line, and so do other things in its place."""
     with lying() as liar:
         mirrored("at first", liar)
         good = pathlib.Path("m/#state").read_bytes()
-        texts = [b"", b"{}", b"[]", b"null", b"[" * 100_000, b"\xff", good[:-1], b'{"source": 1, "until": null, "newest": null}', b"\x00" * 9,
-                 good.replace(b'"2000', b"2000"), good.replace(b'"until"', b'"until": [1], "x"'), b'{"source": null, "until": "a", "newest": {}}',
+        texts = [b"", b"{}", b"[]", b"null", b"[" * 100_000, b"\xff", good[:-1],
+                 b'{"source": 1, "until": null, "newest": null}', b"\x00" * 9,
+                 good.replace(b'"2000', b"2000"), good.replace(b'"until"', b'"until": [1], "x"'),
+                 b'{"source": null, "until": "a", "newest": {}}',
                  b"9" * 5_000, b'{"source": "\\u001b]0;x", "until": null, "newest": null}']
         for text in texts:
             pathlib.Path("m/#state").write_bytes(text)
-            _, said = mirrored(f"{text[:60]!r}", liar, status=3)
-            same(f"{text[:60]!r}: lines, and what acts on a terminal", (1, True), (said.count("\n"), said.rstrip("\n").isprintable()))
+            _, messages = mirrored(f"{text[:60]!r}", liar, status=3)
+            same(f"{text[:60]!r}: lines, and what acts on a terminal", (1, True),
+                 (messages.count("\n"), messages.rstrip("\n").isprintable()))
         os.remove("m/#state")
         for make in (lambda: os.mkdir("m/#state"), lambda: os.mkfifo("m/#state")):
             make()
@@ -297,10 +336,10 @@ def a_state_that_was_changed_is_told(program, room):
         mirrored("moments that are none", liar, says="this run is a baseline")
 
 
-CHECKS = [what_was_fetched_in_the_same_run_may_go, a_link_below_the_folder_is_not_followed, a_link_for_a_part_is_not_followed,
-          files_that_begin_with_a_mark_stay,
-          a_moment_that_is_none_is_refused, parts_are_in_order, a_list_that_goes_does_not_empty_a_mirror,
-          a_collection_that_goes_does_not_empty_a_mirror, a_file_system_that_folds_case_is_refused, a_list_that_no_disk_has_room_for_is_refused,
+CHECKS = [what_was_fetched_in_the_same_run_may_go, a_link_below_the_folder_is_not_followed,
+          a_link_for_a_part_is_not_followed, files_that_begin_with_a_mark_stay, a_moment_that_is_none_is_refused,
+          parts_are_in_order, a_list_that_goes_does_not_empty_a_mirror, a_collection_that_goes_does_not_empty_a_mirror,
+          a_file_system_that_folds_case_is_refused, a_list_that_no_disk_has_room_for_is_refused,
           a_state_that_was_changed_is_told]
 
 if __name__ == "__main__":

@@ -19,15 +19,16 @@ from operations.tests.tools.hostile_source import (
     MOMENT, Liar, answered, changed, collected, entry, gone, listed, lying,
 )
 from operations.tests.tools.made_up_store import OTHER, MadeUp
-from operations.tests.tools.mirrored import held, mirrored, state
+from operations.tests.tools.mirrored import hold_files, mirrored, state
 from operations.tests.tools.noted_calls import SHIM
 from operations.tests.tools.running import (
     begun, ended, files_of, has, ropepeach, rows, same, wait_until, written,
 )
 from operations.tests.tools.taking_source import taking
+from ropepeach import numbers
 from tests.program import interposed
 
-LONGEST = 16_777_216
+LONGEST, BATCH, MOST_ENTRIES = 16_777_216, 256, 50_000
 LATER, LAST, NEXT = (f"2000-02-29T00:00:00.00{place}Z" for place in (2, 3, 4))
 BODY = b"the body"
 
@@ -61,7 +62,7 @@ def a_digest_stands_once(program: str, room: pathlib.Path) -> None:
         for hashes in (f"{right} {wrong}", f"{wrong} {right}", f"{right} {right}"):
             liar.resources([entry(f"{liar.base}/resource/a", BODY, hashes=hashes)])
             mirrored(hashes, liar, status=1, says="refused")
-        same("bodies that were asked for", [], [path for path in liar.asked if path.startswith("/resource/")])
+        same("bodies that were asked for", [], [path for path in liar.requests if path.startswith("/resource/")])
 
 
 def the_longest_body_is_mirrored_and_put(program: str, room: pathlib.Path) -> None:
@@ -70,16 +71,46 @@ def the_longest_body_is_mirrored_and_put(program: str, room: pathlib.Path) -> No
     """
     body = bytes(LONGEST)
     with lying() as liar:
-        held(liar, {"a": body})
+        hold_files(liar, {"a": body})
         mirrored("the longest body", liar)
         same("the folder", True, files_of("m") == {"a": body})
+        mirrored("the longest body, which is here", liar, "--baseline", says="fetched 0 ")
     folder = written("folder", {"a": body, "b": b"b"})
     os.truncate(folder / "b", LONGEST + 1)
     with taking() as source:
-        status, told, said = ropepeach("fill", folder, source.base)
-        same("fill", (3, "1 put"), (status, told.split(" (")[0]))
-        has("fill", "left out b: it has more than 16,777,216 bytes", said)
+        status, output, messages = ropepeach("fill", folder, source.base)
+        same("fill", (3, "1 put"), (status, output.split(" (")[0]))
+        has("fill", "left out b: it has more than 16,777,216 bytes", messages)
         same("what was put", True, source.put == {"a": body})
+
+
+def many_files_go_in_batches(program: str, room: pathlib.Path) -> None:
+    """Files of more than two batches that are synced together, of two to the byte, and of one file more, are all
+    there.
+    """
+    for count in (2 * BATCH, 2 * BATCH + 1, 3 * BATCH - 1):
+        files = {f"n/{number:04}": b"%d" % number for number in range(count)}
+        with lying() as liar:
+            hold_files(liar, files)
+            mirrored(f"{count} files", liar, into=f"m{count}")
+        same(f"{count} files", True, files_of(f"m{count}") == files)
+
+
+def a_list_has_so_many_entries(program: str, room: pathlib.Path) -> None:
+    """A list of 50,000 entries is taken, and one of an entry more is refused."""
+    with lying() as liar:
+        front, hashes = f"{liar.base}/resource", f"md5:{hashlib.md5(BODY).hexdigest()}"
+        entries = [entry(f"{front}/{number}", BODY, hashes=hashes) for number in range(MOST_ENTRIES + 1)]
+        liar.resources(entries[:-1])
+        mirrored("50,000 entries", liar, "--dry-run", says="50,000 to fetch")
+        liar.resources(entries)
+        mirrored("50,001 entries", liar, "--dry-run", status=1, says="refused, as it has more than 50,000 entries")
+
+
+def sizes_are_of_1024(program: str, room: pathlib.Path) -> None:
+    """A size is a number of bytes, or of units of 1,024."""
+    sizes = {"0": 0, "7": 7, "7KiB": 7 << 10, "3MiB": 3 << 20, "2GiB": 2 << 30}
+    same("sizes", sizes, {text: numbers.size(text) for text in sizes})
 
 
 def a_base_is_compared_to_its_end(program: str, room: pathlib.Path) -> None:
@@ -89,16 +120,16 @@ def a_base_is_compared_to_its_end(program: str, room: pathlib.Path) -> None:
         lists = [f'<url><loc>{liar.base}/{name}.xml</loc><rs:md capability="{word}"/></url>\n'
                  for name, word in (("s10/resourcelist", "resourcelist"), ("s1/changelist", "changelist"))]
         liar.documents({"/s1/capabilitylist.xml": listed("capabilitylist", lists)})
-        status, _, said = ropepeach("mirror", f"{liar.base}/s1", "m")
+        status, _, messages = ropepeach("mirror", f"{liar.base}/s1", "m")
         same("the status", 1, status)
-        has("why", "refused, as it is not below the base", said)
-        same("what was asked of the other one", [], [path for path in liar.asked if path.startswith("/s10/")])
+        has("why", "refused, as it is not below the base", messages)
+        same("what was asked of the other one", [], [path for path in liar.requests if path.startswith("/s10/")])
 
 
 def changes_out_of_order_remove_nothing(program: str, room: pathlib.Path) -> None:
     """A Change List with an earlier deletion behind a later put does not take the resource away."""
     with lying() as liar:
-        held(liar, {"a": BODY})
+        hold_files(liar, {"a": BODY})
         mirrored("at first", liar)
         liar.documents({"/resource/a": b"later"})
         changed(liar, [entry(f"{liar.base}/resource/a", b"later", moment=LAST),
@@ -112,7 +143,7 @@ def a_part_older_than_its_index_is_read_again(program: str, room: pathlib.Path) 
     """A part that a cache kept from before it was full lacks changes: it is read again."""
     bounds = [(MOMENT, LAST), (LAST, None)]
     with lying() as liar:
-        held(liar, {"a": b"a", "b": b"b"})
+        hold_files(liar, {"a": b"a", "b": b"b"})
         mirrored("at first", liar)
         before = state()
         front = f"{liar.base}/resource"
@@ -120,12 +151,12 @@ def a_part_older_than_its_index_is_read_again(program: str, room: pathlib.Path) 
         changed(liar, changes, [entry(f"{front}/c", b"c", moment=NEXT)], bounds=bounds)
         liar.documents({"/resource/a": BODY, "/resource/c": b"c"})
         full = liar.answers["/changelist/0.xml"]
-        older = answered(listed("changelist", changes[:1], said=f' from="{MOMENT}"'))
+        older = answered(listed("changelist", changes[:1], attributes=f' from="{MOMENT}"'))
         liar.answers["/changelist/0.xml"] = older
         says = "is older than the list that names it"
         mirrored("a cache that stays", liar, "--patience", "0.2", status=1, says=says)
         same("what is there", ({"a": b"a", "b": b"b"}, before), (files_of("m"), state()))
-        liar.asked.clear()
+        liar.requests.clear()
         answers = iter([older, full])
         liar.answers["/changelist/0.xml"] = lambda: [next(answers)]
         mirrored("a cache that ends", liar)
@@ -148,14 +179,14 @@ def held_up(liar: Liar, path: str) -> pathlib.Path:
 def one_run_at_a_time(program: str, room: pathlib.Path) -> None:
     """A second run on a folder in which one is at work ends by status 3, and the first one goes on."""
     with lying() as liar:
-        held(liar, {"a": BODY, "b": b"b"})
+        hold_files(liar, {"a": BODY, "b": b"b"})
         gate = held_up(liar, "/resource/b")
         first = begun("mirror", liar.base, "m")
-        wait_until(lambda: "/resource/b" in liar.asked, "the first run")
+        wait_until(lambda: "/resource/b" in liar.requests, "the first run")
         for option in ("--yes", "--baseline", "--dry-run"):
-            status, _, said = ropepeach("mirror", liar.base, "m", option)
+            status, _, messages = ropepeach("mirror", liar.base, "m", option)
             same(f"the second run {option}", 3, status)
-            has("the second run", "another run is at work in it", said)
+            has("the second run", "another run is at work in it", messages)
         gate.touch()
         same("the first run", 0, ended(first)[0])
         same("the folder", {"a": BODY, "b": b"b"}, files_of("m"))
@@ -167,13 +198,30 @@ def what_came_before_a_silence_stays(program: str, room: pathlib.Path) -> None:
     """
     files = {f"{number}": b"%d" % number for number in range(6)}
     with lying() as liar:
-        held(liar, files)
+        hold_files(liar, files)
         well = liar.answers["/resource/4"]
         liar.answers["/resource/4"] = answered(b"", "503 Service Unavailable")
         mirrored("a silence", liar, "--patience", "0.2", status=1, says="no answer for 0.2 seconds")
         same("what stays", {name: body for name, body in files.items() if name < "4"}, files_of("m"))
         liar.answers["/resource/4"] = well
         mirrored("the next run", liar, says="fetched 2 ")
+        same("the folder", files, files_of("m"))
+
+
+def a_baseline_that_ends_early_is_begun_again(program: str, room: pathlib.Path) -> None:
+    """A baseline that ended early is one again by the next run: what it did not look at may be anything."""
+    files = {"a": b"a", "b": b"b", "c": b"c"}
+    with lying() as liar:
+        hold_files(liar, files)
+        mirrored("at first", liar)
+        for name in files:
+            pathlib.Path("m", name).write_bytes(b"other")
+        well = liar.answers["/resource/b"]
+        liar.answers["/resource/b"] = answered(b"", "503 Service Unavailable")
+        mirrored("it ends early", liar, "--baseline", "--patience", "0.2", status=1, says="no answer for")
+        same("what is remembered", None, state()["until"])
+        liar.answers["/resource/b"] = well
+        mirrored("the next run", liar, says="baseline: ")
         same("the folder", files, files_of("m"))
 
 
@@ -185,7 +233,7 @@ def what_is_deleted_stays_while_another_source_is_away(program: str, room: pathl
         lists = {name: liar.answers[f"/{name}/changelist.xml"] for name in ("s1", "s2")}
         liar.documents({"/s1/changelist.xml": listed("changelist",
                                                      [gone(f"{liar.base}/s1/resource/a", LATER)],
-                                                     said=f' from="{MOMENT}"')})
+                                                     attributes=f' from="{MOMENT}"')})
         liar.answers["/s2/changelist.xml"] = answered(b"", "404 Not Found")
         mirrored("one is away", liar, "--patience", "0.2", status=1, says="s2: ")
         same("the first one", {"a": b"a", "b": b"b"}, files_of("m/s1"))
@@ -202,11 +250,11 @@ def a_key_stops_a_collection_in_one_line(program: str, room: pathlib.Path) -> No
         collected(liar, [f"s{number}" for number in range(4)])
         gate = held_up(liar, "/s2/resource/a")
         run = begun("mirror", liar.base, "m", start_new_session=True)
-        wait_until(lambda: "/s2/resource/a" in liar.asked, "the run")
+        wait_until(lambda: "/s2/resource/a" in liar.requests, "the run")
         os.killpg(run.pid, signal.SIGINT)
-        status, told, said = ended(run)
+        status, output, messages = ended(run)
         gate.touch()
-        same("the run", (130, "", "ropepeach mirror: stopped; the next run goes on\n"), (status, told, said))
+        same("the run", (130, "", "ropepeach mirror: stopped; the next run goes on\n"), (status, output, messages))
 
 
 def a_key_stops_a_collection_that_is_filled_in_one_line(program: str, room: pathlib.Path) -> None:
@@ -217,11 +265,11 @@ def a_key_stops_a_collection_that_is_filled_in_one_line(program: str, room: path
                                           'file = "/nowhere/s1"\n')
         gate = held_up(liar, "/.well-known/resourcesync")
         run = begun("fill", written("folder", {"a": b"a"}), "c.toml", start_new_session=True)
-        wait_until(lambda: bool(liar.asked), "the run")
+        wait_until(lambda: bool(liar.requests), "the run")
         os.killpg(run.pid, signal.SIGINT)
-        status, told, said = ended(run)
+        status, output, messages = ended(run)
         gate.touch()
-        same("the run", (130, "", "ropepeach fill: stopped; the next run goes on\n"), (status, told, said))
+        same("the run", (130, "", "ropepeach fill: stopped; the next run goes on\n"), (status, output, messages))
 
 
 def room_is_compared_to_the_byte(program: str, room: pathlib.Path) -> None:
@@ -232,9 +280,9 @@ def room_is_compared_to_the_byte(program: str, room: pathlib.Path) -> None:
         for length in (2, 9, 10, 11):
             names = ["a", "n" * length, "b.html"]
             folder = written(f"folder{length}", {name: b"body" for name in names})
-            status, told, _ = ropepeach("size", folder, "--base", source.base)
+            status, output, _ = ropepeach("size", folder, "--base", source.base)
             same("size", 0, status)
-            for size, wanted in ((int(told), 0), (int(told) - 512, 1)):
+            for size, wanted in ((int(output), 0), (int(output) - 512, 1)):
                 same(f"names of 1, {length} and 6 bytes, {size} bytes", wanted,
                      ropepeach("fill", folder, source.base, "--dry-run", "--room", size)[0])
 
@@ -246,8 +294,8 @@ def the_renames_of_a_takeover_are_synced(program: str, room: pathlib.Path) -> No
     environment = interposed(room, "noted", SHIM) | {"CALLS": str(calls), "FOLDER": folder}
     environment["PATH"] = f"{store.bin}:{environment['PATH']}"
     words = ["--program", program, "--sockets", room / "run", "--wait", "0", "--copy"]
-    status, _, said = ropepeach("takeover", store.file, OTHER, *words, env=environment)
-    same(f"the run: {said}", 0, status)
+    status, _, messages = ropepeach("takeover", store.file, OTHER, *words, env=environment)
+    same(f"the run: {messages}", 0, status)
     lines = [line.split("\t") for line in calls.read_text().splitlines()]
     calls_made = [(name, to or path) for name, _, path, to in lines]
     same("renames to the file", 1, calls_made.count(("rename", f"{folder}/a.disk")))
@@ -259,10 +307,10 @@ CHECKS = [
     each_digit_of_a_digest_counts, a_digest_stands_once, the_longest_body_is_mirrored_and_put,
     a_base_is_compared_to_its_end,
     changes_out_of_order_remove_nothing, a_part_older_than_its_index_is_read_again, one_run_at_a_time,
-    what_came_before_a_silence_stays,
+    what_came_before_a_silence_stays, a_baseline_that_ends_early_is_begun_again,
     what_is_deleted_stays_while_another_source_is_away, a_key_stops_a_collection_in_one_line,
     a_key_stops_a_collection_that_is_filled_in_one_line, room_is_compared_to_the_byte,
-    the_renames_of_a_takeover_are_synced,
+    the_renames_of_a_takeover_are_synced, many_files_go_in_batches, a_list_has_so_many_entries, sizes_are_of_1024,
 ]
 
 if __name__ == "__main__":

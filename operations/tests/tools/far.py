@@ -1,7 +1,8 @@
 """Looks at `ropepeach look` on disks of 4 GiB: what lies behind 2 GiB is read from there.
 
-The disks are sparse, and spelled from docs/DISK.md (tests/disks/far_disk.py). What the command says is compared with what tests/reading
-reads. At the end a command is made up whose reads lose the highest bit of each offset, and one of other figures: both have to be noticed.
+The disks are sparse, and spelled from docs/DISK.md (tests/disks/far_disk.py). What the command says is compared with
+what tests/reading reads. At the end a command is made up whose reads lose the highest bit of each offset, and one of
+other figures: both have to be noticed.
 
 usage: python3 -m operations.tests.tools.far [PROGRAM]     exit status 1 where a figure differs; the program is not run
 """
@@ -20,16 +21,19 @@ from tests.reading.disk_formats import BLOCK
 
 SECONDS = 60
 # How a wrong command reads: an offset loses its highest bit.
-RIGHT, WRONG = "os.pread(self.number, min(length, 1 << 24), at)", "os.pread(self.number, min(length, 1 << 24), at & 0x7FFF_FFFF)"
+RIGHT = "os.pread(self.number, min(length, 1 << 24), at)"
+WRONG = "os.pread(self.number, min(length, 1 << 24), at & 0x7FFF_FFFF)"
 
 
-def differing(command: list[str], disk: Path, held: int) -> list[str]:
+def differing(command: list[str], disk: Path, count: int) -> list[str]:
     """What the command says otherwise of a disk that holds so many resources."""
     used = 2 + sum(blocks for _, blocks in disk_reader.extents(disk_reader.source_of(Holes(disk))))
-    ran = subprocess.run([*command, "look", str(disk)], capture_output=True, text=True, timeout=SECONDS, stdin=subprocess.DEVNULL)
-    wanted = (f"blocks: {used:,} used of {BLOCKS:,} ", f"resources: {held} of 50,000 ")
-    failed = [f"status {ran.returncode}: {ran.stderr[:200]!r}"] if ran.returncode or ran.stderr else []
-    return failed + [f"no line {line!r}" for line in wanted if not any(it.startswith(line) for it in ran.stdout.splitlines())]
+    process = subprocess.run([*command, "look", str(disk)], capture_output=True, text=True, timeout=SECONDS,
+                             stdin=subprocess.DEVNULL)
+    wanted = (f"blocks: {used:,} used of {BLOCKS:,} ", f"resources: {count} of 50,000 ")
+    failed = [f"status {process.returncode}: {process.stderr[:200]!r}"] if process.returncode or process.stderr else []
+    return failed + [f"no line {line!r}" for line in wanted
+                     if not any(text.startswith(line) for text in process.stdout.splitlines())]
 
 
 def wrong_command(room: Path) -> list[str]:
@@ -52,9 +56,11 @@ def main() -> int:
         for filled in (0, FILLERS, MOST_FILLERS):
             far_disk.written(disk, far_disk.parts(filled))
             failed += [f"{filled} bodies of zeros: {fault}" for fault in differing(COMMAND, disk, filled + len(BODIES))]
-        blind += [] if differing(wrong_command(Path(folder)), disk, MOST_FILLERS + len(BODIES)) else ["reads that lose a bit"]
+        blind += [] if differing(
+            wrong_command(Path(folder)), disk, MOST_FILLERS + len(BODIES)) else ["reads that lose a bit"]
         blind += [] if differing(COMMAND, disk, MOST_FILLERS) else ["another figure"]
-    print("".join(f"far: {fault}\n" for fault in failed) + "".join(f"far: not noticed: {what}\n" for what in blind), end="")
+    print("".join(f"far: {fault}\n" for fault in failed) + "".join(f"far: not noticed: {what}\n" for what in blind),
+          end="")
     print(f"far: 3 disks of {BLOCKS * BLOCK} bytes, {2 - len(blind)} wrong ones noticed: {len(failed)} wrong")
     return 1 if failed or blind else 0
 

@@ -17,7 +17,7 @@ from typing import Any
 from unittest import mock
 
 from operations.tests.tools.lists_server import always, documents_of, serving
-from operations.tests.tools.rows import json_of, lines_of, ran, status_of, tell, wanted
+from operations.tests.tools.rows import json_of, lines_of, run_command, status_of, tell, wanted
 from ropepeach import health_source, room, why
 from ropepeach.processes import Processes
 from tests.program import PROGRAM, ROOT
@@ -57,31 +57,33 @@ def what_is_not_reserved(folder: Path, program: str) -> str:
     words = f"{lacking:,} bytes"
     with serving(documents_of(State(BASE, 2))) as server:
         for file, is_whole in ((path, True), (copy, False)):
-            said = {"look": ran("look", file), "why": ran("why", file),
-                    "health": ran("health", server.url, "--file", file)}
-            for name, run in said.items():
+            runs = {"look": run_command("look", file), "why": run_command("why", file),
+                    "health": run_command("health", server.url, "--file", file)}
+            for name, run in runs.items():
                 wanted((f"{words} " not in run.stdout and "not reserved" not in run.stdout) == is_whole,
                        f"{name} {file}: {run.stdout!r}")
                 wanted(run.returncode == 0, f"{name} {file}: {run.returncode} {run.stderr!r}")
-            wanted(is_whole or f"fallocate --length {SIZE} {file}" in said["look"].stdout
-                   and f"fallocate --length {SIZE} {file}" in said["why"].stdout,
-                   said)
-            wanted(f"unreserved={0 if is_whole else lacking}B" in said["health"].stdout,
-                   said["health"].stdout)
+            wanted(is_whole or f"fallocate --length {SIZE} {file}" in runs["look"].stdout
+                   and f"fallocate --length {SIZE} {file}" in runs["why"].stdout,
+                   runs)
+            wanted(f"unreserved={0 if is_whole else lacking}B" in runs["health"].stdout,
+                   runs["health"].stdout)
         wanted(json_of("look", copy, "--json")["not_reserved"] == lacking, "look --json")
         wanted(json_of("why", copy, "--json")["not_reserved"] == lacking, "why --json")
     subprocess.run(["fallocate", "--length", str(SIZE), copy], check=True, timeout=SECONDS)
-    wanted("not reserved" not in ran("look", copy).stdout, "after fallocate")
+    wanted("not reserved" not in run_command("look", copy).stdout, "after fallocate")
     return f"{words} of {SIZE:,}"
 
 
 def procedures_of_the_page(folder: Path, program: str) -> str:
-    """The copies and the longer file of operations/docs/OPERATING.md, with its words: each has all of its room reserved."""
+    """The copies and the longer file of operations/docs/OPERATING.md, with its words: each has all of its room
+    reserved.
+    """
     page = (ROOT / "operations/docs/OPERATING.md").read_text()
     source_in(folder, program, "source.disk")
     size, larger = SIZE, 2 * SIZE
     count = 0
-    for line in [it.strip() for it in page.splitlines()]:
+    for line in [line.strip() for line in page.splitlines()]:
         if "fallocate --length" in line and line.startswith(("cp ", "runuser", "truncate", "fallocate")):
             count += 1
     wanted(count >= 3, f"{count} lines of the page reserve room")
@@ -94,7 +96,7 @@ def procedures_of_the_page(folder: Path, program: str) -> str:
     for name, length in (("copy.disk", size), ("source.disk", larger), ("larger.disk", 2 * larger)):
         status = os.stat(folder / name)
         wanted((status.st_size, room.unreserved(status)) == (length, 0), f"{name}: {status}")
-        wanted(lines_of(ran("look", str(folder / name)))[0].startswith(str(folder / name)),
+        wanted(lines_of(run_command("look", str(folder / name)))[0].startswith(str(folder / name)),
                f"{name} holds no source")
     return "a copy, a longer file, a copy on a larger one"
 
@@ -120,33 +122,33 @@ def the_last_verification(folder: Path, program: str) -> str:
     path = source_in(folder, program)
     with serving(documents_of(State(BASE, 2))) as server:
         words = ["health", server.url, "--file", path]
-        status_of(ran(*words), 0, "last verification never")
-        status_of(ran(*words, "--verification-age", "8"), 1, "no verification within 192 hours")
+        status_of(run_command(*words), 0, "last verification never")
+        status_of(run_command(*words, "--verification-age", "8"), 1, "no verification within 192 hours")
         wanted(verify(path, program) == 0, "a sound source")
-        status_of(ran(*words, "--verification-age", "8"), 0, "last verification", "second",
+        status_of(run_command(*words, "--verification-age", "8"), 0, "last verification", "second",
                   "verification_age=")
         old = time.time() - 9 * 86_400
         os.utime(path + ".verified", (old, old))
-        status_of(ran(*words, "--verification-age", "8"), 1, "no verification within 192 hours",
+        status_of(run_command(*words, "--verification-age", "8"), 1, "no verification within 192 hours",
                   "last verification 9 days ago")
         damage(path)
         wanted(verify(path, program) == 1, "a damaged body")
         metrics = folder / "metrics.prom"
-        said = status_of(ran(*words, "--prometheus", str(metrics)), 2, "CRITICAL: ",
-                         "the last verification failed, damaged a (", "fill --repair")
-        wanted(said.count("\n") == 1 and 'ropepeach_verified{source="' in metrics.read_text()
+        output = status_of(run_command(*words, "--prometheus", str(metrics)), 2, "CRITICAL: ",
+                           "the last verification failed, damaged a (", "fill --repair")
+        wanted(output.count("\n") == 1 and 'ropepeach_verified{source="' in metrics.read_text()
                and "} 0\n" in metrics.read_text(), metrics.read_text())
         subprocess.run([program, "run", path], input=b"put a 6161 a/b\n", check=True, capture_output=True,
                        timeout=SECONDS)
-        status_of(ran(*words), 2, "the last verification failed, damaged a")
+        status_of(run_command(*words), 2, "the last verification failed, damaged a")
         wanted(verify(path, program) == 0, "repaired")
-        status_of(ran(*words), 0, "OK: ")
-        with subprocess.Popen([program, "serve", path, "0", "1"], stdout=subprocess.PIPE) as held:
-            assert held.stdout
-            held.stdout.readline()
+        status_of(run_command(*words), 0, "OK: ")
+        with subprocess.Popen([program, "serve", path, "0", "1"], stdout=subprocess.PIPE) as serving_process:
+            assert serving_process.stdout
+            serving_process.stdout.readline()
             wanted(verify(path, program) == 1, "beside a server")
-            held.kill()
-        status_of(ran(*words), 2, "it did not end: rs_source: Device")
+            serving_process.kill()
+        status_of(run_command(*words), 2, "it did not end: rs_source: Device")
     return "never, right, old, damaged, repaired, and one that could not begin"
 
 
@@ -170,7 +172,7 @@ def hostile_records(folder: Path, program: str) -> str:
                 record.mkdir()
             else:
                 record.write_bytes(content)
-            run = ran("health", server.url, "--file", path)
+            run = run_command("health", server.url, "--file", path)
             wanted(phrase in run.stdout and run.returncode in (1, 2),
                    f"{content!r}: {run.stdout!r} {run.stderr!r}")
             wanted(run.stdout.count("\n") == 1 and run.stdout.count("|") == 1 and "\x1b" not in run.stdout,
@@ -179,7 +181,7 @@ def hostile_records(folder: Path, program: str) -> str:
                 record.rmdir()
             record.unlink(missing_ok=True)
         for file in ("/none", str(folder / "none\x1b[2J"), path + "/x"):
-            status_of(ran("health", server.url, "--file", file), 1, "can't be looked at: ")
+            status_of(run_command("health", server.url, "--file", file), 1, "can't be looked at: ")
     return f"{len(rows)} records, three files"
 
 
@@ -198,12 +200,21 @@ def a_file_system_without_room(folder: Path, program: str) -> str:
     return "one byte too few, and enough"
 
 
+def description_of(addresses: list[str]) -> str:
+    """A Source Description of the sources at these addresses."""
+    described = "".join(f'<url><loc>{address}/capabilitylist.xml</loc><rs:md '
+                        f'capability="capabilitylist"/></url>' for address in addresses)
+    return ('<urlset xmlns="http://www.sitemaps.org/schemas/sitemap/0.9" '
+            'xmlns:rs="http://www.openarchives.org/rs/terms/">'
+            f'<rs:md capability="description"/>{described}</urlset>')
+
+
 def several_sources(folder: Path, program: str) -> str:
     """A Source Description of several, and the file of a collection: a line for each, and the worst status."""
     files = [source_in(folder, program, f"{name}.disk") for name in ("s1", "s2")]
     with contextlib.ExitStack() as stack:
-        servers = [stack.enter_context(serving(documents_of(State(f"https://whole.example.org/s{number}",
-                                                                  2)))) for number in (1, 2)]
+        states = [State(f"https://whole.example.org/s{number}", 2) for number in (1, 2)]
+        servers = [stack.enter_context(serving(documents_of(state))) for state in states]
         settings = folder / "collection.toml"
 
         def write(*addresses: str) -> None:
@@ -214,32 +225,28 @@ def several_sources(folder: Path, program: str) -> str:
             settings.write_text(text)
 
         write(*(server.url for server in servers))
-        said = status_of(ran("health", str(settings)), 0)
+        output = status_of(run_command("health", str(settings)), 0)
         wanted([line.split(": ")[:2]
-                for line in said.splitlines()] == [["OK", server.url] for server in servers], said)
-        wanted(said.count("last verification never") == 2, said)
+                for line in output.splitlines()] == [["OK", server.url] for server in servers], output)
+        wanted(output.count("last verification never") == 2, output)
         damage(files[1])
         verify(files[1], program)
         metrics = folder / "metrics.prom"
-        said = status_of(ran("health", str(settings), "--prometheus", str(metrics)), 2, "damaged a")
-        wanted([line.split(": ")[0] for line in said.splitlines()] == ["OK", "CRITICAL"], said)
+        output = status_of(run_command("health", str(settings), "--prometheus", str(metrics)), 2, "damaged a")
+        wanted([line.split(": ")[0] for line in output.splitlines()] == ["OK", "CRITICAL"], output)
         text = metrics.read_text()
         wanted(text.count("# TYPE ropepeach_up gauge\n") == 1 and text.count("\nropepeach_up{") == 2, text)
         gone = f"http://127.0.0.1:{free_port()}"
         write(servers[0].url, gone)
-        said = status_of(ran("health", str(settings)), 2)
+        output = status_of(run_command("health", str(settings)), 2)
         wanted([line.split(": ")[:2]
-                for line in said.splitlines()] == [["OK", servers[0].url], ["CRITICAL", gone]], said)
-        status_of(ran("health", str(folder / "none.toml")), 3)
-        described = "".join(f'<url><loc>{server.url}/capabilitylist.xml</loc><rs:md '
-                            f'capability="capabilitylist"/></url>' for server in servers)
-        whole = ('<urlset xmlns="http://www.sitemaps.org/schemas/sitemap/0.9" '
-                 'xmlns:rs="http://www.openarchives.org/rs/terms/">'
-                 f'<rs:md capability="description"/>{described}</urlset>')
+                for line in output.splitlines()] == [["OK", servers[0].url], ["CRITICAL", gone]], output)
+        status_of(run_command("health", str(folder / "none.toml")), 3)
+        whole = description_of([server.url for server in servers])
         description = stack.enter_context(serving(always(200, whole.encode(), "application/xml")))
-        said = ran("health", description.url).stdout
-        wanted([line.split(": ")[1] for line in said.splitlines()] == [server.url for server in servers],
-               said)
+        output = run_command("health", description.url).stdout
+        wanted([line.split(": ")[1] for line in output.splitlines()] == [server.url for server in servers],
+               output)
     return "two that are well, one that is damaged, one that is gone, and a Source Description"
 
 
@@ -249,7 +256,7 @@ def a_full_disk_is_named(folder: Path, program: str) -> str:
     script = "mount -t tmpfs -o size=4k none mount || exit 77; head -c 4096 /dev/zero >mount/full; exec \"$@\""
     with serving(documents_of(State(BASE, 2))) as server:
         words = ["unshare", "--mount", "sh", "-c", f"cd {shlex.quote(str(folder))}; {script}", "sh"]
-        run = ran("health", server.url, "--prometheus", "mount/a.prom", behind=words)
+        run = run_command("health", server.url, "--prometheus", "mount/a.prom", behind=words)
     if run.returncode == 77 or "unshare" in run.stderr:
         return "NOT TRIED, as nobody may mount here"
     status_of(run, 3, "mount/a.prom: can't be written: No space left on device")
@@ -281,13 +288,13 @@ def a_unit_that_may_not_write(folder: Path, program: str) -> str:
             (ropepeach, line.format("/", "rw", "ro") + line.format(ours + "else", "ro", "rw"), False),
             (ropepeach, "", False)]
     for unit, mounts, is_of_unit in rows:
-        told = str(why.read_only(str(folder / "a.disk"), Within(folder, unit, mounts)))
+        output = str(why.read_only(str(folder / "a.disk"), Within(folder, unit, mounts)))
         words = (f"the unit {unit} may not write {os.path.realpath(folder)} (ProtectSystem=): "
                  f"systemctl edit {unit}, and write the lines [Service] and "
                  f"ReadWritePaths={os.path.realpath(folder)} there")
-        wanted((told == words) if is_of_unit
-               else ("mount -o remount,rw" in told and "ReadWritePaths" not in told),
-               f"{unit} {mounts}: {told}")
+        wanted((output == words) if is_of_unit
+               else ("mount -o remount,rw" in output and "ReadWritePaths" not in output),
+               f"{unit} {mounts}: {output}")
     return f"{len(rows)} tables of mounts"
 
 

@@ -349,7 +349,8 @@ def what_cannot_be_repaired(program: str, room: pathlib.Path) -> None:
         before = server.disk.read_bytes()
         status, _, messages, _ = filled(server.url, "--again", "d/none", "d/02.txt")
         same(f"no file: {messages}", 1, status)
-        has("no file", "--again d/none: FOLDER has no such file; nothing was changed", messages)
+        has("no file", "--again d/none: FOLDER has no such file, or --exclude leaves it out; nothing was changed",
+            messages)
         same("it is as before", True, server.disk.read_bytes() == before)
         damage(server, "d/02.txt")
         os.remove("folder/d/02.txt")

@@ -1,8 +1,15 @@
-"""A file system that has several names as one: the names that a command gives to the system are changed by a C library before it."""
+"""A file system that has several names as one: the names that a command gives to the system are changed by a C library
+before it.
+"""
+from __future__ import annotations
+
+import pathlib
+
 from operations.tests.mirror.mirrors import DIRECT
 from tests.program import interposed
 
-# `fold` has upper case as lower case, `keep` too, but lists a name as it was made; `dots` drops dots at the end; `refuse` takes no colon.
+# `fold` has upper case as lower case, `keep` too, but lists a name as it was made; `dots` drops dots at the end;
+# `refuse` takes no colon.
 TEXT = r"""
 #define _GNU_SOURCE
 #include <ctype.h>
@@ -45,7 +52,9 @@ static const char *changed(int at, const char *path, char *into) {
     if (*how == 'd') for (char *end = into + strlen(into); end > from && end[-1] == '.'; ) *--end = 0;
     return into;
 }
-static int is_refused(int at, const char *path) { return is_below(at, path) && *how == 'r' && strchr(path, ':') ? (errno = EINVAL) : 0; }
+static int is_refused(int at, const char *path) {
+    return is_below(at, path) && *how == 'r' && strchr(path, ':') ? (errno = EINVAL) : 0;
+}
 #define CALL(at, path, made) char one[4096]; return is_refused(at, path) ? -1 : (made)
 #define OPENED(at, path) MODE(flags); CALL(at, path, syscall(SYS_openat, at, changed(at, path, one), flags, mode))
 #define LOOKED(at, path, s, flags) CALL(at, path, syscall(SYS_newfstatat, at, changed(at, path, one), s, flags))
@@ -59,20 +68,27 @@ int stat64(const char *path, struct stat64 *s) { return stat(path, (struct stat 
 int lstat(const char *path, struct stat *s) { LOOKED(AT_FDCWD, path, s, AT_SYMLINK_NOFOLLOW); }
 int lstat64(const char *path, struct stat64 *s) { return lstat(path, (struct stat *) s); }
 int fstatat(int at, const char *path, struct stat *s, int flags) { LOOKED(at, path, s, flags); }
-int fstatat64(int at, const char *path, struct stat64 *s, int flags) { return fstatat(at, path, (struct stat *) s, flags); }
+int fstatat64(int at, const char *path, struct stat64 *s, int flags) {
+    return fstatat(at, path, (struct stat *) s, flags);
+}
 int renameat(int at, const char *from, int beside, const char *to) {
     char two[4096];
     CALL(at, from, syscall(SYS_renameat, at, changed(at, from, one), beside, changed(beside, to, two)));
 }
 int rename(const char *from, const char *to) { return renameat(AT_FDCWD, from, AT_FDCWD, to); }
-int unlinkat(int at, const char *path, int flags) { CALL(at, path, syscall(SYS_unlinkat, at, changed(at, path, one), flags)); }
+int unlinkat(int at, const char *path, int flags) {
+    CALL(at, path, syscall(SYS_unlinkat, at, changed(at, path, one), flags));
+}
 int unlink(const char *path) { return unlinkat(AT_FDCWD, path, 0); }
 int rmdir(const char *path) { return unlinkat(AT_FDCWD, path, AT_REMOVEDIR); }
-int mkdirat(int at, const char *path, mode_t mode) { CALL(at, path, syscall(SYS_mkdirat, at, changed(at, path, one), mode)); }
+int mkdirat(int at, const char *path, mode_t mode) {
+    CALL(at, path, syscall(SYS_mkdirat, at, changed(at, path, one), mode));
+}
 int mkdir(const char *path, mode_t mode) { return mkdirat(AT_FDCWD, path, mode); }
 """
 
 
-def folding(room, how):
+def folding(room: pathlib.Path, how: str) -> dict[str, str]:
     """The environment of a command whose folder `m` lies on such a file system."""
-    return interposed(room, "folded", TEXT) | DIRECT | {"FOLDED": f"{room}/m", "HOW": how}
+    library: dict[str, str] = interposed(room, "folded", TEXT)
+    return library | DIRECT | {"FOLDED": f"{room}/m", "HOW": how}

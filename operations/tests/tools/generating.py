@@ -16,6 +16,7 @@ EXAMPLES = 60
 
 def tried(strategies: Mapping[str, Any], look: Callable[..., None], examples: int = EXAMPLES) -> None:
     """Gives a function what strategies make."""
-    how = settings(max_examples=examples, derandomize=True, deadline=None, database=None, suppress_health_check=list(HealthCheck),
+    how = settings(max_examples=examples, derandomize=True, deadline=None, database=None,
+                   suppress_health_check=list(HealthCheck),
                    phases=[Phase.generate], print_blob=False)
     how(given(**strategies)(look))()

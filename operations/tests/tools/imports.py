@@ -20,19 +20,23 @@ SECONDS = 60
 # What costs a hundredth of a second of the processor or more.
 HTTP, XML, BARS, DATABASE = ("urllib3", "http.client", "ssl",
                              "email"), ("xml.etree.ElementTree", "defusedxml"), ("tqdm",), ("sqlite3",)
+CLASSES = ("dataclasses", "json")
 # What a subcommand has no use for, as it is called here; none of them shows a bar where standard error is no
 # terminal.
 WITHOUT = {
-    ("--help",): (*HTTP, *XML, *BARS, *DATABASE, "multiprocessing"),
-    ("help",): (*HTTP, *XML, *BARS, *DATABASE, "multiprocessing"),
-    ("why", "/none", "1"): (*HTTP, *XML, *BARS, *DATABASE, "multiprocessing"),
-    ("health", "http://127.0.0.1:1"): (*BARS, *DATABASE, "multiprocessing"),
+    ("--help",): (*HTTP, *XML, *BARS, *DATABASE, *CLASSES, "multiprocessing"),
+    ("help",): (*HTTP, *XML, *BARS, *DATABASE, *CLASSES, "multiprocessing"),
+    ("why", "/none", "1"): (*HTTP, *XML, *BARS, *DATABASE, *CLASSES, "multiprocessing", "textwrap"),
+    ("health", "http://127.0.0.1:1"): (*BARS, *DATABASE, "multiprocessing", "urllib.request", "json"),
+    # (a mirror keeps what it knows of its files in a database)
+    ("mirror", "http://127.0.0.1:1", "/none/m", "--patience", "0"): (*BARS, "multiprocessing", "concurrent.futures",
+                                                                     "urllib.request"),
     ("look", "/none"): (*HTTP, *XML, *BARS, *DATABASE, "multiprocessing"),
     ("size", "/none"): (*HTTP, *XML, *BARS, *DATABASE, "multiprocessing"),
-    ("fill", "/none", "http://127.0.0.1:1"): (*BARS, "multiprocessing"),
+    ("fill", "/none", "http://127.0.0.1:1"): (*BARS, "multiprocessing", "urllib.request"),
 }
 # How many modules beside those of a Python that does nothing.
-MOST = {"--help": 75, "help": 75, "why": 95, "health": 250, "look": 105, "size": 110, "fill": 280}
+MOST = {"--help": 75, "help": 75, "why": 95, "health": 250, "mirror": 290, "look": 105, "size": 110, "fill": 280}
 
 
 def imported(*words: str) -> set[str]:

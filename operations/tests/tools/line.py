@@ -8,9 +8,9 @@ from __future__ import annotations
 
 import contextlib
 import functools
-import json
 import multiprocessing
 import os
+import re
 import shutil
 import signal
 import subprocess
@@ -22,23 +22,30 @@ from typing import Any
 from unittest import mock
 
 import ropepeach
-from operations.tests.tools import lists_server, rows
+from operations.tests.tools import lists_server, rows, shells
 from operations.tests.tools.line_runs import (
     FIELDS, completed, here, object_of, on_a_terminal, status_and, surroundings,
 )
-from operations.tests.tools.rows import page_of, ran, status_of, tell, wanted
+from operations.tests.tools.rows import page_of, run_command, status_of, tell, wanted
 from operations.tests.tools.running import SECONDS, Server, written
 from ropepeach import command, connections, helptext, limits, output, statuses
 from ropepeach.statuses import Health, Status
 from tests.program import PROGRAM, ROOT
 
 # Commands whose page no check of their own compares.
-OTHERS = ["fill", "mirror", "site", "collection", "grow"]
+OTHERS = ["fill", "mirror", "check", "site", "collection", "grow"]
 # A line of help may have this many columns, where the terminal has as many.
 NARROW, WIDE = 60, 80
 # Words that name no command.
 NO_COMMANDS: list[list[str]] = [["help", "nothing"], ["help", "fill", "mirror"], [], ["nothing"], ["fil"],
                                 ["--nothing"], ["--", "fill"]]
+# What a key makes of a line, and what it lists below another one.
+COMPLETED = {"ropepeach mi": "ropepeach mirror ", "ropepeach help gr": "ropepeach help grow ",
+             "ropepeach mirror --any": "ropepeach mirror --any-source ",
+             "ropepeach fill dep": "ropepeach fill depositors/", "ropepeach grow li": "ropepeach grow list.toml ",
+             "ropepeach mirror --require sha-5": "ropepeach mirror --require sha-512 ",
+             "ropepeach nothing": "ropepeach nothing", "ropepeach fill --exc": "ropepeach fill --exclude "}
+LISTED = {"ropepeach ": ["mirror", "takeover", "help"], "ropepeach mirror --max-d": ["--max-delete", "--max-duration"]}
 # What begins a colour.
 COLOUR = "\x1b["
 NO_COLOUR: list[dict[str, str]] = [{}, {"NO_COLOR": "1"}]
@@ -51,7 +58,7 @@ def the_version(room: Path, program: Path) -> str:
     version = (ROOT / "VERSION").read_text().strip()
     wanted(ropepeach.__version__ == version, f"__version__ is {ropepeach.__version__}, and VERSION {version}")
     for words in (["--version"], ["version"]):
-        done = ran(*words)
+        done = run_command(*words)
         wanted((done.returncode, done.stdout, done.stderr) == (0, f"ropepeach {version}\n", ""),
                f"{words}: {done}")
     agents: list[str | None] = []
@@ -67,7 +74,7 @@ def the_version(room: Path, program: Path) -> str:
     with mock.patch.object(lists_server, "Handler",
                            Noting), lists_server.serving(lambda path: (404, "text/plain",
                                                                        b"NotFound\n")) as server:
-        ran("health", server.url)
+        run_command("health", server.url)
     wanted(set(agents) == {f"ropepeach/{version}"}, f"a request is by {agents}")
     return version
 
@@ -90,13 +97,13 @@ def help_of_each_command(room: Path, program: Path) -> str:
 def lines_of_help(room: Path, program: Path) -> str:
     """On a terminal of 60 columns no line is longer; on a wide one no line is longer than 80."""
     longest = 0
-    for columns, most in ((NARROW, NARROW), (200, WIDE)):
+    for columns, limit in ((NARROW, NARROW), (200, WIDE)):
         with mock.patch.dict(os.environ, COLUMNS=str(columns)):
             for words in [list[str](), *([name] for name in command.COMMANDS)]:
                 lines = here(*words, "--help").stdout.splitlines()
                 wanted(len(lines) > 10, f"{words}: no help: {lines}")
                 longest = max(longest, len(max(lines, key=len)))
-                wanted(longest <= most, f"{words} at {columns} columns: {max(lines, key=len)!r}")
+                wanted(longest <= limit, f"{words} at {columns} columns: {max(lines, key=len)!r}")
     return f"the longest line has {longest} columns"
 
 
@@ -124,9 +131,9 @@ def pages(room: Path, program: Path) -> str:
     """The page of each command has its options and its statuses."""
     for name in OTHERS:
         page_of(name)
-    page, said = (ROOT / "operations/install/ropepeach.1").read_text(), ran("look", "--help").stdout
+    page, output = (ROOT / "operations/install/ropepeach.1").read_text(), run_command("look", "--help").stdout
     for short, option in (("v", "verbose"), ("q", "quiet")):
-        wanted(f".It Fl {short} , Fl -{option}\n" in page and f"  -{short}, --{option} " in said, option)
+        wanted(f".It Fl {short} , Fl -{option}\n" in page and f"  -{short}, --{option} " in output, option)
     wanted(".It Fl -json\n" in page and all(f".It Va {field}\n" in page for field in FIELDS),
            "the page of the whole has not the object")
     return f"{len(OTHERS)} pages, and that of the whole"
@@ -152,11 +159,11 @@ def one_object_for_each_command(room: Path, program: Path) -> str:
         wanted(set(words) == set(command.COMMANDS), "a command is not tried")
         for name in command.COMMANDS:
             shutil.rmtree("m", ignore_errors=True)
-            done = ran(name, *words[name], "--json")
+            done = run_command(name, *words[name], "--json")
             found = object_of(name, done)
             texts = [message["text"] for message in found["messages"]]
-            said = [line.removeprefix(f"ropepeach {name}: ") for line in done.stderr.splitlines()]
-            wanted(said == texts, f"{name}: {said}, and in the object {texts}")
+            texts_written = [line.removeprefix(f"ropepeach {name}: ") for line in done.stderr.splitlines()]
+            wanted(texts_written == texts, f"{name}: {texts_written}, and in the object {texts}")
             wanted(found["results"] or found["status"], f"{name}: no result: {done}")
     return f"{len(command.COMMANDS)} commands"
 
@@ -168,7 +175,7 @@ def an_object_of_what_fails(room: Path, program: Path) -> str:
                                 ("health", 2, ["http://127.0.0.1:1"]), ("size", 1, ["none"]),
                                 ("grow", 2, ["none"]),
                                 ("mirror", 1, ["http://127.0.0.1:1", "m", "--patience", "0"])):
-        done = status_and(ran(name, *words, "--json"), status)
+        done = status_and(run_command(name, *words, "--json"), status)
         found = object_of(name, done)
         errors = [message["text"] for message in found["messages"] if message["level"] == "error"]
         wanted(bool(errors) != bool(found["results"]), f"{name} {words}: {found}")
@@ -190,7 +197,7 @@ def messages_of_several_processes(room: Path, program: Path) -> str:
                 file.write(f'[source.s{number}]\naddress = "http://127.0.0.1:{number}"\n'
                            f'file = "/var/lib/ropepeach/s{number}.disk"\n'
                            f'base = "https://a.example/s{number}"\n')
-        done = ran("collection", "collection.toml", "--patience", "0.3", "--json")
+        done = run_command("collection", "collection.toml", "--patience", "0.3", "--json")
     found = object_of("collection", status_and(done, 1))
     sources = {message.get("source") for message in found["messages"] if message["level"] == "message"}
     wanted(sources == {"s1", "s2"}, f"{found['messages']}")
@@ -202,15 +209,15 @@ def loud_and_quiet(room: Path, program: Path) -> str:
     adds requests.
     """
     with surroundings(room, program) as words:
-        size = ran("size", *words["size"], "--quiet")
+        size = run_command("size", *words["size"], "--quiet")
         wanted(size.stdout.strip().isdigit() and not size.stderr, size)
-        wanted(ran("size", *words["size"]).stdout == size.stdout, "a result that is other without -q")
-        usual, loud = ran("mirror", *words["mirror"]), ran("mirror", *words["mirror"], "-v")
+        wanted(run_command("size", *words["size"]).stdout == size.stdout, "a result that is other without -q")
+        usual, loud = run_command("mirror", *words["mirror"]), run_command("mirror", *words["mirror"], "-v")
         wanted("GET http" not in usual.stderr and loud.stderr.count("GET http") > 2, loud.stderr)
         wanted(loud.stdout.count("\n") == usual.stdout.count("\n") == 1, loud.stdout)
-        failed = ran("mirror", "http://127.0.0.1:1", "n", "--patience", "0", "-q")
+        failed = run_command("mirror", "http://127.0.0.1:1", "n", "--patience", "0", "-q")
         wanted(failed.returncode == 1 and failed.stderr.count("\n") == 1 and not failed.stdout, failed)
-        status_of(ran("look", "a.disk", "-v", "-q"), 2, "not allowed with")
+        status_of(run_command("look", "a.disk", "-v", "-q"), 2, "not allowed with")
     return "size, mirror and look"
 
 
@@ -219,8 +226,8 @@ def no_colour(room: Path, program: Path) -> str:
     with surroundings(room, program) as words:
         for settings in NO_COLOUR:
             for name in ("look", "mirror", "nothing"):
-                said = on_a_terminal([name, *words.get(name, [])], settings)
-                wanted(said and COLOUR not in said.replace("\x1b[A", ""), f"{name}: {said!r}")
+                output = on_a_terminal([name, *words.get(name, [])], settings)
+                wanted(output and COLOUR not in output.replace("\x1b[A", ""), f"{name}: {output!r}")
     return "three runs"
 
 
@@ -230,14 +237,14 @@ def bytes_a_second(room: Path, program: Path) -> str:
     with contextlib.chdir(room), Server(program, room / "a.disk") as server:
         for words in (["fill", str(folder), server.url], ["mirror", server.url, "m"]):
             started = time.monotonic()
-            status_of(ran(*words, "--bwlimit", str(RATE)), 0)
-            took = time.monotonic() - started
-            wanted(took > 0.9 * BYTES / RATE, f"{words[0]}: {BYTES:,} bytes at {RATE:,} a second took "
-                                              f"{took:.1f} seconds")
-        wanted(all((Path("m") / it.name).read_bytes() == it.read_bytes() for it in folder.iterdir()),
+            status_of(run_command(*words, "--bwlimit", str(RATE)), 0)
+            seconds = time.monotonic() - started
+            wanted(seconds > 0.9 * BYTES / RATE, f"{words[0]}: {BYTES:,} bytes at {RATE:,} a second took "
+                                                 f"{seconds:.1f} seconds")
+        wanted(all((Path("m") / path.name).read_bytes() == path.read_bytes() for path in folder.iterdir()),
                "other bytes")
         for text in ("0", "x", "-1", "1kB"):
-            status_of(ran("mirror", server.url, "n", "--bwlimit", text), 2, "--bwlimit")
+            status_of(run_command("mirror", server.url, "n", "--bwlimit", text), 2, "--bwlimit")
     rate, started = limits.Rate(RATE), time.monotonic()
     context = multiprocessing.get_context("fork")
     workers = [context.Process(target=rate.wait, args=(RATE // 2,)) for _ in range(2)]
@@ -245,13 +252,13 @@ def bytes_a_second(room: Path, program: Path) -> str:
         worker.start()
     for worker in workers:
         worker.join()
-    took = time.monotonic() - started
-    wanted(took > 0.95, f"two processes took {took:.2f} seconds for the bytes of one")
+    seconds = time.monotonic() - started
+    wanted(seconds > 0.95, f"two processes took {seconds:.2f} seconds for the bytes of one")
     return "fill, mirror, and two processes"
 
 
 def completion_of_words(room: Path, program: Path) -> str:
-    """bash completes commands and options of the command itself; zsh reads its file."""
+    """bash completes commands and options of the command itself."""
     (room / "bin").mkdir()
     script = room / "bin/ropepeach"
     script.write_text(f"#!/bin/sh\nexec {' '.join(rows.words_of_command())} \"$@\"\n")
@@ -266,11 +273,28 @@ def completion_of_words(room: Path, program: Path) -> str:
             wanted(offered == words, f"{text!r}: {offered}")
         wanted(set(completed("bash", "ropepeach ")) == {*command.COMMANDS, "help", "version", "--help",
                                                         "--version"}, "all commands")
-    if not shutil.which("zsh"):
-        return "bash; zsh was not tried, as it is not here"
-    status_of(subprocess.run(["zsh", "-n", ROOT / "operations/install/_ropepeach"], capture_output=True, text=True,
-                             timeout=SECONDS), 0)
-    return "bash and zsh"
+    return "seven lines"
+
+
+def completion_at_the_keys(room: Path, program: Path) -> str:
+    """bash and zsh complete commands, options, values and files, and list what may follow, on a terminal."""
+    bin_folder, folder = room / "bin", room / "at"
+    bin_folder.mkdir()
+    script = bin_folder / "ropepeach"
+    script.write_text(f"#!/bin/sh\nexec {' '.join(rows.words_of_command())} \"$@\"\n")
+    script.chmod(0o755)
+    written(folder, {"depositors/a": b"", "list.toml": b""})
+    missing = [name for name in shells.BEGUN if not shutil.which(name)]
+    for name in (name for name in shells.BEGUN if name not in missing):
+        with shells.shell(name, folder, bin_folder) as shell:
+            for text, line in COMPLETED.items():
+                found, _ = shell.completed(text)
+                wanted(found == line, f"{name}: {text!r} becomes {found!r}")
+            for text, offered in LISTED.items():
+                _, shown = shell.completed(text)
+                wanted(all(re.search(rf"(?<![\w-]){word}(?![\w-])", shown) for word in offered),
+                       f"{name}: {text!r} shows {shown!r}")
+    return f"NOT TRIED: {missing[0]}" if missing else f"{len(COMPLETED) + len(LISTED)} lines in each"
 
 
 def ended_by_a_key(room: Path, program: Path) -> str:
@@ -283,15 +307,16 @@ def ended_by_a_key(room: Path, program: Path) -> str:
         words = [*rows.words_of_command(), "mirror", server.url, str(room / "m"), "--json"]
         # (a program that is begun behind a `&` of a shell passes over the key)
         heard = functools.partial(signal.signal, signal.SIGINT, signal.SIG_DFL)
-        with subprocess.Popen(words, stdout=subprocess.PIPE, stderr=subprocess.PIPE, text=True, preexec_fn=heard) as run:
+        with subprocess.Popen(words, stdout=subprocess.PIPE, stderr=subprocess.PIPE,
+                              text=True, preexec_fn=heard) as run:
             end = time.monotonic() + SECONDS
-            while not server.asked and time.monotonic() < end:
+            while not server.requests and time.monotonic() < end:
                 time.sleep(0.02)
             run.send_signal(signal.SIGINT)
-            told, said = run.communicate(timeout=SECONDS)
+            output, messages = run.communicate(timeout=SECONDS)
     found = object_of("mirror",
-                      status_and(subprocess.CompletedProcess(words, run.returncode, told, said), 130))
-    wanted(said == "ropepeach mirror: stopped; the next run goes on\n", said)
+                      status_and(subprocess.CompletedProcess(words, run.returncode, output, messages), 130))
+    wanted(messages == "ropepeach mirror: stopped; the next run goes on\n", messages)
     wanted([message["level"] for message in found["messages"]] == ["error"], found)
     return "130"
 
@@ -299,7 +324,7 @@ def ended_by_a_key(room: Path, program: Path) -> str:
 ROWS = [the_version, help_of_each_command, lines_of_help, no_word_is_cut_short, pages, table_of_statuses,
         one_object_for_each_command,
         an_object_of_what_fails, messages_of_several_processes, loud_and_quiet, no_colour, bytes_a_second,
-        completion_of_words, ended_by_a_key]
+        completion_of_words, completion_at_the_keys, ended_by_a_key]
 # Rows that look at rules within this process.
 WITHIN = [help_of_each_command, lines_of_help, no_word_is_cut_short, table_of_statuses]
 
@@ -323,7 +348,7 @@ def always_written(level: output.Level, text: str, front: str = "") -> None:
 @contextlib.contextmanager
 def wrong(where: object, name: str, value: object) -> Iterator[None]:
     """The command with another rule, within this process."""
-    with mock.patch.object(where, name, value), mock.patch.object(sys.modules[__name__], "ran", here):
+    with mock.patch.object(where, name, value), mock.patch.object(sys.modules[__name__], "run_command", here):
         yield
 
 
@@ -340,6 +365,11 @@ WRONG = {
                                      an_object_of_what_fails),
     "requests that nobody sees": (wrong(output, "detail", lambda _: None), loud_and_quiet),
     "messages that are never quiet": (wrong(output, "write", always_written), loud_and_quiet),
+    "zsh without our file": (wrong(shells, "SETTINGS", shells.SETTINGS | {
+        "zsh": shells.SETTINGS["zsh"].replace("operations/install", "none")}), completion_at_the_keys),
+    "bash without our file": (wrong(shells, "SETTINGS", shells.SETTINGS | {
+        "bash": shells.SETTINGS["bash"].replace("operations/install/ropepeach.bash", "VERSION")}),
+                              completion_at_the_keys),
     "bytes that never wait": (wrong(limits.Limits, "pace", lambda *_: None), bytes_a_second),
     "a rate for each process": (wrong(limits.Rate, "wait", lambda rate,
                                       size: time.sleep(size / rate.bytes_a_second)), bytes_a_second),

@@ -1,4 +1,5 @@
-"""What operations.tests.tools.line runs the command on, and how: here, on a terminal, for each command, for completion."""
+"""What operations.tests.tools.line runs the command on, and how: here, on a terminal, for each command, for completion.
+"""
 from __future__ import annotations
 
 import contextlib
@@ -45,8 +46,10 @@ def surroundings(room: Path, program: Path) -> Iterator[dict[str, Sequence[str]]
         lines = [f'address = "{server.url}"', "[source.s1]", f'address = "{server.url}"', f'base = "{server.url}"',
                  f'file = "{room}/a.disk"']
         Path("collection.toml").write_text("\n".join(lines))
+        here("mirror", server.url, "checked")
         yield {
             "fill": [str(folder), server.url], "mirror": [server.url, "m"], "look": ["a.disk"],
+            "check": ["checked"],
             "size": [str(folder)],
             "why": ["a.disk", str(server.port)], "health": [server.url], "site": ["https://a.example"],
             "collection": ["collection.toml", "--into", "into"],
@@ -61,6 +64,20 @@ def status_and(done: Ran, status: int) -> Ran:
     """A run that has to end with a status."""
     wanted(done.returncode == status, f"status {done.returncode}, and not {status}: {done}")
     return done
+
+
+@contextlib.contextmanager
+def collection_of_two(program: Path, room: Path) -> Iterator[list[Server]]:
+    """Two sources, and the file collection.toml of them in this folder."""
+    base = "https://a.example"
+    with (Server(program, room / "0.disk", base=f"{base}/s0") as first,
+          Server(program, room / "1.disk", base=f"{base}/s1") as other):
+        lines = [f'address = "{base}"']
+        for number, server in enumerate((first, other)):
+            lines += [f"[source.s{number}]", f'address = "{server.url}"', f'base = "{base}/s{number}"',
+                      f'file = "{server.disk}"']
+        Path("collection.toml").write_text("\n".join(lines))
+        yield [first, other]
 
 
 def object_of(name: str, done: Ran) -> dict[str, Any]:
@@ -83,12 +100,12 @@ def on_a_terminal(words: Sequence[str], settings: dict[str, str]) -> str:
     line = [*rows.words_of_command(), *words]
     with subprocess.Popen(line, stdin=its, stdout=its, stderr=its, env=os.environ | settings):
         os.close(its)
-        said = b""
+        output = b""
         with contextlib.suppress(OSError):
             while piece := os.read(ours, 65_536):
-                said += piece
+                output += piece
     os.close(ours)
-    return said.decode(errors="replace")
+    return output.decode(errors="replace")
 
 
 def completed(shell: str, text: str) -> list[str]:

@@ -1,10 +1,14 @@
 """A store that is made up: the commands `ceph` and `findmnt`, which answer what a row wants (takeover.py)."""
+from __future__ import annotations
+
 import contextlib
 import copy
 import datetime
 import json
 import shutil
+from collections.abc import Callable, Iterator, Mapping
 from pathlib import Path
+from typing import Any
 
 from tests.disks import disks
 
@@ -18,23 +22,26 @@ exec cat "${0%/*}/answers/${0##*/}-$*"
 """
 
 
-def until(**more):
+def until(**more: float) -> str:
     """A moment from now on, as the store writes it."""
-    return (datetime.datetime.now(datetime.timezone.utc) + datetime.timedelta(**more)).strftime("%Y-%m-%dT%H:%M:%S.%f+0000")
+    return (
+        datetime.datetime.now(datetime.timezone.utc) + datetime.timedelta(**more)).strftime("%Y-%m-%dT%H:%M:%S.%f+0000")
 
 
-def session(address, number):
+def session(address: str, number: int) -> dict[str, Any]:
+    """A session of a client with an address, as the store writes it."""
     return {"id": number, "state": "open", "entity": {"addr": {"type": "v1", "addr": f"{address}:0", "nonce": 7}}}
 
 
-def group(number, state="active+clean"):
+def group(number: str, state: str = "active+clean") -> dict[str, Any]:
+    """A group of copies, as the store writes it."""
     return {"pgid": number, "state": state, "up": [0, 1, 2], "acting": [0, 1, 2]}
 
 
 class MadeUp:
     """What a store answers, which a row changes: at first all is done, and OTHER was lost."""
 
-    def __init__(self, room):
+    def __init__(self, room: Path) -> None:
         self.room, self.bin = Path(room), Path(room, "bin")
         self.bin.mkdir()
         (self.room / "run").mkdir()
@@ -43,33 +50,42 @@ class MadeUp:
         self.file = self.room / "a.disk"
         disks.disk(room, "empty", "a.disk")
         # (a mount that was killed has left its socket, and a copy's process has one)
-        for it in ("ceph-client.admin.3.4.asok", "ceph-osd.1.5.6.asok"):
-            (self.room / "run" / it).touch()
+        for name in ("ceph-client.admin.3.4.asok", "ceph-osd.1.5.6.asok"):
+            (self.room / "run" / name).touch()
         pool = {"type": 1, "size": 3, "min_size": 2}
-        self.answers = {
-            "mount": {"filesystems": [{"target": str(self.room), "fstype": "fuse.ceph-fuse", "options": "rw,nosuid,nodev"}]},
+        self.answers: dict[str, Any] = {
+            "mount": {"filesystems": [{"target": str(self.room), "fstype": "fuse.ceph-fuse",
+                                       "options": "rw,nosuid,nodev"}]},
             "daemon": {"metadata": {"mount_point": str(self.room)}, "inst": {"addr": {"addr": f"{HERE}:0", "nonce": 9}},
                        "blocklisted": False, "fs_name": "fs"},
-            "config": {"client_force_lazyio": "false", "fuse_use_invalidate_cb": "true", "client_reconnect_stale": "false", "client_oc": "true"},
+            "config": {"client_force_lazyio": "false", "fuse_use_invalidate_cb": "true",
+                       "client_reconnect_stale": "false", "client_oc": "true"},
             "sessions": [session(HERE, 5), session("10.78.0.11", 6)],
             "status": {"health": {"status": "HEALTH_WARN", "checks": {"OSD_DOWN": {}}}, "mgrmap": {"available": True}},
             "systems": [{"name": "fs", "metadata_pool": "meta", "data_pools": ["data"]}],
             "dump": {"blocklist": {f"{OTHER}:0/0": until(days=365), "10.78.0.9:6801/22": until(hours=1)},
-                     "pools": [{"pool": 2, "pool_name": "data", "application_metadata": {"cephfs": {"data": "fs"}}, **pool},
-                               {"pool": 3, "pool_name": "meta", "application_metadata": {"cephfs": {"metadata": "fs"}}, **pool},
-                               {"pool": 4, "pool_name": "other", "application_metadata": {"rbd": {}}, **pool, "min_size": 1},
-                               {"pool": 5, "pool_name": "b", "application_metadata": {"cephfs": {"data": "b"}}, **pool, "size": 1}]},
-            "groups": {"pg_ready": True, "pg_stats": [group("2.0", "active+undersized+degraded"), group("3.1"), group("4.0", "down")]},
+                     "pools": [{"pool": 2, "pool_name": "data", "application_metadata": {"cephfs": {"data": "fs"}},
+                                **pool},
+                               {"pool": 3, "pool_name": "meta", "application_metadata": {"cephfs": {"metadata": "fs"}},
+                                **pool},
+                               {"pool": 4, "pool_name": "other", "application_metadata": {"rbd": {}}, **pool,
+                                "min_size": 1},
+                               {"pool": 5, "pool_name": "b", "application_metadata": {"cephfs": {"data": "b"}}, **pool,
+                                "size": 1}]},
+            "groups": {"pg_ready": True,
+                       "pg_stats": [group("2.0", "active+undersized+degraded"), group("3.1"), group("4.0", "down")]},
         }
 
-    def places(self):
+    def places(self) -> dict[str, str]:
         """The file in which the made-up command finds each answer."""
         target = f"--json --target {self.room.resolve()}/a.disk --output TARGET,FSTYPE,OPTIONS"
-        return {"mount": f"findmnt-{target}", "daemon": f"ceph-daemon {self.socket} status", "config": f"ceph-daemon {self.socket} config show",
+        return {"mount": f"findmnt-{target}", "daemon": f"ceph-daemon {self.socket} status",
+                "config": f"ceph-daemon {self.socket} config show",
                 "sessions": "ceph-tell mds.fs:0 session ls", "status": "ceph-status", "systems": "ceph-fs ls",
                 "dump": "ceph-osd dump", "groups": "ceph-pg dump pgs_brief"}
 
-    def write(self):
+    def write(self) -> None:
+        """Writes the commands, and the file of each answer."""
         shutil.rmtree(self.bin)
         self.bin.mkdir()
         for name in ("ceph", "findmnt"):
@@ -81,14 +97,14 @@ class MadeUp:
                 path.parent.mkdir(parents=True, exist_ok=True)
                 path.write_text(json.dumps(self.answers[name]))
 
-    def fence(self, fences):
+    def fence(self, fences: Mapping[str, str]) -> None:
         """The store's list of fences."""
         self.answers["dump"]["blocklist"] = fences
 
     @contextlib.contextmanager
-    def changed(self, name, change):
+    def changed(self, name: str, change: Callable[[Any], Any]) -> Iterator[None]:
         """The store with one answer changed in place, or by another one."""
-        kept = copy.deepcopy(self.answers)
+        before = copy.deepcopy(self.answers)
         self.answers[name] = change(self.answers[name]) or self.answers[name]
         yield
-        self.answers = kept
+        self.answers = before

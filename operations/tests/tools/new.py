@@ -1,4 +1,5 @@
-"""Looks at `ropepeach new`, `remove`, `backup` and `restore` on a made-up machine (one_machine.py), also stopped at each of their steps.
+"""Looks at `ropepeach new`, `remove`, `backup` and `restore` on a made-up machine (one_machine.py), also stopped at
+each of their steps.
 
 usage: python3 -m operations.tests.tools.new [PROGRAM]     as root; the built program, if none is given
 A line for each row; exit status 1 if one does not hold, 77 if it can't be tried.
@@ -6,20 +7,18 @@ A line for each row; exit status 1 if one does not hold, 77 if it can't be tried
 from __future__ import annotations
 
 import contextlib
-import http.client
 import os
 import shutil
 import signal
 import socket
 import subprocess
 import sys
-import time
 from collections.abc import Iterator
 from pathlib import Path
 from unittest import mock
 
 from operations.tests.tools import one_machine, rows
-from operations.tests.tools.one_machine import Machine, machine
+from operations.tests.tools.one_machine import Machine, is_closed, machine, request, until
 from operations.tests.tools.rows import page_of, status_of, tell, wanted
 from tests.program import PROGRAM, TOOLS
 from tests.skipped import SKIPPED
@@ -33,17 +32,8 @@ FILE_STEPS = 6
 BODY = b"a body of a deposit"
 
 
-def asked(made: Machine, method: str, path: str, body: bytes | None = None) -> tuple[int, bytes]:
-    """What the source answers on its port."""
-    settings = (made.room / "etc/ropepeach/one.env").read_text()
-    port = int(settings.rpartition("PORT=")[2])
-    with contextlib.closing(http.client.HTTPConnection("127.0.0.1", port, timeout=30)) as connection:
-        connection.request(method, path, body, {"Content-Type": "text/plain"} if body is not None else {})
-        answer = connection.getresponse()
-        return answer.status, answer.read()
-
-
 def disk(made: Machine) -> os.stat_result:
+    """The facts of the file of the source."""
     return (made.room / "lib/ropepeach/one.disk").stat()
 
 
@@ -57,20 +47,21 @@ def is_made(made: Machine) -> None:
     site = made.room / "etc/nginx/sites-enabled/ropepeach-one"
     wanted(os.readlink(site) == "/etc/nginx/sites-available/ropepeach-one", "the site is not enabled")
     wanted(made.run("nginx", "-t").returncode == 0, "nginx takes it not")
-    status, text = asked(made, "GET", "/.well-known/resourcesync")
+    status, text = request(made, "GET", "/.well-known/resourcesync")
     wanted(status == 200 and PLAIN.encode() in text, f"status {status}")
 
 
 def a_source_is_made(room: Path, program: Path) -> str:
     """File, settings, units and site; a second run changes nothing."""
     with machine(room / "m", program) as made:
-        said = status_of(made.command(*TRY), 0, "is served", "ropepeach fill FOLDER http://127.0.0.1:")
+        output = status_of(made.command(*TRY), 0, "is served", "ropepeach fill FOLDER http://127.0.0.1:")
         is_made(made)
-        wanted("enable --now ropepeach@one.service ropepeach-health@one.timer ropepeach-verify@one.timer" in made.calls(), made.calls())
+        units = "ropepeach@one.service ropepeach-health@one.timer ropepeach-verify@one.timer"
+        wanted(f"enable --now {units}" in made.calls(), made.calls())
         before = made.tree()
         status_of(made.command(*TRY), 0, "is served")
         wanted(made.tree() == before, "the second run changed something")
-        return f"{len(said.splitlines())} lines"
+        return f"{len(output.splitlines())} lines"
 
 
 def it_is_as_large_as_its_folder_wants(room: Path, program: Path) -> str:
@@ -97,9 +88,11 @@ def stopped_at_each_step_it_is_run_again(room: Path, program: Path) -> str:
         for when in ["KILL_BEHIND"] + ["KILL_BEFORE"] * (number > FILE_STEPS):
             with machine(room / f"{number}{when}", program) as made:
                 ended = made.command(*TRY, **{when: str(number)})
-                wanted(ended.returncode == -signal.SIGKILL or ended.returncode == 128 + signal.SIGKILL, f"{number}: {ended.returncode}")
+                wanted(ended.returncode == -signal.SIGKILL or ended.returncode == 128 + signal.SIGKILL,
+                       f"{number}: {ended.returncode}")
                 if (made.room / "lib/ropepeach/one.disk").exists():
-                    wanted(disk(made).st_blocks * 512 >= SIZE and made.look(FILE)["base"] == PLAIN, f"{number}: half a file")
+                    wanted(disk(made).st_blocks * 512 >= SIZE and made.look(FILE)["base"] == PLAIN,
+                           f"{number}: half a file")
                 status_of(made.command(*TRY), 0, "is served")
                 is_made(made)
             shutil.rmtree(room / f"{number}{when}")
@@ -110,16 +103,17 @@ def certify(folder: Path) -> None:
     """Two certificates of the host, and their keys."""
     folder.mkdir()
     for name in ("a", "b"):
-        subprocess.run(["openssl", "req", "-x509", "-newkey", "ec", "-pkeyopt", "ec_paramgen_curve:prime256v1", "-nodes", "-days", "2",
-                        "-subj", "/CN=source.example.org", "-keyout", folder / f"{name}.key", "-out", folder / f"{name}.pem"],
+        subprocess.run(["openssl", "req", "-x509", "-newkey", "ec", "-pkeyopt", "ec_paramgen_curve:prime256v1",
+                        "-nodes", "-days", "2", "-subj", "/CN=source.example.org", "-keyout", folder / f"{name}.key",
+                        "-out", folder / f"{name}.pem"],
                        check=True, capture_output=True)
 
 
 def refused(made: Machine, status: int, phrase: str, *words: str, **more: str) -> None:
     """A run that is refused in a line or two, and changes nothing."""
     before = made.tree()
-    said = status_of(made.command(*words, **more), status, phrase)
-    wanted("Traceback" not in said and len(said.splitlines()) <= 12, said)
+    output = status_of(made.command(*words, **more), status, phrase)
+    wanted("Traceback" not in output and len(output.splitlines()) <= 12, output)
     wanted(made.tree() == before, f"{phrase}: something was changed")
 
 
@@ -139,7 +133,8 @@ def what_is_wrong_is_said_first(room: Path, program: Path) -> str:
         refused(made, 3, "in use", *TRY, "--port", taken)
         refused(made, 2, "a port is", *TRY, "--port", "65536")
         refused(made, 3, "there is no certificate for source.example.org", *new, BASE)
-        refused(made, 3, "no certificate with its key", *new, BASE, "--certificate", "/etc/ssl/here/a.pem", "--key", "/etc/ssl/here/b.key")
+        refused(made, 3, "no certificate with its key", *new, BASE, "--certificate", "/etc/ssl/here/a.pem",
+                "--key", "/etc/ssl/here/b.key")
         refused(made, 2, "come together", *new, BASE, "--certificate", "/etc/ssl/here/a.pem")
         refused(made, 2, "a source uses", *TRY[:5], "--size", "5GiB")
         refused(made, 3, "bytes free", *TRY[:5], "--size", "4GiB") if room_of(made) < 4 << 30 else None
@@ -148,9 +143,11 @@ def what_is_wrong_is_said_first(room: Path, program: Path) -> str:
         for name in ("python3", "rs_source", "runuser", "fallocate", "systemctl"):
             (made.room / "bin/only" / name).symlink_to(shutil.which(name) or f"/usr/local/bin/{name}")
         refused(made, 3, "nginx is not installed", *TRY, PATH="/usr/local/bin/only")
-        status_of(made.command(*new, BASE, "--certificate", "/etc/ssl/here/a.pem", "--key", "/etc/ssl/here/a.key", "--size", "1MiB"), 0, "is served")
+        status_of(made.command(*new, BASE, "--certificate", "/etc/ssl/here/a.pem",
+                               "--key", "/etc/ssl/here/a.key", "--size", "1MiB"), 0, "is served")
         refused(made, 3, f"has the base {BASE}", *TRY)
-        refused(made, 3, "is that of the source one", "new", "two", "--base", "http://two.example.org", "--http", "--port", "8080")
+        refused(made, 3, "is that of the source one", "new", "two", "--base", "http://two.example.org", "--http",
+                "--port", "8080")
     return "16 refusals"
 
 
@@ -167,7 +164,8 @@ def a_full_file_system_has_nothing_half_made(room: Path, program: Path) -> str:
         fallocate.write_text("#!/bin/sh\necho 'fallocate: fallocate failed: No space left on device' >&2\nexit 1\n")
         fallocate.chmod(0o755)
         status_of(made.command(*TRY), 1, "its room, reserved", "No space left on device")
-        wanted(not (made.room / "lib/ropepeach/one.disk").exists() and not (made.room / "etc/ropepeach/one.env").exists(), "half a source")
+        wanted(not (made.room / "lib/ropepeach/one.disk").exists()
+               and not (made.room / "etc/ropepeach/one.env").exists(), "half a source")
         fallocate.unlink()
         status_of(made.command(*TRY), 0, "is served")
         is_made(made)
@@ -197,51 +195,36 @@ def what_is_printed_does_the_same(room: Path, program: Path) -> str:
         ended = made.run("sh", "-c", script)
         wanted(ended.returncode == 0, ended.stderr)
         is_made(made)
-        first = {name: it for name, it in made.tree().items() if not name.endswith(".disk")}
+        first = {name: body for name, body in made.tree().items() if not name.endswith(".disk")}
         os.kill(made.pid("one"), signal.SIGKILL)
         until(lambda: is_closed(made))
         other.command(*TRY)
-        second = {name: it for name, it in other.tree().items() if not name.endswith(".disk")}
+        second = {name: body for name, body in other.tree().items() if not name.endswith(".disk")}
         wanted(first == second, f"{set(first.items()) ^ set(second.items())}")
         return f"{len(script.splitlines())} lines of shell"
-
-
-def is_closed(made: Machine) -> bool:
-    """Whether nobody listens on the port of the source."""
-    try:
-        asked(made, "GET", "/capabilitylist.xml")
-    except ConnectionError:
-        return True
-    return False
-
-
-def until(holds: object, seconds: float = 30) -> None:
-    """Waits until something holds."""
-    end = time.monotonic() + seconds
-    while not holds():  # type: ignore[operator]
-        wanted(time.monotonic() < end, f"not within {seconds} seconds")
-        time.sleep(0.05)
 
 
 def what_is_removed_is_kept(room: Path, program: Path) -> str:
     """`remove` stops and disables; the file stays, and `new` serves it again."""
     with machine(room / "m", program) as made:
         made.command(*TRY)
-        asked(made, "PUT", "/resource/kept", BODY)
+        request(made, "PUT", "/resource/kept", BODY)
         status_of(made.command("remove", "one"), 0, "out of service", FILE)
-        wanted(is_closed(made) and not os.path.lexists(made.room / "etc/nginx/sites-enabled/ropepeach-one"), "it is served yet")
+        wanted(is_closed(made) and not os.path.lexists(made.room / "etc/nginx/sites-enabled/ropepeach-one"),
+               "it is served yet")
         status_of(made.command("remove", "one"), 0, "out of service")
         refused(made, 3, "there is no source two here", "remove", "two")
         status_of(made.command(*TRY), 0, "is served")
-        wanted(asked(made, "GET", "/resource/kept") == (200, BODY), "the resource is gone")
+        wanted(request(made, "GET", "/resource/kept") == (200, BODY), "the resource is gone")
     return "and served again"
 
 
 def a_backup_opens(room: Path, program: Path) -> str:
-    """A copy of a source that is put to is whole; the source goes on, also where the command is killed amid the copy."""
+    """A copy of a source that is put to is whole; the source goes on, also where the command is killed amid the copy.
+    """
     with machine(room / "m", program) as made:
         made.command(*TRY)
-        asked(made, "PUT", "/resource/kept", BODY)
+        request(made, "PUT", "/resource/kept", BODY)
         status_of(made.command("backup", "one", "/var/cache/b.disk"), 0, "resources 1", "verified 1")
         refused(made, 3, "is there already", "backup", "one", "/var/cache/b.disk")
         slow = made.room / "bin/cp"
@@ -249,7 +232,7 @@ def a_backup_opens(room: Path, program: Path) -> str:
         slow.chmod(0o755)
         made.command("backup", "one", "/var/cache/c.disk")
         slow.unlink()
-        until(lambda: asked(made, "GET", "/resource/kept") == (200, BODY))
+        until(lambda: request(made, "GET", "/resource/kept") == (200, BODY))
         wanted(not (made.room / "cache/c.disk").exists(), "half a copy has the name")
         status_of(made.command("backup", "one", "/var/cache/c.disk"), 0, "verified 1")
         damage(made)
@@ -276,22 +259,25 @@ def with_backup(room: Path, program: Path) -> Iterator[Machine]:
     """A source with a backup of one resource, and a later resource."""
     with machine(room, program) as made:
         made.command(*TRY)
-        asked(made, "PUT", "/resource/kept", BODY)
+        request(made, "PUT", "/resource/kept", BODY)
         made.command("backup", "one", "/var/cache/b.disk")
-        asked(made, "PUT", "/resource/later", BODY)
+        request(made, "PUT", "/resource/later", BODY)
         yield made
 
 
 def is_restored(made: Machine) -> None:
     """The backup is served, reserved, and the old file is kept."""
-    wanted([asked(made, "GET", f"/resource/{name}")[0] for name in ("kept", "later")] == [200, 404], "not the backup")
+    wanted([request(made, "GET", f"/resource/{name}")[0] for name in ("kept", "later")] == [200, 404], "not the backup")
     wanted(disk(made).st_blocks * 512 >= SIZE and disk(made).st_uid == one_machine.NUMBER, "the room is not reserved")
-    old = [it for it in os.listdir(made.room / "lib/ropepeach") if ".before-" in it]
-    wanted(old and all(made.look(f"/var/lib/ropepeach/{it}")["base"] == PLAIN for it in old), f"the old file: {old}")
+    old = [name for name in os.listdir(made.room / "lib/ropepeach") if ".before-" in name]
+    wanted(old and all(made.look(f"/var/lib/ropepeach/{name}")["base"] == PLAIN for name in old),
+           f"the old file: {old}")
 
 
 def a_backup_is_restored(room: Path, program: Path) -> str:
-    """The backup is served and the old file kept; what is no backup of this source is refused; stopped anywhere, it is run again."""
+    """The backup is served and the old file kept; what is no backup of this source is refused; stopped anywhere, it is
+    run again.
+    """
     with with_backup(room / "m", program) as made:
         status_of(made.command(*RESTORE), 0, "resources 1", "the old file is")
         count = made.count()
@@ -326,12 +312,14 @@ def no_root_no_change(room: Path, program: Path) -> str:
 
 
 def the_pages_of_the_manual(room: Path, program: Path) -> str:
+    """The pages of the manual have the options and the exit statuses of the commands."""
     return "; ".join(page_of(name) for name in ("new", "remove", "backup", "restore"))
 
 
-ROWS = [a_source_is_made, it_is_as_large_as_its_folder_wants, stopped_at_each_step_it_is_run_again, what_is_wrong_is_said_first,
-        a_full_file_system_has_nothing_half_made, what_nginx_refuses_is_taken_back, what_is_printed_does_the_same, what_is_removed_is_kept,
-        a_backup_opens, a_backup_is_restored, no_root_no_change, the_pages_of_the_manual]
+ROWS = [a_source_is_made, it_is_as_large_as_its_folder_wants, stopped_at_each_step_it_is_run_again,
+        what_is_wrong_is_said_first, a_full_file_system_has_nothing_half_made, what_nginx_refuses_is_taken_back,
+        what_is_printed_does_the_same, what_is_removed_is_kept, a_backup_opens, a_backup_is_restored, no_root_no_change,
+        the_pages_of_the_manual]
 
 
 @contextlib.contextmanager
@@ -353,11 +341,14 @@ def planted(file: str, old: str, new: str) -> Iterator[None]:
 
 WRONG = {
     "the file has its name at once": (
-        planted("new.py", 'fresh, folder = f"{file}.new"', 'fresh, folder = f"{file}"'), stopped_at_each_step_it_is_run_again),
+        planted("new.py", 'fresh, folder = f"{file}.new"', 'fresh, folder = f"{file}"'),
+        stopped_at_each_step_it_is_run_again),
     "its room is not reserved": (
-        planted("new.py", 'as_user(user, "fallocate", "--length", str(self.size), fresh)', 'as_user(user, "true")'), a_source_is_made),
+        planted("new.py", 'as_user(user, "fallocate", "--length", str(self.size), fresh)', 'as_user(user, "true")'),
+        a_source_is_made),
     "a file of a run that was stopped stays": (
-        planted("new.py", 'as_user(user, "rm", "-f", fresh)', 'as_user(user, "true")'), stopped_at_each_step_it_is_run_again),
+        planted("new.py", 'as_user(user, "rm", "-f", fresh)', 'as_user(user, "true")'),
+        stopped_at_each_step_it_is_run_again),
     "a refused site stays": (
         planted("new.py", "self.link.unlink(missing_ok=True)", "pass"), what_nginx_refuses_is_taken_back),
     "nginx is not asked": (
@@ -369,7 +360,8 @@ WRONG = {
     "a copy is not compared": (
         planted("backup.py", "if damaged:", "if False:"), a_backup_opens),
     "the old file is not kept": (
-        planted("restore.py", 'as_user(user, "ln", "-T", str(file), kept)', 'as_user(user, "true")'), a_backup_is_restored),
+        planted("restore.py", 'as_user(user, "ln", "-T", str(file), old_file)', 'as_user(user, "true")'),
+        a_backup_is_restored),
     "any backup will do": (
         planted("restore.py", "if old_base not in (None, base)", "if False"), a_backup_is_restored),
 }

@@ -1,11 +1,16 @@
 """The calls by which `ropepeach mirror` changes a folder, as the system gets them, in their order.
 
-The command runs with a C library (`cc` builds it) that notes each call on what lies below FOLDER. It takes no more than AT_ONCE bytes in
-one write, lets a sync of all last SLOW microseconds longer, and lets the call FAILS fail, counted from 1 in the list, by the error ERROR.
+The command runs with a C library (`cc` builds it) that notes each call on what lies below FOLDER. It takes no more than
+AT_ONCE bytes in one write, lets a sync of all last SLOW microseconds longer, and lets the call FAILS fail, counted from
+1 in the list, by the error ERROR.
 """
-import collections
+from __future__ import annotations
+
 import os
+import pathlib
 import subprocess
+from collections.abc import Sequence
+from typing import NamedTuple
 
 from operations.tests import PYTHON
 from operations.tests.mirror.mirrors import DIRECT
@@ -41,7 +46,8 @@ static const char *path_of(int fd, char *into) {
 /* Whether a call fails, and a line of the list: the call, whether it failed, and one path or two. */
 static int fails(const char *call, const char *path, const char *to) {
     char line[9000];
-    int is_failing = ++calls == failing, n = snprintf(line, sizeof line, "%s\t%d\t%s\t%s\n", call, is_failing, path, to);
+    int is_failing = ++calls == failing;
+    int n = snprintf(line, sizeof line, "%s\t%d\t%s\t%s\n", call, is_failing, path, to);
     long log = syscall(SYS_openat, AT_FDCWD, getenv("CALLS"), O_WRONLY | O_CREAT | O_APPEND, 0600);
     syscall(SYS_write, log, line, n);
     syscall(SYS_close, log);
@@ -58,7 +64,8 @@ static const char *whole(int at, const char *path, char *into) {
 #define ON_PATH(call, path, to, made) return ours(path) && fails(call, path, to) ? -1 : (made)
 static int opened(int at, const char *path, int flags, int mode) {
     char from[9000];
-    if (flags & (O_CREAT | O_TRUNC) && ours(whole(at, path, from)) && fails("make", whole(at, path, from), "")) return -1;
+    if (flags & (O_CREAT | O_TRUNC) && ours(whole(at, path, from)) && fails("make", whole(at, path, from), ""))
+        return -1;
     return syscall(SYS_openat, at, path, flags, mode);
 }
 #define MODE(after) va_list more; va_start(more, after); int mode = va_arg(more, int); va_end(more)
@@ -95,13 +102,23 @@ int mkdirat(int at, const char *path, mode_t mode) {
 int mkdir(const char *path, mode_t mode) { return mkdirat(AT_FDCWD, path, mode); }
 int unlinkat(int at, const char *path, int flags) {
     char one[9000];
-    ON_PATH(flags & AT_REMOVEDIR ? "rmdir" : "unlink", whole(at, path, one), "", syscall(SYS_unlinkat, at, path, flags));
+    ON_PATH(flags & AT_REMOVEDIR ? "rmdir" : "unlink", whole(at, path, one), "",
+            syscall(SYS_unlinkat, at, path, flags));
 }
 int rmdir(const char *path) { return unlinkat(AT_FDCWD, path, AT_REMOVEDIR); }
 int unlink(const char *path) { return unlinkat(AT_FDCWD, path, 0); }
 """
-# A call: its name, whether it was let fail, the path and the other one, below the folder; the folder itself is ``.
-Call = collections.namedtuple("Call", "name failed path to")
+
+
+class Call(NamedTuple):
+    """A call: its name, whether it was let fail, the path and the other one, below the folder, which itself is ``."""
+
+    name: str
+    failed: bool
+    path: str
+    to: str
+
+
 # Runs `mirror` with batches of 3 files.
 RUN = """import sys
 sys.path.insert(0, sys.argv.pop(1))
@@ -111,13 +128,18 @@ sys.exit(command.main(sys.argv[1:]))
 """
 
 
-def noted(room, words, tools=TOOLS, **settings):
-    """A run of `mirror` on the folder `m`, of the package in this folder: its exit status, its complaints, and its calls."""
+def noted(room: pathlib.Path, words: Sequence[str], tools: str | pathlib.Path = TOOLS,
+          **settings: object) -> tuple[int, str, list[Call]]:
+    """A run of `mirror` on the folder `m`, of the package in this folder: its exit status, its complaints, and its
+    calls.
+    """
     log, folder = room / "calls", str(room / "m")
     log.unlink(missing_ok=True)
     environment = interposed(room, "noted", SHIM) | DIRECT | {"CALLS": str(log), "FOLDER": folder}
     environment |= {name: str(value) for name, value in settings.items()}
-    ran = subprocess.run([PYTHON, "-c", RUN, tools, "mirror", *words, folder], env=environment, capture_output=True, text=True, timeout=SECONDS)
-    lines = [it.split("\t") for it in log.read_text().splitlines()] if log.exists() else []
+    process = subprocess.run([PYTHON, "-c", RUN, tools, "mirror", *words, folder], env=environment, capture_output=True,
+                             text=True, timeout=SECONDS)
+    lines = [line.split("\t") for line in log.read_text().splitlines()] if log.exists() else []
     below = lambda path: os.path.relpath(path, folder) if path else ""
-    return ran.returncode, ran.stderr, [Call(name, failed == "1", below(path), below(to)) for name, failed, path, to in lines]
+    return process.returncode, process.stderr, [Call(name, failed == "1", below(path), below(to))
+                                                for name, failed, path, to in lines]

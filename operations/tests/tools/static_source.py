@@ -10,8 +10,10 @@ import email.utils
 import gzip
 import hashlib
 import http.server
+import io
 import threading
 import time
+import zipfile
 from collections.abc import Iterator
 from xml.sax.saxutils import escape
 
@@ -35,6 +37,7 @@ class Style:
     has_changes: bool = True
     has_description: bool = True
     has_dump: bool = False
+    has_list: bool = True
 
 
 STYLES = {
@@ -67,15 +70,42 @@ def url(loc: str, lastmod: str = "", inner: str = "", tag: str = "url") -> str:
 
 def facts(style: Style, body: bytes, **more: str) -> str:
     """What a style says of a body."""
-    hashes = " ".join(f"{it}:{hashlib.new(it.replace('-', ''), body).hexdigest()}" for it in style.hashes)
+    hashes = " ".join(f"{name}:{hashlib.new(name.replace('-', ''), body).hexdigest()}" for name in style.hashes)
     return md(**more, hash=hashes, length=str(len(body)) if style.has_length else "", type=style.kind)
+
+
+def archive(style: Style, base: str, files: dict[str, bytes], at: str = FIRST, kind: str = "resource",
+            changes: dict[str, str] | None = None) -> bytes:
+    """An archive of a dump: a manifest, and the files. Of changes it is what happened to each file."""
+    packed, entries = io.BytesIO(), []
+    with zipfile.ZipFile(packed, "w", zipfile.ZIP_DEFLATED) as file:
+        for number, (name, body) in enumerate(files.items()):
+            more = {"change": changes[name], "datetime": at} if changes else {}
+            entries.append(url(f"{base}{style.resources}{name}", at,
+                               facts(style, body, path=f"/resources/{number}", **more)))
+            file.writestr(f"resources/{number}", body)
+        head = md(capability=f"{kind}dump-manifest", **{"at" if kind == "resource" else "from": at})
+        file.writestr("manifest.xml", urlset(head, entries))
+    return packed.getvalue()
+
+
+def dump(style: Style, base: str, archives: dict[str, bytes], at: str = FIRST, kind: str = "resource",
+         ) -> dict[str, bytes]:
+    """The document of a dump, and its archives by name."""
+    entries = [url(f"{base}{style.lists}{name}", at,
+                   md(hash=f"md5:{hashlib.md5(data).hexdigest()}", length=str(len(data)), type="application/zip"))
+               for name, data in archives.items()]
+    head = md(capability=f"{kind}dump", **{"at" if kind == "resource" else "from": at})
+    return {f"{style.lists}{kind}dump.xml": urlset(head, entries)} | {
+        style.lists + name: data for name, data in archives.items()}
 
 
 def lists_of(style: Style, base: str, files: dict[str, bytes], at: str = FIRST,
              changes: list[str] | None = None) -> dict[str, bytes]:
     """The documents and the files of a source, by path. The changes are entries that `url` made."""
     where, up = base + style.lists, f'<rs:ln rel="up" href="{base}{style.lists}capabilitylist.xml"/>'
-    named = ["resourcelist"] + ["changelist"] * style.has_changes + ["resourcedump"] * style.has_dump
+    capabilities = ["resourcelist"] * style.has_list + ["changelist"] * style.has_changes
+    capabilities += ["resourcedump"] * style.has_dump
     listed = [url(f"{base}{style.resources}{name}", at, facts(style, body)) for name, body in files.items()]
     head = up + md(capability="resourcelist", at=at if style.has_at else "") if style.has_description else ""
     texts = {style.lists + "resourcelist.xml": urlset(head, listed)}
@@ -83,12 +113,14 @@ def lists_of(style: Style, base: str, files: dict[str, bytes], at: str = FIRST,
         texts[style.lists + "changelist.xml"] = urlset(up + md(capability="changelist", **{"from": at}),
                                                        changes or [])
     if style.has_description:
-        entries = [url(f"{where}{it}.xml", inner=md(capability=it)) for it in named]
+        entries = [url(f"{where}{capability}.xml", inner=md(capability=capability)) for capability in capabilities]
         texts[style.lists + "capabilitylist.xml"] = urlset(md(capability="capabilitylist"), entries)
         lists = [url(f"{where}capabilitylist.xml", inner=md(capability="capabilitylist"))]
         texts["/.well-known/resourcesync"] = urlset(md(capability="description"), lists)
     else:
         texts["/robots.txt"] = f"User-agent: *\nSitemap: {where}resourcelist.xml\n".encode()
+    if style.has_dump:
+        texts |= dump(style, base, {"dump.zip": archive(style, base, files, at)}, at)
     return texts | {style.resources + name: body for name, body in files.items()}
 
 
@@ -104,8 +136,10 @@ class Static(http.server.ThreadingHTTPServer):
         self.base = f"http://127.0.0.1:{self.server_address[1]}"
         self.files: dict[str, bytes] = {}
         self.fields: dict[str, list[tuple[str, str]]] = {}
-        self.asked: list[tuple[str, int]] = []
+        self.requests: list[tuple[str, int]] = []
         self.has_tags = self.has_dates = True
+        # The status of what has a field `Location`.
+        self.redirect = 302
 
     def hold(self, style: Style, files: dict[str, bytes], at: str = FIRST,
              changes: list[str] | None = None) -> None:
@@ -114,8 +148,8 @@ class Static(http.server.ThreadingHTTPServer):
 
     def statuses(self, front: str = "/") -> dict[str, int]:
         """The last status of each path that was asked for since this was called before."""
-        asked, self.asked = self.asked, []
-        return {path: status for path, status in asked if path.startswith(front)}
+        requests, self.requests = self.requests, []
+        return {path: status for path, status in requests if path.startswith(front)}
 
     def handle_error(self, request: object, client_address: object) -> None:
         """Says nothing of a client that leaves early."""
@@ -135,9 +169,12 @@ class Handler(http.server.BaseHTTPRequestHandler):
         tag = '"' + hashlib.md5(body or b"").hexdigest() + '"'
         is_same = self.server.has_tags and self.headers.get("If-None-Match") == tag
         status = 404 if body is None else 304 if is_same else 200
-        self.server.asked.append((self.path, status))
+        fields = self.server.fields.get(self.path, [])
+        if any(name == "Location" for name, _ in fields):
+            body, status = None, self.server.redirect
+        self.server.requests.append((self.path, status))
         self.send_response(status)
-        for name, text in self.server.fields.get(self.path, []):
+        for name, text in fields:
             self.send_header(name, text)
         if body is not None and self.server.has_tags:
             self.send_header("ETag", tag)

@@ -1,7 +1,10 @@
 """How much memory a run of the command takes for each file."""
+from __future__ import annotations
+
 import os
 import pathlib
 import subprocess
+from collections.abc import Sequence
 
 from operations.tests import PYTHON
 from operations.tests.mirror.mirrors import DIRECT
@@ -20,24 +23,25 @@ sys.exit(status)
 """
 
 
-def most_memory(*words):
+def most_memory(*words: object) -> int:
     """The most memory that a run of the command takes, in bytes."""
-    ran = subprocess.run([PYTHON, "-c", MEASURED, TOOLS, *words], stdout=subprocess.PIPE, text=True, env=os.environ | DIRECT, timeout=SECONDS)
-    same("its status", 0, ran.returncode)
-    return int(ran.stdout.split()[-1]) * 1024
+    process = subprocess.run([PYTHON, "-c", MEASURED, str(TOOLS), *map(str, words)], stdout=subprocess.PIPE, text=True,
+                             env=os.environ | DIRECT, timeout=SECONDS)
+    same("its status", 0, process.returncode)
+    return int(process.stdout.split()[-1]) * 1024
 
 
-def small_files(folder, count):
+def small_files(path: str | os.PathLike[str], count: int) -> pathlib.Path:
     """A folder of the files that tests/disks/paged_disk.py spells a source of."""
-    folder = pathlib.Path(folder)
+    folder = pathlib.Path(path)
     folder.mkdir()
-    for it in range(count):
-        (folder / f"name{it:05}").write_bytes(b"abc")
+    for number in range(count):
+        (folder / f"name{number:05}").write_bytes(b"abc")
     os.utime(folder / "name00000", (1_700_000_000, 1_700_000_000))
     return folder
 
 
-def little(what, figures):
+def little(what: str, figures: Sequence[float]) -> None:
     """Looks at what is taken for each file, by the figures of COUNTS."""
     each = (figures[1] - figures[0]) / (COUNTS[1] - COUNTS[0])
     print(f"{each:.0f} bytes of memory a file: {what}")

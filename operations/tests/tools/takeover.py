@@ -1,8 +1,8 @@
-"""Looks at `ropepeach takeover`: each step that is not done is refused by name, and with all done the file opens, or a copy of it.
+"""Looks at `ropepeach takeover`: each step that is not done is refused by name, and with all done the file opens, or a
+copy of it.
 
-The store is made up: the commands `ceph` and `findmnt` before the others on the PATH answer what a row wants. `python3
--m operations.tests.replicas` runs
-the command against a real one.
+The store is made up: the commands `ceph` and `findmnt` before the others on the PATH answer what a row wants.
+`python3 -m operations.tests.replicas` runs the command against a real one.
 
 usage: python3 -m operations.tests.tools.takeover [PROGRAM]     the built program, if none is given
 A line for each row; exit status 1 if one does not hold.
@@ -11,6 +11,7 @@ import contextlib
 import datetime
 import io
 import os
+import re
 import signal
 import subprocess
 import sys
@@ -19,7 +20,7 @@ from pathlib import Path
 from unittest import mock
 
 from operations.tests.tools.made_up_store import OTHER, MadeUp, group, session, until
-from operations.tests.tools.rows import page_of, ran, status_of, tell, wanted
+from operations.tests.tools.rows import page_of, run_command, status_of, tell, wanted
 from ropepeach import command, takeover, takeover_store
 from tests.program import PROGRAM
 
@@ -31,24 +32,30 @@ class Store(MadeUp):
         """Runs the command, which ends with this status and these phrases."""
         self.write()
         with mock.patch.dict(os.environ, PATH=f"{self.bin}:{os.environ['PATH']}"):
-            it = ran("takeover", str(self.file), other, "--program", str(program), "--sockets", str(self.room / "run"), "--wait", wait, *words)
-        return status_of(it, status, *phrases)
+            process = run_command("takeover", str(self.file), other, "--program", str(program),
+                                  "--sockets", str(self.room / "run"), "--wait", wait, *words)
+        return status_of(process, status, *phrases)
 
 
 def holds_of(program, path):
-    return subprocess.run([program, "run", path], input="status\n", capture_output=True, text=True, timeout=60).stdout.strip()
+    """What the program answers to `status` of a file."""
+    process = subprocess.run([program, "run", path], input="status\n", capture_output=True, text=True, timeout=60)
+    return process.stdout.strip()
 
 
 def all_is_done(room, program):
     """Each step is told, and what the file holds; the file stays as it is."""
     store = Store(room)
     before = store.file.read_bytes()
-    phrases = ["keeps no old bytes", f"{OTHER} is fenced until", "1 of them without a copy that was lost", holds_of(program, store.file)]
-    said = store.takes(program, phrases=phrases)
-    wanted([it.partition(":")[0] for it in said.splitlines()] == ["mount", "fence", "copies", "source", "every step is done"], said)
+    phrases = ["keeps no old bytes", f"{OTHER} is fenced until", "1 of them without a copy that was lost",
+               holds_of(program, store.file)]
+    output = store.takes(program, phrases=phrases)
+    steps = [line.partition(":")[0] for line in output.splitlines()]
+    wanted(steps == ["mount", "fence", "copies", "source", "every step is done"], output)
     wanted(store.file.read_bytes() == before and not list(room.glob("a.disk.*")), "the file was changed, or copied")
-    asked = (store.bin / "asked").read_text().splitlines()
-    wanted(not [it for it in asked if " add" in it or " rm" in it or "evict" in it or " set" in it], f"the store was changed: {asked}")
+    commands = (store.bin / "asked").read_text().splitlines()
+    changing = [command for command in commands if re.search(" add|evict| rm| set", command)]
+    wanted(not changing, f"the store was changed: {commands}")
     return "five lines, and nothing is changed"
 
 
@@ -57,13 +64,15 @@ def what_is_planned(room, program):
     store = Store(room)
     store.fence({})
     well = {"health": {"status": "HEALTH_OK", "checks": {}}, "mgrmap": {"available": True}}
-    store.takes(program, "--planned", status=1, phrases=["the store says HEALTH_WARN (OSD_DOWN)", "wait until it is HEALTH_OK"])
+    store.takes(program, "--planned", status=1,
+                phrases=["the store says HEALTH_WARN (OSD_DOWN)", "wait until it is HEALTH_OK"])
     store.answers["status"] = well
     store.takes(program, "--planned", status=1, phrases=["the group 2.0 is active+undersized+degraded"])
     store.answers["groups"]["pg_stats"][0]["state"] = "active+clean+scrubbing+deep"
     store.takes(program, "--planned", phrases=[f"{OTHER} has ended, and has no session", "each with every copy"])
     store.fence({f"{OTHER}:0/77": until(hours=1)})
-    store.takes(program, "--planned", status=1, phrases=[f"{OTHER} did not end in peace", f"{OTHER}:0/77", f"blocklist add {OTHER} 31536000"])
+    store.takes(program, "--planned", status=1,
+                phrases=[f"{OTHER} did not end in peace", f"{OTHER}:0/77", f"blocklist add {OTHER} 31536000"])
     store.fence({})
     store.answers["sessions"].append(session(OTHER, 8))
     store.takes(program, "--planned", status=1, phrases=[f"{OTHER} has a session yet", "client evict id=8"])
@@ -75,16 +84,17 @@ def the_fence(room, program):
     store, add = Store(room), f"ceph osd blocklist add {OTHER} 31536000"
     rows = [("10.78.0.3:0/0", {"days": 365}, "is not fenced"), (f"{OTHER}:0/77", {"days": 365}, "is not fenced"),
             ("10.78.0.11:0/0", {"days": 365}, "is not fenced"), (f"{OTHER}:6801/0", {"days": 365}, "is not fenced"),
-            (f"{OTHER}:0/0", {"hours": 1}, "it may wake up later"), (f"{OTHER}:0/0", {"hours": -1}, "it may wake up later")]
+            (f"{OTHER}:0/0", {"hours": 1}, "it may wake up later"),
+            (f"{OTHER}:0/0", {"hours": -1}, "it may wake up later")]
     for address, more, phrase in rows:
         store.fence({address: until(**more)})
         store.takes(program, status=1, phrases=[phrase, add])
     store.fence({f"{OTHER}:0/0": until(days=2)})
-    with store.changed("sessions", lambda it: it.append(session(OTHER, 8))):
+    with store.changed("sessions", lambda sessions: sessions.append(session(OTHER, 8))):
         store.takes(program, status=1, phrases=[f"{OTHER} has a session yet", "ceph tell mds.fs:0 client evict id=8"])
     store.fence({"[fd00::1]:0/0": until(days=2)})
     store.takes(program, other="fd00::1", phrases=["fd00::1 is fenced until"])
-    with store.changed("sessions", lambda it: it.append(session("[fd00::1]", 8))):
+    with store.changed("sessions", lambda sessions: sessions.append(session("[fd00::1]", 8))):
         store.takes(program, other="fd00::1", status=1, phrases=["fd00::1 has a session yet"])
     return f"{len(rows) + 3} of them"
 
@@ -92,37 +102,42 @@ def the_fence(room, program):
 def the_copies(room, program):
     """Groups, pools, health and a manager that are not as they have to be; what other pools do is nobody's business."""
     store = Store(room)
-    states = ["peering", "active+clean+inconsistent", "down", "stale+active+clean", "undersized+degraded+peered", "active+recovery_unfound+degraded"]
+    states = ["peering", "active+clean+inconsistent", "down", "stale+active+clean", "undersized+degraded+peered",
+              "active+recovery_unfound+degraded"]
     for state in states:
-        with store.changed("groups", lambda it, state=state: it["pg_stats"].append(group("3.7", state))):
+        with store.changed("groups", lambda groups, state=state: groups["pg_stats"].append(group("3.7", state))):
             store.takes(program, status=1, phrases=[f"the group 3.7 is {state}", "not in step"])
     for pool in (0, 1):
         for name, value in (("size", 2), ("min_size", 1)):
-            with store.changed("dump", lambda it, where=pool, name=name, value=value: it["pools"][where].update({name: value})):
+            facts = {name: value}
+            with store.changed("dump", lambda dump, where=pool, facts=facts: dump["pools"][where].update(facts)):
                 store.takes(program, status=1, phrases=[f"has {name} {value}", f"{name} {value + 1}"])
-    with store.changed("status", lambda it: it["health"].update(status="HEALTH_ERR")):
+    with store.changed("status", lambda status: status["health"].update(status="HEALTH_ERR")):
         store.takes(program, status=1, phrases=["HEALTH_ERR"])
-    with store.changed("status", lambda it: it["mgrmap"].update(available=False)):
+    with store.changed("status", lambda status: status["mgrmap"].update(available=False)):
         store.takes(program, status=1, phrases=["no manager"])
-    with store.changed("groups", lambda it: {"pg_stats": [group("4.0")]}):
+    with store.changed("groups", lambda groups: {"pg_stats": [group("4.0")]}):
         store.takes(program, status=3, phrases=["no group of its pools"])
     return "six states of a group, four settings of a pool, and the store's own"
 
 
 def the_mount(room, program):
-    """Another file system, mounts that keep old bytes or come back by themselves, one that is fenced, and this machine as OTHER."""
+    """Another file system, mounts that keep old bytes or come back by themselves, one that is fenced, and this machine
+    as OTHER.
+    """
     store = Store(room)
     for kind in ("fuse.glusterfs", "fuse.rbdfs", "nfs4", "ext4"):
-        with store.changed("mount", lambda it, kind=kind: it["filesystems"][0].update(fstype=kind)):
+        with store.changed("mount", lambda mounts, kind=kind: mounts["filesystems"][0].update(fstype=kind)):
             store.takes(program, status=1, phrases=[f"lies on {kind}", "no CephFS"])
-    for name, value in (("client_force_lazyio", "true"), ("fuse_use_invalidate_cb", "false"), ("client_reconnect_stale", "true")):
-        with store.changed("config", lambda it, name=name, value=value: it.update({name: value})):
+    for name, value in (("client_force_lazyio", "true"), ("fuse_use_invalidate_cb", "false"),
+                        ("client_reconnect_stale", "true")):
+        with store.changed("config", lambda settings, name=name, value=value: settings.update({name: value})):
             store.takes(program, status=1, phrases=[f"{name} = {value}", "mount it anew"])
-    with store.changed("daemon", lambda it: it.update(blocklisted=True)):
+    with store.changed("daemon", lambda daemon: daemon.update(blocklisted=True)):
         store.takes(program, status=1, phrases=["is fenced itself"])
-    with store.changed("daemon", lambda it: it["metadata"].update(mount_point="/elsewhere")):
+    with store.changed("daemon", lambda daemon: daemon["metadata"].update(mount_point="/elsewhere")):
         store.takes(program, status=3, phrases=["no socket in"])
-    with store.changed("daemon", lambda it: it["inst"]["addr"].update(addr=f"{OTHER}:0")):
+    with store.changed("daemon", lambda daemon: daemon["inst"]["addr"].update(addr=f"{OTHER}:0")):
         store.takes(program, status=2, phrases=[f"{OTHER} is this machine"])
     return "four file systems, three settings, a fence of its own, no socket, this machine"
 
@@ -133,7 +148,8 @@ def the_mount_of_the_kernel(room, program):
     store.answers["mount"]["filesystems"][0]["fstype"] = "ceph"
     store.takes(program, phrases=["by the kernel, of the file system fs"])
     for option in ("fsc", "recover_session=clean"):
-        with store.changed("mount", lambda it, option=option: it["filesystems"][0].update(options=f"rw,{option},acl")):
+        options = f"rw,{option},acl"
+        with store.changed("mount", lambda mounts, options=options: mounts["filesystems"][0].update(options=options)):
             store.takes(program, status=1, phrases=[f"has {option}"])
     store.answers["systems"].append({"name": "b", "metadata_pool": "meta", "data_pools": []})
     store.takes(program, status=3, phrases=["the file systems fs, b"])
@@ -145,8 +161,8 @@ def the_mount_of_the_kernel(room, program):
 def a_store_that_does_not_answer(room, program):
     """Each question without an answer is told, and waited for as long as is given; what is there later is taken."""
     store = Store(room)
-    asked = [it for it in store.answers if it != "systems"]
-    for name in asked:
+    questions = [question for question in store.answers if question != "systems"]
+    for name in questions:
         with store.changed(name, lambda _: None):
             store.answers[name] = None
             store.takes(program, status=3)
@@ -159,7 +175,7 @@ def a_store_that_does_not_answer(room, program):
     store.takes(program, status=1, phrases=["is not fenced"], wait="1.5")
     seconds = (datetime.datetime.now() - begun).total_seconds()
     wanted(1.5 <= seconds < 50, f"a step was waited for {seconds} s")
-    return f"{len(asked)} questions"
+    return f"{len(questions)} questions"
 
 
 def no_command_of_the_store(room, program):
@@ -167,11 +183,12 @@ def no_command_of_the_store(room, program):
     store = Store(room)
     store.write()
     (store.bin / "ceph").unlink()
-    with mock.patch.object(store, "write", lambda: None), mock.patch.dict(os.environ, PATH=f"{store.bin}:/bin-of-nothing"):
-        for it in ("sh", "cat", "rm"):
-            (store.bin / it).symlink_to(f"/bin/{it}")
-        it = ran("takeover", str(store.file), OTHER, "--sockets", str(room / "run"), "--wait", "0")
-    status_of(it, 3, "no socket in")
+    with mock.patch.object(store, "write", lambda: None), mock.patch.dict(os.environ,
+                                                                          PATH=f"{store.bin}:/bin-of-nothing"):
+        for tool in ("sh", "cat", "rm"):
+            (store.bin / tool).symlink_to(f"/bin/{tool}")
+        tool = run_command("takeover", str(store.file), OTHER, "--sockets", str(room / "run"), "--wait", "0")
+    status_of(tool, 3, "no socket in")
     return "status 3"
 
 
@@ -201,14 +218,16 @@ def a_copy(room, program):
     os.chmod(store.file, 0o640)
     number = store.file.stat().st_ino
     store.takes(program, "--copy", phrases=["the old file is", holds])
-    kept = list(room.glob("a.disk.before-*"))
-    wanted(len(kept) == 1 and kept[0].read_bytes() == before and kept[0].stat().st_ino == number, f"the old file is not kept: {kept}")
+    old_files = list(room.glob("a.disk.before-*"))
+    wanted(len(old_files) == 1 and old_files[0].read_bytes() == before and old_files[0].stat().st_ino == number,
+           f"the old file is not kept: {old_files}")
     after = store.file.stat()
-    wanted(after.st_ino != number and after.st_mode & 0o777 == 0o640 and after.st_size == len(before), "the copy is not in its place")
+    wanted(after.st_ino != number and after.st_mode & 0o777 == 0o640 and after.st_size == len(before),
+           "the copy is not in its place")
     wanted(not list(room.glob("*.taken-over")) and holds_of(program, store.file) == holds, "what is left")
     (room / "a.disk.taken-over").touch()
     store.takes(program, "--copy", status=1, phrases=["is there, of an earlier copy"])
-    with store.changed("status", lambda it: it["health"].update(status="HEALTH_ERR")):
+    with store.changed("status", lambda status: status["health"].update(status="HEALTH_ERR")):
         store.takes(program, "--copy", status=1)
     wanted(len(list(room.glob("a.disk.before-*"))) == 1, "a copy was made before the steps were done")
     return "and no copy before the steps are done"
@@ -217,10 +236,12 @@ def a_copy(room, program):
 def a_dry_run(room, program):
     """It looks at each step, names the file that would be kept, and changes nothing."""
     store = Store(room)
-    before = {it.name: it.read_bytes() for it in room.glob("a.disk*")}
-    said = store.takes(program, "--copy", "--dry-run", phrases=["the old file would be", holds_of(program, store.file)])
-    wanted("start the program" not in said, said)
-    wanted({it.name: it.read_bytes() for it in room.glob("a.disk*")} == before and "a.disk" in before, "a file was made or changed")
+    before = {path.name: path.read_bytes() for path in room.glob("a.disk*")}
+    output = store.takes(program, "--copy", "--dry-run",
+                         phrases=["the old file would be", holds_of(program, store.file)])
+    wanted("start the program" not in output, output)
+    wanted({path.name: path.read_bytes() for path in room.glob("a.disk*")} == before and "a.disk" in before,
+           "a file was made or changed")
     store.file.with_name("a.disk.taken-over").write_bytes(b"")
     store.takes(program, "--copy", "--dry-run", status=1, phrases=["is there, of an earlier copy"])
     return "nothing is copied"
@@ -232,7 +253,8 @@ def a_copy_that_differs(room, program):
     before = store.file.read_bytes()
     real = '*) exec "$REAL" "$@";; esac'
     for body, phrase in ((f'case $1 in copy) echo "rs_source: Full" >&2;; {real}', "Full"),
-                         (f'case "$*" in copy*) cp "$2" "$3";; *taken-over) echo "resources 9";; {real}', "holds resources 9")):
+                         (f'case "$*" in copy*) cp "$2" "$3";; *taken-over) echo "resources 9";; {real}',
+                          "holds resources 9")):
         wrong = room / "wrong"
         wrong.write_text(f"#!/bin/sh\nREAL={program}\n{body}\n")
         wrong.chmod(0o755)
@@ -242,7 +264,8 @@ def a_copy_that_differs(room, program):
     return "two of them"
 
 
-# What may be done to the copy in the folder of the program's user, while root takes over: `made` is the copy, `file` the file of the source.
+# What may be done to the copy in the folder of the program's user, while root takes over: `made` is the copy, `file`
+# the file of the source.
 SWAPS = {
     "a link": ('rm "$made"; ln -s "$victim" "$made"', "is not the copy that was made"),
     "a hard link": ('rm "$made"; ln "$victim" "$made"', "is not the copy that was made"),
@@ -265,13 +288,16 @@ def a_copy_that_is_swapped(room, program):
     for what, (swap, phrase) in SWAPS.items():
         swapping = room / "swapping"
         copying = f'file=$2 made=$3; cp "$file" "$made"; {swap}'
-        swapping.write_text(f"#!/bin/sh\nvictim={victim}\ncase $1 in run) echo 'resources 0';; copy) {copying};; esac\n")
+        swapping.write_text(
+            f"#!/bin/sh\nvictim={victim}\ncase $1 in run) echo 'resources 0';; copy) {copying};; esac\n")
         swapping.chmod(0o755)
         store.takes(swapping, "--copy", status=1, phrases=[phrase])
         (room / "a.disk.taken-over").unlink(missing_ok=True)
         found = victim.stat()
-        wanted((found.st_uid, found.st_mode & 0o777, found.st_nlink, victim.read_bytes()) == (0, 0o600, 1, b"root's"), f"{what}: {found}")
-        wanted(store.file.read_bytes() == before and not list(room.glob("a.disk.before-*")), f"{what}: the old file was moved")
+        wanted((found.st_uid, found.st_mode & 0o777, found.st_nlink, victim.read_bytes()) == (0, 0o600, 1, b"root's"),
+               f"{what}: {found}")
+        wanted(store.file.read_bytes() == before and not list(room.glob("a.disk.before-*")),
+               f"{what}: the old file was moved")
     real = room / "real.disk"
     store.file.rename(real)
     store.file.symlink_to(real)
@@ -285,36 +311,43 @@ def a_copy_that_is_swapped(room, program):
 def answers_of_another_form(room, program):
     """A store that answers in another form is told in one line, by status 1 to 3."""
     store = Store(room)
-    for name in [it for it in store.answers if it != "systems"]:
-        for answer in ([], {}, [[]], "text", 7, {"pg_stats": [{}], "filesystems": [{}], "blocklist": {"a": "soon"}, "health": 1}):
+    for name in [question for question in store.answers if question != "systems"]:
+        for answer in ([], {}, [[]], "text", 7,
+                       {"pg_stats": [{}], "filesystems": [{}], "blocklist": {"a": "soon"}, "health": 1}):
             with store.changed(name, lambda _, answer=answer: None):
                 store.answers[name] = answer
                 store.write()
                 with mock.patch.dict(os.environ, PATH=f"{store.bin}:{os.environ['PATH']}"):
-                    it = ran("takeover", str(store.file), OTHER, "--sockets", str(room / "run"), "--wait", "0", "--program", "true")
-                wanted(it.returncode in (1, 2, 3) and it.stderr.count("\n") == 1, f"{name}: {answer}: status {it.returncode}, {it.stderr[-300:]}")
+                    process = run_command("takeover", str(store.file), OTHER, "--sockets",
+                                          str(room / "run"), "--wait", "0",
+                                          "--program", "true")
+                wanted(process.returncode in (1, 2, 3) and process.stderr.count("\n") == 1,
+                       f"{name}: {answer}: status {process.returncode}, {process.stderr[-300:]}")
     return "six forms of each answer"
 
 
 def wrong_arguments(room, program):
+    """Wrong arguments end by status 2."""
     store = Store(room)
     store.takes(program, status=2, phrases=["--wait"], wait="-1")
     for words in ([], [str(room)], [str(room), OTHER, "more"], [str(room), OTHER, "--wait", "soon"]):
-        it = ran("takeover", *words)
-        wanted(it.returncode == 2, f"{words}: status {it.returncode}")
+        process = run_command("takeover", *words)
+        wanted(process.returncode == 2, f"{words}: status {process.returncode}")
     store.write()
     with mock.patch.dict(os.environ, PATH=f"{store.bin}:{os.environ['PATH']}"):
-        it = ran("takeover", str(store.file), "machine-a", "--sockets", str(room / "run"), "--wait", "0")
-    status_of(it, 2, "machine-a is no address")
+        process = run_command("takeover", str(store.file), "machine-a", "--sockets", str(room / "run"), "--wait", "0")
+    status_of(process, 2, "machine-a is no address")
     return "status 2"
 
 
 def the_page_of_the_manual(room, program):
+    """The page of the manual has the options and the exit statuses of the command."""
     return page_of("takeover")
 
 
-ROWS = [the_page_of_the_manual, all_is_done, what_is_planned, the_fence, the_copies, the_mount, the_mount_of_the_kernel, a_store_that_does_not_answer,
-        no_command_of_the_store, the_file, a_copy, a_dry_run, a_copy_that_differs, a_copy_that_is_swapped, answers_of_another_form, wrong_arguments]
+ROWS = [the_page_of_the_manual, all_is_done, what_is_planned, the_fence, the_copies, the_mount, the_mount_of_the_kernel,
+        a_store_that_does_not_answer, no_command_of_the_store, the_file, a_copy, a_dry_run, a_copy_that_differs,
+        a_copy_that_is_swapped, answers_of_another_form, wrong_arguments]
 
 
 def ran_here(*words):
@@ -331,7 +364,7 @@ def ran_here(*words):
 @contextlib.contextmanager
 def wrong(where, name, value):
     """The command with another rule."""
-    with mock.patch.object(where, name, value), mock.patch.object(sys.modules[__name__], "ran", ran_here):
+    with mock.patch.object(where, name, value), mock.patch.object(sys.modules[__name__], "run_command", ran_here):
         yield
 
 
@@ -352,11 +385,12 @@ WRONG = {
     "the old file is not kept": (wrong(takeover.os, "link", lambda *_, **__: None), a_copy),
     "the copy does not take the file's place": (wrong(takeover.os, "rename", lambda *_, **__: None), a_copy),
     "a link gets the owner": (wrong(takeover.os, "O_NOFOLLOW", 0), a_copy_that_is_swapped),
-    "a copy is never compared": (wrong(takeover, "held", lambda *_: "resources 0"), a_copy_that_differs),
+    "a copy is never compared": (wrong(takeover, "contents", lambda *_: "resources 0"), a_copy_that_differs),
 }
 
 
 def main():
+    """Tries all rows and all wrong rules. Gives the exit status."""
     program = Path(sys.argv[1] if len(sys.argv) > 1 else PROGRAM).resolve()
     return tell("takeover", ROWS, WRONG, program)
 

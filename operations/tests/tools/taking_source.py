@@ -1,7 +1,10 @@
 """A source in Python that holds nothing, and takes what is put to it."""
+from __future__ import annotations
+
 import contextlib
 import socket
 import threading
+from collections.abc import Iterator
 
 from operations.tests.tools.hostile_source import Liar, answered
 
@@ -9,39 +12,44 @@ from operations.tests.tools.hostile_source import Liar, answered
 class Taking(Liar):
     """A source that holds nothing, takes what is put and published, and keeps the bodies."""
 
-    def __init__(self):
+    def __init__(self) -> None:
         super().__init__()
         self.resources([])
-        self.put = {}
+        self.put: dict[str, bytes] = {}
         self.published = b"published 2 2000-02-29T00:00:00.002Z\n"
 
-    def answer(self, connection):
+    def answer(self, connection: socket.socket) -> None:
+        """Takes what is put, and answers one request."""
         head, rest = b"", b""
         while b"\r\n\r\n" not in head and (piece := connection.recv(65_536)):
             head += piece
+        words = head.decode("latin-1").split(" ", 2)
+        if len(words) < 3 or b"\r\n\r\n" not in head:
+            return
+        method, path, _ = words
         head, _, rest = head.partition(b"\r\n\r\n")
-        method, path, *_ = head.decode("latin-1").split(" ")
-        length = next((int(it.split(b":")[1]) for it in head.split(b"\r\n") if it.lower().startswith(b"content-length:")), 0)
+        length = next((int(line.split(b":")[1]) for line in head.split(b"\r\n")
+                       if line.lower().startswith(b"content-length:")), 0)
         while len(rest) < length and (piece := connection.recv(65_536)):
             rest += piece
-        self.asked.append(f"{method} {path}")
+        self.requests.append(f"{method} {path}")
         if method == "PUT":
             self.put[path.removeprefix("/resource/")] = rest
-            said = answered(b"created\n", "201 Created")
+            response = answered(b"created\n", "201 Created")
         elif path == "/group":
-            said = answered(b"NoSuchDocument\n", "404 Not Found")
+            response = answered(b"NoSuchDocument\n", "404 Not Found")
         elif path == "/publish":
-            said = answered(self.published, fields="X: y\r\n")
+            response = answered(self.published, fields="X: y\r\n")
         else:
-            said = self.answers.get(path, answered(b"", "404 Not Found"))
-        connection.sendall(said)
+            response = self.answers.get(path, answered(b"", "404 Not Found"))
+        connection.sendall(response)
         connection.shutdown(socket.SHUT_WR)
         while connection.recv(65_536):
             pass
 
 
 @contextlib.contextmanager
-def taking():
+def taking() -> Iterator[Taking]:
     """A source that takes what is put."""
     liar = Taking()
     threading.Thread(target=liar.serve, daemon=True).start()
