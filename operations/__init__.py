@@ -1,1 +1,1 @@
-"""What stands around the proved program: the command `ropepeach`, units, the site, packages, and their checks (README.md)."""
+"""What surrounds the proved program: the command `ropepeach`, units, site, packages, and their checks (README.md)."""

@@ -27,6 +27,7 @@ def add_arguments(parser: argparse.ArgumentParser) -> None:
     """The arguments of the command."""
     parser.add_argument("name", metavar="NAME", help="the name of the source")
     parser.add_argument("to", metavar="TO", help="the file of the copy; nothing may be there")
+    parser.add_argument("--dry-run", action="store_true", help="look whether the copy can be made, and make none")
 
 
 def copy(source: Path, to: Path) -> bool:
@@ -82,6 +83,10 @@ def run(arguments: argparse.Namespace) -> int:
     if not to.parent.is_dir():
         raise Unusable(f"{to.parent}: there is no such folder")
     fresh = to.with_name(f"{to.name}.new")
+    if arguments.dry_run:
+        output.result(f"copy {settings.file} to {to}, {os.stat(settings.file).st_size:,} bytes, and compare each body "
+                      "with its digest")
+        return 0
     try:
         fresh.unlink(missing_ok=True)
         if not copy(settings.file, fresh):

@@ -31,9 +31,9 @@ def change_of(line: bytes) -> dict[str, str] | None:
         fields = json.loads(line.decode("utf-8", "surrogateescape"))
     except (ValueError, RecursionError):
         return None
-    if not isinstance(fields,
-                      dict) or set(fields) != set(FIELDS) or not all(isinstance(value, str)
-                                                                     for value in fields.values()):
+    if not isinstance(fields, dict) or set(fields) != set(FIELDS):
+        return None
+    if not all(isinstance(value, str) for value in fields.values()):
         return None
     return {name: fields[name] or NOBODY for name in FIELDS}
 
@@ -49,8 +49,8 @@ def look(path: str) -> int:
                     wrong += 1
                     continue
                 # (a space divides the fields, and a subject may have some)
-                subject = json.dumps(change["subject"],
-                                     ensure_ascii=False) if " " in change["subject"] else change["subject"]
+                subject = change["subject"]
+                subject = json.dumps(subject, ensure_ascii=False) if " " in subject else subject
                 name = change["path"].partition(NAMES)[2] or change["path"]
                 output.result(" ".join([change["time"], change["address"], subject, change["method"], name,
                                         change["status"]]), **change)

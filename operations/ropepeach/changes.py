@@ -17,6 +17,7 @@ from ropepeach.lists import Dropped
 from ropepeach.mirror_address import Hosts, own_host, source_at
 from ropepeach.mirror_asking import Asking
 from ropepeach.mirror_discovery import Discovery, Lists
+from ropepeach.mirror_dumps import Dumps
 from ropepeach.mirror_entries import Entry, Reading
 from ropepeach.moments import moment_in
 
@@ -61,7 +62,9 @@ def changes(url: str, since: str | None = None, hosts: Sequence[str] = (), patie
 def entries_since(reading: Reading, lists: Lists, since: str | None) -> list[Entry]:
     """What the lists of one set of resources say."""
     if since is None:
-        return list(reading.resources(lists.resources)[1].values())
+        dumps = Dumps(reading.asking)
+        read = dumps.resources(lists.resources, reading) if lists.is_dump else reading.resources(lists.resources)
+        return list(read[1].values())
     moment = moment_in(since)
     if moment is None:
         raise Misused(f"{since[:100]!r} is no moment of W3C Datetime")

@@ -15,6 +15,7 @@
 """
 from __future__ import annotations
 
+import argparse
 import ipaddress
 import re
 import tomllib
@@ -22,12 +23,13 @@ from dataclasses import dataclass
 from typing import Any
 from urllib.parse import urlsplit
 
+from ropepeach import numbers
 from ropepeach.faults import Misused
 from ropepeach.rendezvous import Homes
 from ropepeach.site_text import LOOPBACK, Rule
 
-KEYS, NEEDED = {"address", "name", "near", "certificate", "key", "depositors", "may",
-                "source"}, {"address", "source"}
+KEYS = {"address", "name", "near", "certificate", "key", "depositors", "may", "source"}
+NEEDED = {"address", "source"}
 SOURCE_KEYS = {"address", "base", "file"}
 SOURCE_NAME = re.compile(r"[a-z0-9][a-z0-9-]{0,31}")
 HOST = r"[A-Za-z0-9.-]+(?::\d{1,5})?"
@@ -38,8 +40,16 @@ PATH = re.compile(r"(?:/[A-Za-z0-9_~-][A-Za-z0-9._~-]*)+")
 LONGEST_BASE, MOST_PORT = 128, 65_535
 # Where the site has the scripts of its page: what a browser lets run.
 PAGE = "/site/"
-# What systemd and nginx take as it stands.
+# How many sources are worked on at once.
+JOBS = 32
+# What systemd and nginx take unchanged.
 FILE = re.compile(r"/[A-Za-z0-9._~+@/-]+")
+
+
+def add_option_of_jobs(parser: argparse.ArgumentParser) -> None:
+    """The option of how many sources are worked on at once."""
+    parser.add_argument("--jobs", type=numbers.count, default=JOBS, metavar="N",
+                        help=f"work on this many of several sources at once ({JOBS})")
 
 
 @dataclass(frozen=True)
@@ -68,9 +78,9 @@ class Collection:
                                  "an address is http:// or https:// and a host, without a path")
         self.name = self.text("name", settings.get("name", "collection"), SOURCE_NAME,
                               "a name is 1 to 32 of a-z, 0-9 and -")
-        self.near = [self.network(text)
-                     for text in self.list_of("near",
-                                              settings["near"])] if "near" in settings else list(LOOPBACK)
+        self.near = list(LOOPBACK)
+        if "near" in settings:
+            self.near = [self.network(text) for text in self.list_of("near", settings["near"])]
         self.files = {key: self.text(key, settings[key], FILE, "a file is a whole path")
                       for key in ("certificate", "key", "depositors") if key in settings}
         self.rules = tuple(self.rule(pair) for pair in self.list_of("may", settings.get("may", [])))
@@ -103,8 +113,7 @@ class Collection:
     def list_of(self, where: str, value: Any) -> list[Any]:
         """A value that is a list."""
         if not isinstance(value, list):
-            raise self.wrong(where,
-                             "wants a list of addresses" if where == "near" else "wants a list of pairs")
+            raise self.wrong(where, "wants a list of addresses" if where == "near" else "wants a list of pairs")
         return value
 
     def network(self, value: Any) -> str:

@@ -14,20 +14,21 @@ from typing import IO, Any
 
 from ropepeach import output, room
 from ropepeach.collection_file import Collection, Member
-from ropepeach.collection_sources import Astray, astray_in, check_base, connected, told_of_astray
+from ropepeach.collection_sources import Astray, astray_in, astray_lines, check_base, connected
 from ropepeach.faults import Fault, Unusable
+from ropepeach.filters import Filters
 from ropepeach.fill_files import Files, Kinds, Order
 from ropepeach.fill_lists import KnownSource, held_by
 from ropepeach.fill_memory import Memory
 from ropepeach.fill_plan import Plan, check_deletions, published
 from ropepeach.fill_sending import Sending
 from ropepeach.rendezvous import Homes
-from ropepeach.side_by_side import Sides, check, failures, told_of
+from ropepeach.side_by_side import Sides, check, failure_lines, failures
 from ropepeach.statuses import Status
 
 
 class PartPlan(Plan):
-    """What a run has to do to one source: the names that live in it stand in a file, a line each."""
+    """What a run has to do to one source: a file has the names that live in it, a line each."""
 
     def __init__(self, folder: Files, kinds: Kinds, listed: IO[str], again: list[str],
                  is_skipping: bool) -> None:
@@ -41,24 +42,32 @@ class PartPlan(Plan):
             yield line.rstrip("\n")
 
 
-def placed(folder: Files, collection: Collection) -> dict[str, IO[str]]:
+def files_of(arguments: argparse.Namespace) -> Files:
+    """The files of the folder that is filled from."""
+    return Files(arguments.folder, arguments.links, Filters(arguments.rules))
+
+
+def placed(folder: Files, collection: Collection, jobs: int) -> dict[str, IO[str]]:
     """A file of names for each source, of all that lives there."""
     try:
-        return listed_by_home(folder, collection)
+        return listed_by_home(folder, collection, jobs)
     except OSError as fault:
         folder_of_lists = tempfile.gettempdir()
         raise Unusable(f"{folder_of_lists}: the lists of names can't be written there: {fault.strerror}") from None
 
 
-def listed_by_home(folder: Files, collection: Collection) -> dict[str, IO[str]]:
-    """Lists the names of each source. Each processor takes a share of what lies at the top of the folder."""
+def listed_by_home(folder: Files, collection: Collection, jobs: int) -> dict[str, IO[str]]:
+    """Lists the names of each source. Each processor, or each job, takes a share of what lies at the top of the folder.
+    """
     files: dict[str, IO[str]] = {name: tempfile.TemporaryFile("w+", encoding="ascii")
                                  for name in collection.members}
     counts = dict.fromkeys(collection.members, 0)
-    entries, processors = list(folder.entries()), len(os.sched_getaffinity(0))
-    shares = {number: entries[number::processors] for number in range(processors)}
+    entries = list(folder.entries())
+    processes = min(jobs, len(os.sched_getaffinity(0)))
+    shares = {number: entries[number::processes] for number in range(processes)}
 
     def work(number: int, link: Any) -> None:
+        """Answers with the names of a share of the entries."""
         link.send(lines_by_home(folder, shares[number], collection.homes))
 
     with Sides(shares, work) as sides:
@@ -87,7 +96,7 @@ def lines_by_home(folder: Files, entries: Iterable[str], homes: Homes) -> dict[s
 
 
 class Part:
-    """A run of one source, in a process of its own."""
+    """A run of one source, in a separate process."""
 
     def __init__(self, collection: Collection, name: str, arguments: argparse.Namespace,
                  listed: IO[str]) -> None:
@@ -95,10 +104,9 @@ class Part:
         self.member = collection.members[name]
         again = [other for other in arguments.again if collection.homes.of(other) == name]
         kinds = Kinds(arguments.types)
-        self.plan = PartPlan(Files(arguments.folder, arguments.links), kinds, listed, again,
-                             arguments.skip_unlawful)
+        self.plan = PartPlan(files_of(arguments), kinds, listed, again, arguments.skip_unlawful)
 
-    def asked(self) -> KnownSource:
+    def known_source(self) -> KnownSource:
         """The source, with what is remembered of its files."""
         source = KnownSource(connected(self.member, self.arguments))
         check_base(self.member, source)
@@ -109,28 +117,28 @@ class Part:
     def compare(self) -> dict[str, Any]:
         """What has to be done. Nothing is changed."""
         self.plan.measure()
-        self.source = self.asked()
-        held, self.at, self.is_published = held_by(self.source)
-        self.plan.compare(held, self.source.memory)
+        self.source = self.known_source()
+        resources, self.at, self.is_published = held_by(self.source)
+        self.plan.compare(resources, self.source.memory)
         if self.arguments.repair:
             self.plan.look_at_bodies(self.source)
         self.plan.check_room(self.source.base, self.arguments.room)
         self.check_disk()
         homes = ((name, self.collection.homes.of(name)) for name in self.plan.gone)
         astray = [Astray(name, self.name, home) for name, home in homes if home != self.name]
-        return {"files": self.plan.files, "held": self.plan.held, "gone": len(self.plan.gone),
+        return {"files": self.plan.files, "held": self.plan.resource_count, "gone": len(self.plan.gone),
                 "astray": astray}
 
     def check_disk(self) -> None:
-        """Refuses what the file of the source, if it lies on this machine, cannot hold with the changes of
-        this run alone.
+        """Refuses what the file of the source, if it lies on this machine, cannot hold with only the changes of
+        this run.
         """
         plan = self.plan
         if plan.files and os.path.exists(self.member.file):
             check_file(self.member, plan.collection(),
                        min(room.MOST_CHANGES, len(plan.changed) + len(plan.gone)))
 
-    def told(self) -> list[str]:
+    def forecast(self) -> list[str]:
         """What the run would do, a line for each change."""
         return [*(f"delete {self.name} {name}" for name in self.plan.gone),
                 *(f"put {self.name} {name}" for name in self.plan.changed)]
@@ -153,7 +161,7 @@ class Part:
         try:
             link.send(self.compare())
             if link.recv() == "tell":
-                link.send((self.told(), bool(self.plan.missed)))
+                link.send((self.forecast(), bool(self.plan.missed)))
             else:
                 link.send(self.change())
         finally:
@@ -163,8 +171,8 @@ class Part:
 
 def check_file(member: Member, bodies: room.Collection, changes: int) -> None:
     """Refuses a collection of bodies that the file of a source cannot hold with this many changes."""
-    needed, size = room.used(bodies, len(member.base),
-                             changes) * room.BLOCK, min(os.stat(member.file).st_size, room.MOST_BYTES)
+    needed = room.used(bodies, len(member.base), changes) * room.BLOCK
+    size = min(os.stat(member.file).st_size, room.MOST_BYTES)
     if needed > size:
         raise Fault(f"{member.file} is too small: it has {size:,} bytes, and {bodies.count:,} resources with "
                     f"{changes:,} changes need {needed:,}")
@@ -173,22 +181,22 @@ def check_file(member: Member, bodies: room.Collection, changes: int) -> None:
 def run(arguments: argparse.Namespace) -> int:
     """Fills all, and gives the exit status."""
     collection = Collection(arguments.url)
-    files = placed(Files(arguments.folder, arguments.links), collection)
-    with Sides(collection.members, lambda name,
-               link: Part(collection, name, arguments, files[name]).work(link)) as sides:
-        answers = check({name: sides.heard(name) for name in collection.members})
+    files = placed(files_of(arguments), collection, arguments.jobs)
+    with Sides(collection.members, lambda name, link: Part(collection, name, arguments, files[name]).work(link),
+               arguments.jobs) as sides:
+        answers = check(sides.begun())
         astray = astray_in({name: answer["astray"] for name, answer in answers.items()})
         if astray:
-            raise Fault(*told_of_astray(collection, astray, arguments), "nothing was changed")
-        gone, held, count = (sum(answer[word] for answer in answers.values())
-                             for word in ("gone", "held", "files"))
-        check_deletions(arguments, gone, held, count)
+            raise Fault(*astray_lines(collection, astray, arguments), "nothing was changed")
+        gone, total, count = (sum(answer[word] for answer in answers.values())
+                              for word in ("gone", "held", "files"))
+        check_deletions(arguments, gone, total, count)
         if arguments.dry_run:
-            return told(sides.asked(dict.fromkeys(answers, "tell")))
-        return changed(sides.asked(dict.fromkeys(answers, "change")))
+            return print_forecast(sides.answers_to(dict.fromkeys(answers, "tell")))
+        return changed(sides.answers_to(dict.fromkeys(answers, "change")))
 
 
-def told(answers: dict[str, Any]) -> int:
+def print_forecast(answers: dict[str, Any]) -> int:
     """Prints what would be done, and gives the exit status."""
     for lines, _ in check(answers).values():
         for line in lines:
@@ -202,7 +210,7 @@ def changed(answers: dict[str, Any]) -> int:
     is_early = is_missed = False
     for name, answer in answers.items():
         if name in failed:
-            for line in told_of({name: answer}):
+            for line in failure_lines({name: answer}):
                 output.message(line)
             continue
         summary, figures, is_left, why = answer

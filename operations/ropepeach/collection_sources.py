@@ -61,7 +61,7 @@ class Held:
         homes = ((name, self.homes.of(name)) for name in self.facts)
         return [Astray(name, self.name, home, self.facts[name]) for name, home in homes if home != self.name]
 
-    def told(self) -> str:
+    def summary(self) -> str:
         """What the source holds, in a line."""
         published = "all published" if self.is_published else "with changes since the publication of"
         return f"{len(self.facts):,} held at {self.source.base}, {published} {self.at}"
@@ -69,10 +69,10 @@ class Held:
 
 def astray_in(found: dict[str, list[Astray]]) -> list[Astray]:
     """All that is astray, of what each source found."""
-    return [astray for those in found.values() for astray in those]
+    return [astray for names in found.values() for astray in names]
 
 
-def told_of_astray(collection: Collection, astray: list[Astray], arguments: argparse.Namespace) -> list[str]:
+def astray_lines(collection: Collection, astray: list[Astray], arguments: argparse.Namespace) -> list[str]:
     """Which names are where they do not live, and what to do, in lines. A few of them are looked for in the
     source in which they live.
     """
@@ -83,4 +83,5 @@ def told_of_astray(collection: Collection, astray: list[Astray], arguments: argp
             holders.add(home)
         lines.append(f"{name}: is held by {' and '.join(sorted(holders))}, and lives in {home}")
     more = [f"and {len(astray) - NAMED:,} more"] if len(astray) > NAMED else []
-    return [f"{len(astray):,} names are where they do not live; `ropepeach grow {collection.path}` moves them", *lines, *more]
+    return [f"{len(astray):,} names are where they do not live; `ropepeach grow {collection.path}` moves them", *lines,
+            *more]

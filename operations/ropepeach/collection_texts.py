@@ -6,7 +6,7 @@ from urllib.parse import urlsplit
 from ropepeach.collection_file import Collection, Member
 from ropepeach.site_text import Served, Site, tls_of
 
-# How many connections a program serves before it ends and its unit starts it anew.
+# How many connections a program serves before it ends and its unit starts it again.
 COUNT = 1_000_000_000
 DESCRIPTION_FILE, SITE_FILE = "resourcesync.xml", "collection.nginx"
 HEAD = """Made by `ropepeach collection` from {path}: change that file, and make this one anew.

@@ -2,7 +2,7 @@
 status.
 
 A subcommand is a module of this package with the names of `Subcommand`. Its docstring is the text of --help,
-and its exit statuses stand in `statuses.TABLE`. It writes by `output`.
+and its exit statuses are in `statuses.TABLE`. It writes by `output`.
 """
 from __future__ import annotations
 
@@ -37,10 +37,12 @@ class Subcommand(Protocol):
         """Runs the subcommand, and returns the exit status."""
 
 
-# What each subcommand does, as its module has it: the modules take longer to import than all else takes, so only one is.
+# What each subcommand does, as its module has it: the modules take longer to import than all else takes, so a run
+# imports only one.
 PURPOSES: Mapping[str, str] = {
     "fill": "make a source hold what a folder holds",
     "mirror": "keep a folder that is what a source held",
+    "check": "tell which files of a mirror are missing, rotten or strange",
     "look": "tell how full a source's file is, also while it is served",
     "size": "tell how large a disk has to be for what a folder holds",
     "why": "tell why the program says Device: what is in the way of a file and a port",
@@ -148,7 +150,7 @@ def outcome(subcommand: Subcommand, arguments: argparse.Namespace) -> int:
         return subcommand.run(arguments)
     except KeyboardInterrupt:
         signal.signal(signal.SIGINT, signal.SIG_IGN)
-        output.error(name, [statuses.told_on_stop(subcommand.NAME)])
+        output.error(name, [statuses.text_on_stop(subcommand.NAME)])
         return Status.INTERRUPTED
     except Misused as fault:
         output.error(name, lines_of(fault))

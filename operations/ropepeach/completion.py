@@ -1,8 +1,8 @@
 """What a shell may complete: the words of the command by its own parsers, so that no list of options is kept
 twice.
 
-operations/install/ropepeach.bash and operations/install/_ropepeach ask for it by `ropepeach complete -- WORDS`, whose last word is
-the one to complete.
+operations/install/ropepeach.bash and operations/install/_ropepeach ask for it by `ropepeach complete -- WORDS`, whose
+last word is the one to complete.
 """
 from __future__ import annotations
 
@@ -13,7 +13,7 @@ Parsers = Mapping[str, Callable[[], argparse.ArgumentParser]]
 
 
 def candidates(words: Sequence[str], parsers: Parsers, general: Sequence[str]) -> list[str]:
-    """All words that may stand in the place of the last one. Where there are none, the shell offers files."""
+    """All words that may take the place of the last one. Where there are none, the shell offers files."""
     *before, word = words or [""]
     if not before:
         offered = [*parsers, *general]
@@ -27,7 +27,7 @@ def candidates(words: Sequence[str], parsers: Parsers, general: Sequence[str]) -
 
 
 def of_command(parser: argparse.ArgumentParser, before: str, word: str) -> list[str]:
-    """What may stand behind a word of a command: values that can be listed, or options."""
+    """What may follow a word of a command: values that can be listed, or options."""
     actions = parser._actions
     for action in actions:
         if before in action.option_strings and action.nargs != 0:

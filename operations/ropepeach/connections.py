@@ -10,15 +10,12 @@ that it is away (502, 503, 504), is asked again for some seconds. Redirects are 
 from __future__ import annotations
 
 import argparse
-import contextlib
 import http.client
 import io
 import re
-import signal
 import ssl
 import time
-import urllib.request
-from collections.abc import Iterator, Mapping
+from collections.abc import Mapping
 from typing import Any, NamedTuple
 from urllib.parse import SplitResult, urlsplit
 
@@ -32,11 +29,13 @@ from urllib3.util.retry import Retry
 from urllib3.util.ssl_match_hostname import CertificateError
 
 from ropepeach import __version__, numbers, output
+from ropepeach.alarm import ALARM
 from ropepeach.faults import Fault, Long, Misused, Silent, Slow
 from ropepeach.limits import Limits, Rate
+from ropepeach.proxies import proxy_to
 
-# A connection is tried for CONNECT seconds, an answer may stand still for STILL seconds, and takes WHOLE
-# seconds at most.
+# A connection is tried for CONNECT seconds, an answer may pause for STILL seconds, and takes WHOLE seconds at
+# most.
 CONNECT, STILL, WHOLE, PATIENCE = 10, 60, 600, 30
 # The longest document, in bytes (Sitemap 0.9).
 LONGEST_DOCUMENT = 10_485_760
@@ -95,28 +94,11 @@ def told_by(answer: Answer) -> str:
     return text
 
 
-@contextlib.contextmanager
-def within(seconds: float, fault: Fault) -> Iterator[None]:
-    """Ends the block by a fault after some seconds, wherever it waits. It works in the main thread only."""
-
-    def end(*_: object) -> None:
-        raise fault
-
-    before = signal.signal(signal.SIGALRM, end)
-    # (0 would set no timer)
-    signal.setitimer(signal.ITIMER_REAL, max(seconds, 0.001))
-    try:
-        yield
-    finally:
-        signal.setitimer(signal.ITIMER_REAL, 0)
-        signal.signal(signal.SIGALRM, before)
-
-
 class Plain(HTTPConnection):  # type: ignore[misc]
     """A connection over plain HTTP to the source itself."""
 
     def connect(self) -> None:
-        """Connects; from then on an answer may stand still for longer than the connecting may take."""
+        """Connects; from then on an answer may pause for longer than the connecting may take."""
         super().connect()
         self.sock.settimeout(STILL)
 
@@ -145,10 +127,9 @@ class Connections:
     """
 
     def __init__(self, address: str, patience: float = PATIENCE, certificate: str | None = None,
-                 whole: float = WHOLE,
-                 limits: Limits | None = None) -> None:
+                 whole: float = WHOLE, limits: Limits | None = None) -> None:
         self.address, self.patience, self.whole, self.target = address.rstrip("/"), patience, whole, ""
-        self.limits = limits or Limits()
+        self.limits, self.certificate = limits or Limits(), certificate
         self.longest = LONGEST_DOCUMENT
         self.plain: Plain | None = None
         self.spare: Plain | None = None
@@ -160,27 +141,30 @@ class Connections:
                           f"one") from None
         self.pool.ConnectionCls = self.exact(self.pool.ConnectionCls)
 
+    def another(self) -> Connections:
+        """Connections to the same address, of which none is open."""
+        return Connections(self.address, self.patience, self.certificate, self.whole, self.limits)
+
     def pool_to(self, parts: SplitResult, certificate: str | None) -> tuple[Any, str]:
-        """The pool of one connection, and what stands before the path in a request."""
+        """The pool of one connection, and what comes before the path in a request."""
         is_plain = not parts.query and not parts.fragment and VISIBLE.fullmatch(self.address)
         if parts.scheme not in ("http", "https") or not is_plain or not parts.hostname:
             raise ValueError(self.address)
         settings: dict[str, Any] = {"maxsize": 1, "timeout": urllib3.Timeout(connect=CONNECT, read=STILL)}
         if parts.scheme == "https":
             # (without ca_certs OpenSSL finds the system's certificates, or those of SSL_CERT_FILE; Debian's
-            # urllib3 has a default of its own)
+            # urllib3 has another default)
             settings |= {"cert_reqs": "CERT_REQUIRED", "cert_file": usable(certificate), "ca_certs": None}
-        proxy = urllib.request.getproxies().get(parts.scheme)
-        if proxy and not is_near(parts.hostname) and not urllib.request.proxy_bypass(parts.hostname):
+        proxy = proxy_to(parts.scheme, parts.hostname)
+        if proxy:
             front = parts.path if parts.scheme == "https" else self.address
             return urllib3.proxy_from_url(proxy, **settings).connection_from_url(self.address), front
         if parts.scheme == "http":
-            self.plain, self.spare = (Plain(parts.hostname, parts.port or 80,
-                                            timeout=CONNECT) for _ in range(2))
+            self.plain, self.spare = (Plain(parts.hostname, parts.port or 80, timeout=CONNECT) for _ in range(2))
         return urllib3.connection_from_url(self.address, **settings), parts.path
 
     def exact(self, kind: Any) -> Any:
-        """A kind of connection that sends the target as it stands: urllib3 would write `%c3` as `%C3`,
+        """A kind of connection that sends the target unchanged: urllib3 would write `%c3` as `%C3`,
         another name.
         """
         connections = self
@@ -188,15 +172,15 @@ class Connections:
         class Exact(kind):  # type: ignore[misc]
             """The connection, which takes the target from `connections`."""
 
-            def putrequest(self, method: str, url: str, *words: Any, **named: Any) -> None:
+            def putrequest(self, method: str, url: str, *words: Any, **options: Any) -> None:
                 """Begins a request."""
-                super().putrequest(method, connections.target, *words, **named)
+                super().putrequest(method, connections.target, *words, **options)
 
         return Exact
 
     def ask(self, method: str, path: str, body: bytes | None = None, kind: str | None = None,
-            most: int = LONGEST_DOCUMENT, is_safe: bool = True, more: Mapping[str, str] | None = None) -> Answer:
-        """The answer to one request, with `most` bytes at most. The request may have more fields.
+            limit: int = LONGEST_DOCUMENT, is_safe: bool = True, more: Mapping[str, str] | None = None) -> Answer:
+        """The answer to one request, with `limit` bytes at most. The request may have more fields.
 
         A request that is not safe to repeat is sent again only where the source cannot have seen it.
         """
@@ -207,7 +191,7 @@ class Connections:
         while True:
             fault: Exception | None = None
             try:
-                answer = self.asked(what, method, path, body, fields, most)
+                answer = self.answer_once(what, method, path, body, fields, limit)
                 if answer.status not in AWAY:
                     return answer
                 why, is_seen = told_by(answer), answer.status != 503
@@ -233,22 +217,22 @@ class Connections:
 
     def longer(self, waiting: Patience, method: str, path: str, what: str, why: str,
                fault: Exception | None) -> Patience:
-        """What is left of the patience."""
+        """The patience that remains."""
         try:
             later: Patience = waiting.increment(method, path, error=fault, _pool=self.pool)
             return later
         except MaxRetryError:
             raise Silent(f"{what}: no answer for {self.patience:g} seconds: {why}") from None
 
-    def asked(self, what: str, method: str, path: str, body: bytes | None, fields: Mapping[str, str],
-              most: int) -> Answer:
+    def answer_once(self, what: str, method: str, path: str, body: bytes | None, fields: Mapping[str, str],
+                    limit: int) -> Answer:
         """One answer to one request that is sent once."""
-        ask = self.asked_plainly if self.plain else self.asked_of_pool
+        ask = self.answer_plainly if self.plain else self.answer_by_pool
         remaining = self.limits.remaining()
         slow = Slow(f"{what}: the answer took longer than {self.whole:g} seconds")
         seconds, fault = (remaining, self.limits.overdue()) if remaining < self.whole else (self.whole, slow)
-        with within(seconds, fault):
-            answer = ask(what, method, self.front + path, body, fields, most)
+        with ALARM.within(seconds, fault):
+            answer = ask(what, method, self.front + path, body, fields, limit)
         self.limits.take(len(answer.body))
         return answer
 
@@ -259,14 +243,13 @@ class Connections:
                 connection.close()
         self.sent = self.expected = ""
 
-    def asked_of_pool(self, what: str, method: str, target: str, body: bytes | None,
-                      fields: Mapping[str, str], most: int) -> Answer:
+    def answer_by_pool(self, what: str, method: str, target: str, body: bytes | None,
+                       fields: Mapping[str, str], limit: int) -> Answer:
         """One answer by the pool."""
         self.target = target
-        response = self.pool.urlopen(method, "/", headers=fields_of(body, fields), body=self.slowed(body),
-                                     **ONCE)
+        response = self.pool.urlopen(method, "/", headers=fields_of(body, fields), body=self.slowed(body), **ONCE)
         try:
-            return self.answer_of(response, what, most)
+            return self.answer_of(response, what, limit)
         except BaseException:
             response.close()
             raise
@@ -293,8 +276,8 @@ class Connections:
         """A body as it is sent."""
         return Slowed(body, self.limits) if body and self.limits.rate else body
 
-    def asked_plainly(self, what: str, method: str, target: str, body: bytes | None,
-                      fields: Mapping[str, str], most: int) -> Answer:
+    def answer_plainly(self, what: str, method: str, target: str, body: bytes | None,
+                       fields: Mapping[str, str], limit: int) -> Answer:
         """One answer on the connection over plain HTTP."""
         is_whole, is_sent = False, method == "GET" and self.sent == target
         if is_sent:
@@ -309,19 +292,19 @@ class Connections:
             if self.expected and self.is_closing:
                 self.send_ahead(self.spare)
             response = self.plain.getresponse()
-            answer = self.answer_of(response, what, most)
+            answer = self.answer_of(response, what, limit)
             is_whole = left_of(response) == 0
             self.is_closing = answer.fields.get("Connection", "").lower() == "close"
             return answer
         finally:
-            # What is left of an answer must not be taken for the next one.
+            # The rest of an answer must not count as the next one.
             if not is_whole:
                 self.plain.close()
 
-    def answer_of(self, response: Response, what: str, most: int) -> Answer:
+    def answer_of(self, response: Response, what: str, limit: int) -> Answer:
         """The whole answer that a response begins."""
         return Answer(response.status, response.reason or "", response.headers,
-                      taken(response, what, most, self.limits))
+                      taken(response, what, limit, self.limits))
 
 
 def fields_of(body: bytes | None, fields: Mapping[str, str]) -> dict[str, str]:
@@ -330,30 +313,30 @@ def fields_of(body: bytes | None, fields: Mapping[str, str]) -> dict[str, str]:
 
 
 def left_of(response: Response) -> int | None:
-    """How many bytes of a body are left, if that is known."""
+    """How many bytes of a body remain, if that is known."""
     is_plain = isinstance(response, http.client.HTTPResponse)
     length: int | None = response.length if is_plain else response.length_remaining
     return length
 
 
-def taken(response: Response, what: str, most: int, limits: Limits) -> bytes:
-    """The body of a response, with `most` bytes at most; a refusal is cut to what a person reads."""
+def taken(response: Response, what: str, limit: int, limits: Limits) -> bytes:
+    """The body of a response, with `limit` bytes at most; a refusal is cut to what a person reads."""
     is_success = response.status < 300
-    most = most if is_success else PIECE
-    if is_success and (left_of(response) or 0) > most:
-        raise Long(f"{what}: the answer has {left_of(response):,} bytes, more than {most:,}")
+    limit = limit if is_success else PIECE
+    if is_success and (left_of(response) or 0) > limit:
+        raise Long(f"{what}: the answer has {left_of(response):,} bytes, more than {limit:,}")
     pieces: list[bytes] = []
     size, is_whole = 0, False
-    while size <= most and not is_whole:
-        piece = response.read(min(most + 1 - size, PIECE) if limits.rate else most + 1 - size)
+    while size <= limit and not is_whole:
+        piece = response.read(min(limit + 1 - size, PIECE) if limits.rate else limit + 1 - size)
         limits.pace(len(piece))
         pieces.append(piece)
         size += len(piece)
         is_whole = not piece or left_of(response) == 0
-    if size > most:
+    if size > limit:
         response.close()
         if is_success:
-            raise Long(f"{what}: the answer has more than {most:,} bytes")
+            raise Long(f"{what}: the answer has more than {limit:,} bytes")
     text = b"".join(pieces)
     if is_whole and left_of(response):
         raise http.client.IncompleteRead(text, left_of(response))
@@ -391,11 +374,6 @@ def usable(certificate: str | None) -> str | None:
         except (OSError, ValueError) as fault:
             raise Misused(f"{certificate}: is no certificate with its key: {fault}") from None
     return certificate
-
-
-def is_near(host: str) -> bool:
-    """Whether a host is this machine, which no proxy leads to."""
-    return host == "localhost" or host == "::1" or host.startswith("127.")
 
 
 def is_final(fault: Exception) -> bool:

@@ -1,9 +1,9 @@
 """Reads a source off its file, also while the program serves it: nothing is written, and nothing is locked.
 
-What a root reaches stays as it is until a later root stands (docs/DISK.md, "How the root is changed"), and
+What a root reaches stays as it is until there is a later root (docs/DISK.md, "How the root is changed"), and
 the directory and each page have their SHA-256. So what is read whole is the state of one moment, and what a
 command wrote over meanwhile is noticed: then the file has a later root, and is read again. Pages that were
-read before are not read anew. Bodies are not read.
+read before are not read again. Bodies are not read.
 """
 from __future__ import annotations
 
@@ -14,9 +14,10 @@ import time
 from collections.abc import Callable, Iterable
 
 from ropepeach import disk_rules
-from ropepeach.disk_formats import (BLOCK, CHANGES, RECORDS, VERSIONS, Broken, Change, Entry, Fields, Item,
-                                    Page, Record, Root,
-                                    blocks_of, change_of, directory_of, hold, page_of, record_of, slot_of)
+from ropepeach.disk_formats import (
+    BLOCK, CHANGES, RECORDS, VERSIONS, Broken, Change, Entry, Fields, Item, Page, Record, Root, blocks_of, change_of,
+    directory_of, hold, page_of, record_of, slot_of,
+)
 from ropepeach.disk_source import MOST_BLOCKS, Source, extents_of
 from ropepeach.faults import Fault
 from ropepeach.statuses import Status
@@ -85,30 +86,28 @@ class File:
         """How many of its blocks can be used."""
         return min(os.fstat(self.number).st_size // BLOCK, MOST_BLOCKS)
 
-    def referred(self, entry: Entry, what: str, most: int) -> bytes:
-        """The bytes that an entry tells of. More than `most` would cost memory, and break a rule of the
-        lists.
+    def referred(self, entry: Entry, what: str, limit: int) -> bytes:
+        """The bytes that an entry refers to. More than the limit would cost memory, and break a rule of
+        the lists.
         """
         first, blocks, length, sha256 = entry
-        hold(blocks == blocks_of(length), "{} lies in exactly the blocks of its length, and that in block {} "
-                                          "has {} for {:,} bytes",
+        hold(blocks == blocks_of(length),
+             "{} lies in exactly the blocks of its length, and that in block {} has {} for {:,} bytes",
              what, first, blocks, length)
-        hold(first + blocks <= self.blocks(), "{} lies within the file, and that in block {} does not", what,
-             first)
-        hold(length <= most, "{} has {:,} bytes at most, and that in block {} has {:,}", what, most, first,
-             length)
+        hold(first + blocks <= self.blocks(), "{} lies within the file, and that in block {} does not", what, first)
+        hold(length <= limit, "{} has {:,} bytes at most, and that in block {} has {:,}", what, limit, first, length)
         data = self.part(first, length)
-        hold(hashlib.sha256(data).digest() == sha256, "{} has the SHA-256 of its reference, and that in "
-                                                      "block {} has another", what, first)
+        hold(hashlib.sha256(data).digest() == sha256,
+             "{} has the SHA-256 of its reference, and that in block {} has another", what, first)
         return data
 
-    def pages(self, entries: list[Entry], kept: dict[Entry, Page[Item]], kind: int,
+    def pages(self, entries: list[Entry], known: dict[Entry, Page[Item]], kind: int,
               take: Callable[[Fields], Item]) -> list[Page[Item]]:
         """The pages of a list. One that was read before is right for ever, as its SHA-256 is."""
         for entry in entries:
-            if entry not in kept:
-                kept[entry] = page_of(self.referred(entry, "a page", LONGEST_PAGE), entry, kind, take)
-        return [kept[entry] for entry in entries]
+            if entry not in known:
+                known[entry] = page_of(self.referred(entry, "a page", LONGEST_PAGE), entry, kind, take)
+        return [known[entry] for entry in entries]
 
     def source(self, root: Root) -> Source:
         """The source that a root leads to."""

@@ -25,7 +25,7 @@ CREATED, UPDATED, DELETED = 1, 2, 3
 MOST_ITEMS, LONGEST_BODY, LONGEST_NAME = 50_000, 16_777_216, 240
 # 9999-12-31T23:59:59.999Z
 LAST_MOMENT = 253_402_300_799_999
-# What stands behind the name and the media type of a record, and of a change: the length, the digests that
+# What follows the name and the media type of a record, and of a change: the length, the digests that
 # are not looked at, and of a record its moment and its blocks.
 OF_RECORD, OF_CHANGE, MOMENT = struct.Struct(">I48xQII"), struct.Struct(">I48x"), struct.Struct(">Q")
 # A name is segments of RFC 3986, none of which is `.` or `..`; a media type begins with two tokens; a base
@@ -177,8 +177,8 @@ def directory_of(data: bytes, version: int) -> tuple[Header, list[list[Entry]]]:
     entries = [[entry_of(fields) for _ in range(count)] for count in counts]
     fields.ended()
     hold(2 <= limit <= 4_000, "the item limit is 2 to 4,000, and this one is {:,}", limit)
-    hold(8 <= len(base) <= 128 and BASE.fullmatch(base), "the base is an address of 8 to 128 bytes, and this "
-                                                         "one is {}", base)
+    hold(8 <= len(base) <= 128 and BASE.fullmatch(base),
+         "the base is an address of 8 to 128 bytes, and this one is {}", base)
     return Header(limit, base.decode(), start, last, number, at, first, begin), entries
 
 
@@ -190,8 +190,7 @@ def look_at_body(kind: bytes, length: int) -> None:
 
 def look_at_item(name: bytes, moment: int) -> None:
     """The rules of a record and of a change alike."""
-    hold(1 <= len(name) <= LONGEST_NAME and NAME.fullmatch(name), "a name is lawful, and this one is {}",
-         name)
+    hold(1 <= len(name) <= LONGEST_NAME and NAME.fullmatch(name), "a name is lawful, and this one is {}", name)
     hold(moment <= LAST_MOMENT, "a moment is in the year 9999 at the latest, and that of {} is not", name)
 
 
@@ -213,8 +212,8 @@ def change_of(fields: Fields) -> Change:
     """A change off the front of some bytes."""
     begun, what, name = fields.at, fields.number(1), fields.short()
     (moment,) = fields.unpacked(MOMENT)
-    hold(what in (CREATED, UPDATED, DELETED), "a change creates, updates or deletes, and that of {} is of "
-                                              "the kind {}", name, what)
+    hold(what in (CREATED, UPDATED, DELETED),
+         "a change creates, updates or deletes, and that of {} is of the kind {}", name, what)
     look_at_item(name, moment)
     if what == DELETED:
         return Change(what, name, moment, b"", 0, fields.at - begun)

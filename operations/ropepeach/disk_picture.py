@@ -37,15 +37,15 @@ def text(x: int, y: int, words: str, size: int = 14) -> str:
     return f'<text x="{x}" y="{y}" font-size="{size}">{escape(words)}</text>'
 
 
-def shape(most: int) -> tuple[int, int]:
+def shape(total: int) -> tuple[int, int]:
     """How many cells a row has, and how many blocks a cell."""
-    columns = next((count for limit, count in COLUMNS if most <= limit), MOST_COLUMNS)
-    return columns, max(1, -(-most // (columns * ROWS)))
+    columns = next((count for limit, count in COLUMNS if total <= limit), MOST_COLUMNS)
+    return columns, max(1, -(-total // (columns * ROWS)))
 
 
-def cells_of(extents: Sequence[Extent], most: int, each: int) -> list[list[int]]:
+def cells_of(extents: Sequence[Extent], total: int, each: int) -> list[list[int]]:
     """How many blocks of each kind each cell has."""
-    cells = [[0] * len(KINDS) for _ in range(-(-most // each))]
+    cells = [[0] * len(KINDS) for _ in range(-(-total // each))]
     for extent in extents:
         at, end = extent.first, extent.first + extent.blocks
         while at < end:
@@ -71,25 +71,25 @@ def row(cells: Sequence[list[int]], columns: int, each: int, y: int) -> Iterator
         x += run
 
 
-def legend(counts: Mapping[str, int], most: int, y: int) -> Iterator[str]:
+def legend(counts: Mapping[str, int], total: int, y: int) -> Iterator[str]:
     """A line for each kind: its colour, its name, its blocks and its share."""
     for number, (kind, count) in enumerate(counts.items()):
         at = y + number * LINE
         yield element("rect", x=LEFT, y=at - 12, width=16, height=HEIGHT, fill=FILLS.get(kind, "#ffffff"),
                       stroke=EDGE)
-        share = f"{count / most:.1%}" if count == 0 or count * 1_000 >= most else "under 0.1%"
-        yield text(LEFT + 26, at, f"{NAMES[kind]}: {count:,} of {most:,} blocks, {share}")
+        share = f"{count / total:.1%}" if count == 0 or count * 1_000 >= total else "under 0.1%"
+        yield text(LEFT + 26, at, f"{NAMES[kind]}: {count:,} of {total:,} blocks, {share}")
 
 
-def drawn(title: str, extents: Sequence[Extent], most: int, longest: int) -> str:
+def drawn(title: str, extents: Sequence[Extent], total: int, longest: int) -> str:
     """The picture of this many blocks."""
-    columns, each = shape(most)
-    cells = cells_of(extents, most, each)
+    columns, each = shape(total)
+    cells = cells_of(extents, total, each)
     counts = {kind: sum(extent.blocks for extent in extents if extent.kind == kind) for kind in KINDS}
-    counts["free"] = most - sum(counts.values())
+    counts["free"] = total - sum(counts.values())
     rows = [cells[at : at + columns] for at in range(0, len(cells), columns)]
     height = TOP + len(rows) * (HEIGHT + 2) + LINE * (len(counts) + 2)
-    facts = f"{most:,} blocks of 512 bytes, {most - counts['free']:,} used; the longest free run has {longest:,}"
+    facts = f"{total:,} blocks of 512 bytes, {total - counts['free']:,} used; the longest free run has {longest:,}"
     parts = [element("rect", x=0.5, y=0.5, width=WIDTH + 2 * LEFT - 1, height=height - 1, fill=PAPER,
                      stroke=EDGE, rx=6),
              text(LEFT, 36, title, 20), text(LEFT, 60, facts),
@@ -98,12 +98,12 @@ def drawn(title: str, extents: Sequence[Extent], most: int, longest: int) -> str
     for number, cells_of_row in enumerate(rows):
         y = TOP + number * (HEIGHT + 2)
         # (the last row may have fewer cells, and its last cell fewer blocks)
-        blocks = min(most - number * columns * each, columns * each)
+        blocks = min(total - number * columns * each, columns * each)
         width = blocks / each * WIDTH / columns
         parts.append(element("rect", x=LEFT, y=y, width=width, height=HEIGHT, fill="#ffffff", stroke=EDGE,
                              stroke_width=0.5))
         parts += row(cells_of_row, columns, each, y)
-    parts += legend(counts, most, TOP + len(rows) * (HEIGHT + 2) + LINE)
+    parts += legend(counts, total, TOP + len(rows) * (HEIGHT + 2) + LINE)
     size = f'width="{WIDTH + 2 * LEFT}" height="{height}" viewBox="0 0 {WIDTH + 2 * LEFT} {height}"'
     head = f'<svg xmlns="http://www.w3.org/2000/svg" version="1.1" {size} font-family="sans-serif" fill="{INK}">'
     names = [f"<title>{escape(title)}</title>", f"<desc>{escape(facts)}</desc>"]

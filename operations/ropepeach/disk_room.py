@@ -12,7 +12,7 @@ from ropepeach.disk_source import Extent, Source, items_of
 # A touched page of more records than MOST is cut from its front into pages of CUT; a page of changes has MOST
 # at most.
 MOST, CUT = 64, 32
-# The bytes of a page, a directory, an entry, a record and a change beside their texts.
+# The bytes of a page, a directory, an entry, a record and a change without their texts.
 OF_PAGE, OF_DIRECTORY, OF_ENTRY, OF_RECORD, OF_CHANGE = 5, 63, 44, 70, 63
 
 
@@ -23,14 +23,14 @@ class Run(NamedTuple):
     blocks: int
 
 
-def free_runs(extents: Sequence[Extent], most: int) -> list[Run]:
+def free_runs(extents: Sequence[Extent], total: int) -> list[Run]:
     """The runs of free blocks."""
     behind, runs = 0, []
     for extent in extents:
         if extent.first > behind:
             runs.append(Run(behind, extent.first - behind))
         behind = extent.first + extent.blocks
-    return runs + ([Run(behind, most - behind)] if most > behind else [])
+    return runs + ([Run(behind, total - behind)] if total > behind else [])
 
 
 class Blocks:
@@ -39,8 +39,8 @@ class Blocks:
     No run of a length is free before the block that is noted for this length.
     """
 
-    def __init__(self, extents: Sequence[Extent], most: int) -> None:
-        self.used, self.lowest = bytearray(most), dict[int, int]()
+    def __init__(self, extents: Sequence[Extent], total: int) -> None:
+        self.used, self.lowest = bytearray(total), dict[int, int]()
         for extent in extents:
             self.used[extent.first : extent.first + extent.blocks] = bytes([1]) * extent.blocks
 
@@ -61,9 +61,9 @@ class Blocks:
         begin = self.used.rfind(1, 0, first) + 1
         end = self.used.find(1, first + count)
         length = (end if end >= 0 else len(self.used)) - begin
-        for asked, at in self.lowest.items():
-            if asked <= length and begin < at:
-                self.lowest[asked] = begin
+        for wanted, at in self.lowest.items():
+            if wanted <= length and begin < at:
+                self.lowest[wanted] = begin
 
 
 class LastPage(NamedTuple):
@@ -89,18 +89,19 @@ class Puts:
         self.changes = last_page(source.changes, ())
         self.pages = [len(source.catalogue), len(source.changes)]
         self.directory = Run(source.root.directory.first, source.root.directory.blocks)
-        self.held, self.kept = len(items_of(source.catalogue)), len(items_of(source.changes))
+        self.resource_count, self.change_count = len(items_of(source.catalogue)), len(items_of(source.changes))
 
     def refusal(self, size: int) -> str | None:
         """Why one more put of this many bytes is refused, or None if it is done."""
-        if self.held >= MOST_ITEMS:
+        if self.resource_count >= MOST_ITEMS:
             return "TooManyResources"
-        if self.kept >= MOST_ITEMS:
+        if self.change_count >= MOST_ITEMS:
             return "TooManyChanges"
         if self.blocks.taken(blocks_of(size)) is None:
             return "Full"
-        freed = [self.directory, self.records.run, *([self.changes.run] if len(self.changes.sizes) < MOST
-                                                     else [])]
+        freed = [self.directory, self.records.run]
+        if len(self.changes.sizes) < MOST:
+            freed.append(self.changes.run)
         records, changes = self.touched()
         places = [self.placed(OF_PAGE + sum(sizes)) for sizes in (*records, changes)]
         directory = self.placed(OF_DIRECTORY + self.base + OF_ENTRY * (sum(self.pages) + self.listed))
@@ -110,7 +111,7 @@ class Puts:
         self.directory = directory
         for run in filter(None, freed):
             self.blocks.given_back(run.first, run.blocks)
-        self.held, self.kept = self.held + 1, self.kept + 1
+        self.resource_count, self.change_count = self.resource_count + 1, self.change_count + 1
         return None
 
     def touched(self) -> tuple[list[list[int]], list[int]]:
@@ -131,13 +132,13 @@ class Puts:
         return None if first is None else Run(first, blocks_of(length))
 
 
-def last_page(pages: Sequence[Page[Any]], kept: Collection[Entry]) -> LastPage:
-    """The last page of a list. Its blocks are not given back while it is kept for another list."""
+def last_page(pages: Sequence[Page[Any]], others: Collection[Entry]) -> LastPage:
+    """The last page of a list. Its blocks are not given back while another list has the page, too."""
     if not pages:
         return LastPage([], None)
     entry = pages[-1].entry
     return LastPage([item.size for item in pages[-1].items],
-                    None if entry in kept else Run(entry.first, entry.blocks))
+                    None if entry in others else Run(entry.first, entry.blocks))
 
 
 def puts_that_fit(source: Source, size: int, name: int, kind: int) -> tuple[int, str]:

@@ -13,15 +13,15 @@ from ropepeach.disk_source import Extent, Source, items_of
 
 
 def look_at_moments(header: Header) -> None:
-    """The rules of the moments and of the dropped parts that the directory tells."""
+    """The rules of the moments and of the dropped parts, as the directory has them."""
     hold(header.last <= LAST_MOMENT, "the last moment is in the year 9999 at the latest")
     hold(header.start <= header.begin <= header.at <= header.last,
          "the moments of formatting, of the begin of the changes, of the publication and of the last command "
          "follow in this order")
-    hold(header.first <= header.begin - header.start, "no more parts of the changes were dropped than there "
-                                                      "are milliseconds before their begin")
-    hold(header.first or header.begin == header.start, "where no part was dropped, the changes begin at the "
-                                                       "formatting")
+    hold(header.first <= header.begin - header.start,
+         "no more parts of the changes were dropped than there are milliseconds before their begin")
+    hold(header.first or header.begin == header.start,
+         "where no part was dropped, the changes begin at the formatting")
 
 
 def look_at_records(header: Header, pages: Sequence[Page[Record]], latest: int, what: str) -> None:
@@ -29,37 +29,37 @@ def look_at_records(header: Header, pages: Sequence[Page[Record]], latest: int, 
     records = items_of(pages)
     hold(len(records) <= MOST_ITEMS, "{} has at most 50,000 records, and this one has {:,}", what,
          len(records))
-    for before, it in itertools.pairwise(records):
-        hold(before.name < it.name, "the names of {} ascend, and {} comes behind {}", what, it.name,
+    for before, record in itertools.pairwise(records):
+        hold(before.name < record.name, "the names of {} ascend, and {} comes behind {}", what, record.name,
              before.name)
-    for it in records:
-        hold(header.start < it.moment <= latest, "the moments of {} are in their bounds, and that of {} is "
-                                                 "not", what, it.name)
+    for record in records:
+        hold(header.start < record.moment <= latest,
+             "the moments of {} are in their bounds, and that of {} is not", what, record.name)
 
 
 def look_at_changes(header: Header, pages: Sequence[Page[Change]]) -> None:
     """The rules of the changes that are kept."""
     changes = items_of(pages)
     hold(len(changes) <= MOST_ITEMS, "at most 50,000 changes are kept, and these are {:,}", len(changes))
-    for before, it in itertools.pairwise(changes):
-        hold(before.moment < it.moment, "the moments of changes rise, and that of {} does not behind {}",
-             it.name, before.name)
-    for it in changes:
-        hold(header.begin < it.moment <= header.last, "the moments of changes are in their bounds, and that "
-                                                      "of {} is not", it.name)
+    for before, change in itertools.pairwise(changes):
+        hold(before.moment < change.moment, "the moments of changes rise, and that of {} does not behind {}",
+             change.name, before.name)
+    for change in changes:
+        hold(header.begin < change.moment <= header.last,
+             "the moments of changes are in their bounds, and that of {} is not", change.name)
     newest = max(header.at, changes[-1].moment if changes else 0)
-    hold(header.last == newest, "the last moment is that of the last change or of the publication, whichever "
-                                "is later")
+    hold(header.last == newest,
+         "the last moment is that of the last change or of the publication, whichever is later")
 
 
-def look_at_blocks(extents: Sequence[Extent], most: int) -> None:
+def look_at_blocks(extents: Sequence[Extent], total: int) -> None:
     """The rule of the used blocks: each is used once, and lies in the used part of the file."""
     behind = 0
-    for it in extents:
-        hold(it.first >= behind, "no two things have a block in common, and block {} is used twice", it.first)
-        behind = it.first + it.blocks
-    hold(behind <= most, "all that is used lies in the {:,} blocks of the file, and something ends before "
-                         "block {:,}", most, behind)
+    for extent in extents:
+        hold(extent.first >= behind, "no two things have a block in common, and block {} is used twice", extent.first)
+        behind = extent.first + extent.blocks
+    hold(behind <= total, "all that is used lies in the {:,} blocks of the file, and something ends before block {:,}",
+         total, behind)
 
 
 def look(source: Source, extents: Sequence[Extent]) -> None:

@@ -7,7 +7,7 @@ from typing import NamedTuple
 
 from ropepeach.disk_formats import Change, Header, Item, Page, Record, Root
 
-# No more blocks are used of any file, and the first two are the slots.
+# How many blocks of a file are used at most; the first two are the slots.
 MOST_BLOCKS, SLOTS = 8_388_608, 2
 KINDS = "slots", "directory", "records", "changes", "published", "bodies"
 
@@ -47,12 +47,12 @@ def extents_of(root: Root, catalogue: list[Page[Record]], changes: list[Page[Cha
     """All used blocks, in their order: what lies where. A published page that is also one of the catalogue
     counts once.
     """
-    held = {page.entry for page in catalogue}
+    catalogued = {page.entry for page in catalogue}
     extents = [Extent(root.directory.first, root.directory.blocks, "directory")]
     extents += [Extent(page.entry.first, page.entry.blocks, "records") for page in catalogue]
     extents += [Extent(page.entry.first, page.entry.blocks, "changes") for page in changes]
     extents += [Extent(page.entry.first, page.entry.blocks, "published")
-                for page in published if page.entry not in held]
+                for page in published if page.entry not in catalogued]
     extents += [Extent(record.first, record.blocks, "bodies")
                 for record in items_of(catalogue) if record.blocks]
     return [Extent(0, SLOTS, "slots"), *sorted(extents)]

@@ -24,6 +24,9 @@ class Algorithm(enum.Enum):
     SHA_256 = "sha-256", 32, hashlib.sha256
     SHA_512 = "sha-512", 64, hashlib.sha512
 
+    # (a member is equal only to itself; Python's own hash of one is a call in Python, several an entry of a list)
+    __hash__ = object.__hash__
+
     def __init__(self, word: str, size: int, make: Callable[..., Any]) -> None:
         self.word, self.size, self.make, self.flag = word, size, make, 1 << len(self.__class__.__members__)
 
@@ -37,8 +40,8 @@ BY_WORD = {algorithm.word: algorithm for algorithm in Algorithm}
 ALL_FLAGS = sum(algorithm.flag for algorithm in Algorithm)
 BY_FLAGS = [tuple(algorithm for algorithm in Algorithm if flags & algorithm.flag)
             for flags in range(ALL_FLAGS + 1)]
-# The flag of a length, and the bytes before the digests.
-HAS_LENGTH, FRONT = ALL_FLAGS + 1, 6
+# The flags of a length and of a moment, the bytes before the digests, and those of a moment.
+HAS_LENGTH, HAS_MOMENT, FRONT, MOMENT = ALL_FLAGS + 1, 2 * (ALL_FLAGS + 1), 6, 7
 # A longer body can't be had.
 LONGEST_LENGTH = (1 << 40) - 1
 
@@ -61,7 +64,7 @@ class Check(enum.Enum):
 
 # What a list says of a body, in few bytes: an object with slots takes 64 bytes more for each file of a
 # folder, a subclass of bytes 16. A byte of flags, 5 bytes of length, the digests in the order of their
-# algorithms, the media type. The functions below read it.
+# algorithms, 7 bytes of a moment if there is one, the media type. The functions below read it.
 Facts = NewType("Facts", bytes)
 
 
@@ -69,8 +72,8 @@ def facts_of(length: int | None, digests: Mapping[Algorithm, bytes], kind: str) 
     """Facts of a length, digests and a media type; the length may be unknown."""
     flags = sum(algorithm.flag for algorithm in digests) + (0 if length is None else HAS_LENGTH)
     joined = b"".join(digests[algorithm] for algorithm in Algorithm if algorithm in digests)
-    return Facts(bytes([flags]) + min(length or 0,
-                                      LONGEST_LENGTH).to_bytes(5, "big") + joined + kind.encode())
+    size = min(length or 0, LONGEST_LENGTH).to_bytes(5, "big")
+    return Facts(bytes([flags]) + size + joined + kind.encode())
 
 
 def length_of(facts: Facts) -> int:
@@ -98,9 +101,27 @@ def digest_of(facts: Facts, wanted: Algorithm) -> bytes | None:
     return None
 
 
+def digests_end(facts: Facts) -> int:
+    """The place behind the digests."""
+    return FRONT + sum(algorithm.size for algorithm in algorithms_of(facts))
+
+
+def dated(facts: Facts, moment: int) -> Facts:
+    """Facts that have no moment, with one: milliseconds since 1970."""
+    end = digests_end(facts)
+    return Facts(bytes([facts[0] | HAS_MOMENT]) + facts[1:end] + moment.to_bytes(MOMENT, "big", signed=True)
+                 + facts[end:])
+
+
+def date_of(facts: Facts) -> int | None:
+    """The moment, if these facts have one."""
+    end = digests_end(facts)
+    return int.from_bytes(facts[end : end + MOMENT], "big", signed=True) if facts[0] & HAS_MOMENT else None
+
+
 def kind_of(facts: Facts) -> str:
     """The media type, or nothing."""
-    return facts[FRONT + sum(algorithm.size for algorithm in algorithms_of(facts)) :].decode()
+    return facts[digests_end(facts) + (MOMENT if facts[0] & HAS_MOMENT else 0) :].decode()
 
 
 def fit(facts: Facts, body: bytes) -> bool:

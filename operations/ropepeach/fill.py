@@ -4,7 +4,7 @@ A file that the source does not hold is put, one of another length or SHA-256 is
 without a file is deleted. What is held is read off the source's lists. A file whose size, times and inode are
 those of an earlier run is not read again: its remembered SHA-256 is compared with the list's. --check reads
 all. A file's name is its path below FOLDER, percent-encoded. Its media type is that of the first pattern in
---types that fits its name; then it is compared too. Else its ending tells the type. A publication is made if
+--types that fits its name; then it is compared too. Else its ending decides the type. A publication is made if
 the Resource List is not what is held, and where the source's history is full.
 
 What cannot be a resource is named and left out: a name of more than 240 bytes, a file of more than 16,777,216
@@ -20,8 +20,8 @@ from __future__ import annotations
 import argparse
 import sys
 
-from ropepeach import numbers, output, room
-from ropepeach.collection_file import is_collection
+from ropepeach import filters, numbers, output, room
+from ropepeach.collection_file import add_option_of_jobs, is_collection
 from ropepeach.connections import add_options, connections_of
 from ropepeach.faults import Fault
 from ropepeach.fill_files import Files, Kinds
@@ -55,11 +55,13 @@ def add_arguments(parser: argparse.ArgumentParser) -> None:
     parser.add_argument("--allow-empty", action="store_true", help=argparse.SUPPRESS)
     parser.add_argument("--links", action="store_true", help="follow links to files that lie inside FOLDER")
     parser.add_argument("--skip-unlawful", action="store_true",
-                        help="leave out what can be no resource without a word, and count it")
+                        help="leave out silently what can be no resource, and count it")
     parser.add_argument("--types", metavar="FILE",
                         help="media types by name: lines of a pattern and a type, as data/* text/csv")
     parser.add_argument("--room", type=numbers.size, metavar="SIZE",
                         help="refuse a folder that a disk of this size cannot hold")
+    filters.add_options(parser, "files, which are neither put nor deleted,")
+    add_option_of_jobs(parser)
     add_options(parser)
 
 
@@ -69,7 +71,7 @@ def run(arguments: argparse.Namespace) -> int:
         from ropepeach import collection_fill
 
         return collection_fill.run(arguments)
-    folder = Files(arguments.folder, arguments.links)
+    folder = Files(arguments.folder, arguments.links, filters.Filters(arguments.rules))
     plan = Plan(folder, Kinds(arguments.types), arguments.again, arguments.skip_unlawful)
     connections = connections_of(arguments, arguments.url)
     if arguments.room is None and not sys.stderr.isatty():
@@ -89,8 +91,8 @@ def run(arguments: argparse.Namespace) -> int:
 
 def filled(arguments: argparse.Namespace, plan: Plan, source: KnownSource, memory: Memory) -> int:
     """Fills a source from what is planned, and gives the exit status."""
-    held, at, is_published = held_by(source)
-    plan.compare(held, memory)
+    resources, at, is_published = held_by(source)
+    plan.compare(resources, memory)
     if arguments.repair:
         plan.look_at_bodies(source)
     sending = Sending(source, at, arguments.publish, plan.acknowledged)

@@ -15,12 +15,13 @@ from collections.abc import Callable, Iterable, Iterator
 from typing import NamedTuple
 
 from ropepeach.faults import Fault, Misused
+from ropepeach.filters import Filters
 from ropepeach.mirror_tree import Linked, Tree
 from ropepeach.room import LONGEST_BODY, LONGEST_NAME
 
 Order = Callable[[Iterable[str]], Iterable[str]]
 
-# What stands for itself in a segment of a path, beside letters and digits (RFC 3986, section 3.3).
+# What a segment of a path has unquoted, with letters and digits (RFC 3986, section 3.3).
 PLAIN = "-._~!$&'()*+,;=:@"
 PLAIN_SEGMENT = re.compile(rf"[A-Za-z0-9{re.escape(PLAIN)}]+")
 UNKNOWN = "application/octet-stream"
@@ -28,9 +29,8 @@ TOKEN = r"[A-Za-z0-9!#$%&'*+.^_`|~-]+"
 MEDIA_TYPE = re.compile(rf"(?=.{{3,100}}\Z){TOKEN}/{TOKEN}(?:[ -~]*[!-~])?")
 # A file that changed within the last second is waited for. It is read this often at most.
 YOUNG, READINGS = 1.0, 3
-# The clock of a file system may stand still for this many nanoseconds: a file that changed within them before
-# it was read may change
-# once more without a new time. (FAT counts in 2 seconds.)
+# The clock of a file system may pause for this many nanoseconds: a file that changed within them before it was
+# read may change once more without a new time. (FAT counts in 2 seconds.)
 GRAIN = 2_000_000_000
 
 
@@ -73,7 +73,7 @@ class Reading(NamedTuple):
 
 
 def quoted(segment: str) -> str:
-    """A segment of a name that stands for the one of a path."""
+    """The segment of a name for a segment of a path."""
     return segment if PLAIN_SEGMENT.fullmatch(segment) else urllib.parse.quote(os.fsencode(segment), safe=PLAIN)
 
 
@@ -85,7 +85,8 @@ def path_of(name: str) -> str:
 def shown(path: str) -> str:
     """A path as a person reads it, on one line."""
     text = os.fsencode(path).decode("utf-8", "backslashreplace")
-    return "".join(it if it.isprintable() else it.encode("unicode_escape").decode() for it in text)
+    return "".join(character if character.isprintable() else character.encode("unicode_escape").decode()
+                   for character in text)
 
 
 def checked(status: os.stat_result) -> int:
@@ -102,9 +103,10 @@ class Files:
     folder.
     """
 
-    def __init__(self, folder: str, is_following: bool = False) -> None:
-        """Opens a folder. Links to files within it are followed, or none is."""
-        self.folder, self.is_following = folder, is_following
+    def __init__(self, folder: str, is_following: bool = False, filters: Filters | None = None) -> None:
+        """Opens a folder. Links to files within it are followed, or none is. What the filters leave out is not there.
+        """
+        self.folder, self.is_following, self.filters = folder, is_following, filters or Filters()
         try:
             self.tree = Tree(folder, os.open(folder, os.O_RDONLY | os.O_DIRECTORY))
         except OSError as fault:
@@ -115,7 +117,8 @@ class Files:
         path = path_of(front).rstrip("/")
         try:
             for name, is_folder in self.tree.listed(path):
-                yield quoted(name) + "/" * is_folder
+                if self.filters.has_entry(os.path.join(path, name), is_folder):
+                    yield quoted(name) + "/" * is_folder
         except (OSError, Linked) as fault:
             why = fault.strerror if isinstance(fault, OSError) else "it is a link by now"
             raise Fault(f"a folder cannot be listed: {shown(os.path.join(self.folder, path))}: {why}") from None
@@ -246,24 +249,23 @@ class Kinds:
 
     def __init__(self, path: str | None = None) -> None:
         """Reads lines of a pattern and a type, as `data/* text/csv`; `#` begins a comment."""
-        self.given: list[tuple[re.Pattern[str], str]] = []
+        self.patterns: list[tuple[re.Pattern[str], str]] = []
         for number, line in enumerate(lines_of(path) if path else [], 1):
             pattern, _, kind = line.strip().partition(" ")
             if pattern and not pattern.startswith("#"):
                 if not MEDIA_TYPE.fullmatch(kind.strip()):
                     raise Misused(f"{path}: line {number} is no pattern and media type, as data/* text/csv is")
-                self.given.append((re.compile(fnmatch.translate(pattern)), kind.strip()))
+                self.patterns.append((re.compile(fnmatch.translate(pattern)), kind.strip()))
 
     def given_to(self, name: str) -> str:
         """The type that a pattern gives to a name, or nothing."""
-        return next((kind for pattern, kind in self.given if pattern.fullmatch(name)),
-                    "") if self.given else ""
+        return next((kind for pattern, kind in self.patterns if pattern.fullmatch(name)), "") if self.patterns else ""
 
     def of(self, name: str) -> str:
         """The type of a name. What is compressed is not of the type of what is in it."""
-        # (behind `./` nothing is taken for the scheme of a URL)
-        kind, coding = mimetypes.guess_type("./"
-                                            + urllib.parse.unquote(name, errors="replace").rpartition("/")[2])
+        # (behind `./` nothing counts as the scheme of a URL)
+        last = urllib.parse.unquote(name, errors="replace").rpartition("/")[2]
+        kind, coding = mimetypes.guess_type("./" + last)
         return self.given_to(name) or (kind if kind and not coding else UNKNOWN)
 
 

@@ -12,7 +12,8 @@ from ropepeach.connections import Connections
 from ropepeach.facts import Algorithm, Facts
 from ropepeach.facts import digest_of as listed_digest
 from ropepeach.fill_memory import Memory
-from ropepeach.lists import SITEMAP, Entry, Source
+from ropepeach.lists import Entry, Source
+from ropepeach.sitemaps import SITEMAP
 
 Held = dict[str, Facts | None]
 
@@ -29,30 +30,31 @@ class KnownSource(Source):
         memory = self.memory
         if memory is None or take is None:
             return super().document(address, take)
-        text = self.asked(address, self.connections.longest)
+        text = self.bytes_at(address, self.connections.longest)
         known = memory.document(text)
         if known is not None:
             head, entries = known
             for entry in entries:
                 take(entry_of(entry))
             return ElementTree.fromstring(head)
-        kept: list[Any] = []
+        rows: list[Any] = []
         wanted = take
 
         def keep(entry: Entry) -> None:
-            kept.append([entry.name, entry.moment, entry.facts.hex() if entry.facts is not None else None])
+            """Notes an entry for the next run, and gives it away."""
+            rows.append([entry.name, entry.moment, entry.facts.hex() if entry.facts is not None else None])
             wanted(entry)
 
         root = self.parsed(address, text, keep)
         for empty in root.findall(SITEMAP + "url"):
             root.remove(empty)
-        memory.keep(text, ElementTree.tostring(root), kept)
+        memory.keep(text, ElementTree.tostring(root), rows)
         return root
 
 
-def entry_of(kept: list[Any]) -> Entry:
+def entry_of(row: list[Any]) -> Entry:
     """An entry as it was kept."""
-    name, moment, facts = kept
+    name, moment, facts = row
     return Entry(name, moment, None if facts is None else Facts(bytes.fromhex(facts)))
 
 
@@ -63,11 +65,11 @@ def digest_of(facts: Facts) -> bytes | None:
 
 def held_by(source: Source) -> tuple[Held, str, bool]:
     """What a source holds, the moment of its Resource List, and whether that list is what it holds."""
-    at, held, changes = source.lists_that_meet()
+    at, resources, changes = source.lists_that_meet()
     before: Held = {}
     for entry in changes.entries:
-        before.setdefault(entry.name, held.get(entry.name))
-        held.pop(entry.name, None)
+        before.setdefault(entry.name, resources.get(entry.name))
+        resources.pop(entry.name, None)
         if entry.facts is not None:
-            held[entry.name] = entry.facts
-    return held, at, all(held.get(name) == facts for name, facts in before.items())
+            resources[entry.name] = entry.facts
+    return resources, at, all(resources.get(name) == facts for name, facts in before.items())

@@ -2,7 +2,7 @@
 of it.
 
 A file that stat(2) describes as before has the bytes that were read then, so it need not be read again. Its
-remembered SHA-256 is compared with the one in the source's lists, so this file decides nothing alone. It also
+remembered SHA-256 is compared with the one in the source's lists, so this file alone decides nothing. It also
 has the entries of list documents by the SHA-256 of the documents, so that the same bytes are not parsed
 twice.
 
@@ -31,14 +31,11 @@ VERSION, APPLICATION = 1, 0x5270466C
 SCHEMA = {
     "about": "CREATE TABLE about (word TEXT PRIMARY KEY, value BLOB NOT NULL) WITHOUT ROWID",
     "files": "CREATE TABLE files (name TEXT PRIMARY KEY, size INTEGER NOT NULL, mtime INTEGER NOT NULL, "
-             "ctime INTEGER NOT NULL, "
-             "inode INTEGER NOT NULL, sha256 BLOB NOT NULL) WITHOUT ROWID",
+             "ctime INTEGER NOT NULL, inode INTEGER NOT NULL, sha256 BLOB NOT NULL) WITHOUT ROWID",
     "noted": "CREATE TABLE noted (name TEXT PRIMARY KEY, size INTEGER NOT NULL, mtime INTEGER NOT NULL, "
-             "ctime INTEGER NOT NULL, "
-             "inode INTEGER NOT NULL, sha256 BLOB NOT NULL) WITHOUT ROWID",
+             "ctime INTEGER NOT NULL, inode INTEGER NOT NULL, sha256 BLOB NOT NULL) WITHOUT ROWID",
     "documents": "CREATE TABLE documents (sha256 BLOB PRIMARY KEY, head BLOB NOT NULL, entries BLOB NOT "
-                 "NULL, seal BLOB NOT NULL) "
-                 "WITHOUT ROWID",
+                 "NULL, seal BLOB NOT NULL) WITHOUT ROWID",
 }
 # This many rows are written before they are committed.
 ROWS = 1_000
@@ -105,7 +102,7 @@ def remove(path: str) -> None:
 
 
 def opened(path: str, base: str, folder: str) -> sqlite3.Connection:
-    """The database of a file, for this source and this folder. It is this run's alone until it is closed."""
+    """The database of a file, for this source and this folder. Only this run has it until it is closed."""
     database = sqlite3.connect(path, timeout=0, isolation_level=None)
     try:
         for words in ("trusted_schema = OFF", "locking_mode = EXCLUSIVE", "synchronous = NORMAL"):
@@ -164,10 +161,10 @@ class Memory:
         """Opens the file. A run that checks trusts no row, and a dry run writes none."""
         self.path, self.is_checking, self.is_dry, self.count = file_of(base), is_checking, is_dry, 0
         self.database: sqlite3.Connection | None = None
-        self.asked = ""
+        self.last_name = ""
         self.rows: Iterator[Any] = iter(())
         self.row: Any = None
-        # Names of rows whose files are no more, and the documents of this run.
+        # Names of rows whose files were deleted, and the documents of this run.
         self.stale: list[str] = []
         self.used: set[bytes] = set()
         self.guarded(lambda: self.open(base, folder), None)
@@ -209,8 +206,7 @@ class Memory:
         """Reads the rows of files from the first one on."""
         database = self.database
         if database and not self.is_checking:
-            self.rows = database.execute("SELECT name, size, mtime, ctime, inode, sha256 FROM files ORDER "
-                                         "BY name")
+            self.rows = database.execute("SELECT name, size, mtime, ctime, inode, sha256 FROM files ORDER BY name")
             self.guarded(self.advance, None)
 
     def advance(self) -> None:
@@ -224,10 +220,10 @@ class Memory:
         their bytes.
         """
         while self.row is not None and self.row[0] < name:
-            if self.row[0] != self.asked:
+            if self.row[0] != self.last_name:
                 self.stale.append(self.row[0])
             self.guarded(self.advance, None)
-        row, self.asked = self.row, name
+        row, self.last_name = self.row, name
         if row is None or row[0] != name or row[1:5] != stamp:
             return None
         digest: bytes = row[5]
@@ -277,7 +273,7 @@ class Memory:
             self.database.execute("INSERT OR REPLACE INTO documents VALUES (?, ?, ?, ?)", row)
 
     def close(self) -> None:
-        """Ends the run: its rows are kept, and those of files that are no more are not."""
+        """Ends the run: its rows are kept, but not those of deleted files."""
         self.guarded(self.end, None)
         self.drop(is_damaged=False)
 
@@ -286,9 +282,9 @@ class Memory:
         database = self.database
         if database and not self.is_dry:
             self.rows, self.row = iter(()), None
-            kept = [digest for (digest,) in database.execute("SELECT sha256 FROM documents")]
+            digests = [digest for (digest,) in database.execute("SELECT sha256 FROM documents")]
             database.executemany("DELETE FROM documents WHERE sha256 = ?",
-                                 [(digest,) for digest in kept if digest not in self.used])
+                                 [(digest,) for digest in digests if digest not in self.used])
             database.executemany("DELETE FROM files WHERE name = ?", [(name,) for name in self.stale])
             take_noted(database)
             database.execute("COMMIT")

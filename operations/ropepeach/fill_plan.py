@@ -45,7 +45,7 @@ class Plan:
         self.sizes = array("Q")
         self.gone: list[str] = []
         self.left_out: set[str] = set()
-        self.same = self.held = self.missed = 0
+        self.same = self.resource_count = self.missed = 0
         self.files = self.bytes = self.blocks = self.longest = self.names = self.types = 0
 
     def all_names(self, order: Order = sorted) -> Iterator[str]:
@@ -71,15 +71,16 @@ class Plan:
             self.longest = max(self.longest, size)
 
     def measure_roughly(self) -> None:
-        """Counts names alone, where that shows that there are not too many, and no more is asked for."""
+        """Counts only names, where that shows that there are not too many, and nothing else is asked for."""
         self.files = self.folder.count()
         if self.files > room.MOST_RESOURCES:
             self.files = 0
             self.measure()
 
-    def compare(self, held: Held, memory: Memory | None = None) -> None:
+    def compare(self, resources: Held, memory: Memory | None = None) -> None:
         """Finds which files are new or changed, and which resources are gone; empties what is held."""
-        self.held, self.memory = len(held), memory
+        resources = self.filtered(resources)
+        self.resource_count, self.memory = len(resources), memory
         missing = set(self.again)
         if memory:
             memory.begin()
@@ -87,16 +88,23 @@ class Plan:
             for name in self.all_names():
                 missing.discard(name)
                 try:
-                    size = self.compare_file(name, held.pop(name, None))
+                    size = self.compare_file(name, resources.pop(name, None))
                 except Unfit as why:
                     self.leave_out(name, why)
                 else:
                     bar.add(1, size)
         if missing:
-            raise Fault(*(f"--again {name}: FOLDER has no such file; nothing was changed"
+            raise Fault(*(f"--again {name}: FOLDER has no such file, or --exclude leaves it out; nothing was changed"
                           for name in sorted(missing)))
         below = tuple(f"{name}/" for name in self.left_out)
-        self.gone = sorted(name for name in held if not name.startswith(below))
+        self.gone = sorted(name for name in resources if not name.startswith(below))
+
+    def filtered(self, resources: Held) -> Held:
+        """What is held, without what --exclude leaves out: that stays as it is."""
+        has = self.folder.filters.has
+        if not self.folder.filters.rules:
+            return resources
+        return {name: facts for name, facts in resources.items() if has(path_of(name))}
 
     def compare_file(self, name: str, facts: Facts | None) -> int:
         """Looks whether a file is what is held by its name, and gives its size."""
@@ -134,9 +142,9 @@ class Plan:
     def look_at_bodies(self, source: KnownSource) -> None:
         """Asks the source for each body that would stay, and puts those again that are damaged."""
         changed = set(self.changed)
-        kept = [name for name in self.all_names() if name not in changed and name not in self.left_out]
-        with Progress("asking", len(kept)) as bar:
-            for name in kept:
+        names = [name for name in self.all_names() if name not in changed and name not in self.left_out]
+        with Progress("asking", len(names)) as bar:
+            for name in names:
                 if is_damaged(source, name):
                     output.message(f"damaged {name}: put again")
                     self.changed.append(name)
@@ -162,7 +170,7 @@ class Plan:
 
     def check_deletions(self, arguments: argparse.Namespace) -> None:
         """Refuses to delete more than was allowed: FOLDER may be a wrong one."""
-        check_deletions(arguments, len(self.gone), self.held, self.files)
+        check_deletions(arguments, len(self.gone), self.resource_count, self.files)
 
     def send(self, sending: Sending) -> None:
         """Deletes what is gone, which makes room, and puts what is new or changed."""
@@ -197,26 +205,25 @@ class Plan:
 
     def summary(self, sending: Sending, end: str) -> str:
         """What the run did, in a line."""
-        return (f"{sending.put:,} put ({in_units(sending.size)}), {sending.deleted:,} deleted, {self.same:,} "
-                f"the same, "
+        return (f"{sending.put:,} put ({in_units(sending.size)}), {sending.deleted:,} deleted, {self.same:,} the same, "
                 f"{len(self.left_out):,} left out; {end}")
 
 
-def check_deletions(arguments: argparse.Namespace, gone: int, held: int, files: int) -> None:
+def check_deletions(arguments: argparse.Namespace, gone: int, total: int, files: int) -> None:
     """Refuses to delete more of what is held than was allowed."""
     if arguments.max_delete is not None:
         if gone > arguments.max_delete:
-            raise Fault(f"{gone:,} of {held:,} resources would be deleted, more than --max-delete "
+            raise Fault(f"{gone:,} of {total:,} resources would be deleted, more than --max-delete "
                         f"{arguments.max_delete:,}: nothing was changed")
-    elif 2 * gone > held and not arguments.yes and not (arguments.allow_empty and not files):
-        raise Fault(f"{gone:,} of {held:,} resources would be deleted, more than half: is FOLDER the right "
+    elif 2 * gone > total and not arguments.yes and not (arguments.allow_empty and not files):
+        raise Fault(f"{gone:,} of {total:,} resources would be deleted, more than half: is FOLDER the right "
                     f"one? (--yes deletes them)")
 
 
 def is_damaged(source: KnownSource, name: str) -> bool:
     """Whether the source says that a body does not have its recorded SHA-256."""
     path = f"/resource/{name}"
-    answer = source.connections.ask("GET", path, most=LONGEST_BODY)
+    answer = source.connections.ask("GET", path, limit=LONGEST_BODY)
     if answer.status == 500 and told_by(answer).endswith(DAMAGED):
         return True
     if answer.status != 200:

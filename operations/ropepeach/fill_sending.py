@@ -7,16 +7,19 @@ import time
 from collections.abc import Callable
 from dataclasses import dataclass
 
+from ropepeach import output
 from ropepeach.connections import Answer, told_by
 from ropepeach.faults import Fault, Silent
 from ropepeach.fill_files import Reading
 from ropepeach.lists import Source
 
-# The most items of a group (docs/HTTP.md). A longer body is put alone: a group carries bodies as hexadecimal
-# digits.
+# How many items a group has at most (docs/HTTP.md), and the longest body in one: a group carries bodies as
+# hexadecimal digits.
 MOST_GROUPED, LONGEST_GROUPED = 16, 65_536
 # The status of what has no room, and the word of one of its causes.
 FULL, TOO_MANY_CHANGES = 507, "TooManyChanges"
+# What the source itself says of a name that it does not hold; another 404 is a proxy's, and says nothing of it.
+NOT_HELD = "404 NotHeld"
 # This many publications in a row make room for changes: the second one drops what the first one still keeps.
 PUBLICATIONS = 2
 # How long a proxy may serve an older list, in seconds (operations/install/ropepeach.nginx).
@@ -73,8 +76,8 @@ class Sending:
     def is_grouped(self, changes: list[Change]) -> bool:
         """Whether the source takes these changes as a group."""
         answer = self.changed("POST", "/group", b"".join(change.line() for change in changes), "text/plain")
-        # (a site may let this client change names with a prefix alone, which it does not see in a group)
-        if answer.status in (403, 404, 405) and "NotHeld" not in told_by(answer):
+        # (a site may let this client change only names with a prefix, which it does not see in a group)
+        if answer.status in (403, 404, 405) and told_by(answer) != NOT_HELD:
             self.groups = False
         if answer.status >= 500 and answer.status != FULL:
             raise Fault(f"POST /group was refused: {told_by(answer)}")
@@ -82,10 +85,12 @@ class Sending:
         return is_taken
 
     def send(self, change: Change) -> None:
-        """Sends one change alone; its refusal ends the run."""
+        """Sends one change by itself; its refusal ends the run, unless what has to be deleted is gone already."""
         is_put, path = change.body is not None, f"/resource/{change.name}"
         answer = self.changed("PUT" if is_put else "DELETE", path, change.body, change.kind)
-        if answer.status not in ((201, 204) if is_put else (204, 404)):
+        if not is_put and told_by(answer) == NOT_HELD:
+            output.message(f"{change.name}: was deleted before")
+        elif answer.status not in ((201, 204) if is_put else (204,)):
             raise Fault(f"{'PUT' if is_put else 'DELETE'} {path} was refused: {told_by(answer)}")
         self.count(change)
 
@@ -109,8 +114,8 @@ class Sending:
             self.acknowledged(change)
 
     def publish(self) -> None:
-        """Publishes once, and notes what the source says. A publication that nothing answered may stand: the
-        list's moment shows it.
+        """Publishes once, and notes what the source says. A publication without an answer may have been
+        made: the list's moment shows it.
         """
         end = time.monotonic() + self.source.connections.patience
         while True:

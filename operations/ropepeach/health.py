@@ -71,7 +71,7 @@ class Age(NamedTuple):
 
     what: str
     value: int | None
-    most: float | None
+    limit: float | None
 
 
 def age_of(moment: str, now: int) -> int | None:
@@ -93,7 +93,7 @@ def ages_of(finding: Finding, arguments: argparse.Namespace) -> list[Age]:
     return ages
 
 
-def told(age: int | None) -> str:
+def age_text(age: int | None) -> str:
     """An age as a person reads it."""
     if age is None:
         return "never"
@@ -107,15 +107,15 @@ def troubles(finding: Finding, arguments: argparse.Namespace, ages: Sequence[Age
     if not finding.is_up:
         yield Trouble(Health.CRITICAL,
                       "Closed until the program is restarted" if finding.is_closed else finding.fault)
-    elif finding.kept >= arguments.changes_critical:
+    elif finding.change_count >= arguments.changes_critical:
         yield Trouble(Health.CRITICAL,
                       "TooManyChanges is near: publish now, twice if the first publication drops nothing")
-    elif finding.kept >= arguments.changes_warning:
+    elif finding.change_count >= arguments.changes_warning:
         yield Trouble(Health.WARNING, "TooManyChanges comes closer: publish")
     yield from troubles_of_file(finding)
     for age in ages:
-        if age.most is not None and (age.value is None or age.value > age.most * DAY):
-            yield Trouble(Health.WARNING, f"no {age.what} within {24 * age.most:g} hours")
+        if age.limit is not None and (age.value is None or age.value > age.limit * DAY):
+            yield Trouble(Health.WARNING, f"no {age.what} within {24 * age.limit:g} hours")
         if age.value is not None and age.value < -SKEW:
             yield Trouble(Health.WARNING,
                           f"the last {age.what} is {-age.value // SECOND:,} seconds in the future: a clock "
@@ -133,15 +133,14 @@ def troubles_of_file(finding: Finding) -> Iterator[Trouble]:
                       f"verify again)")
     if finding.unreserved and finding.free < finding.unreserved:
         yield Trouble(Health.WARNING,
-                      f"the file system has {finding.free:,} bytes free, and {file} lacks "
-                      f"{finding.unreserved:,}: "
-                                      f"make room, then fallocate --length {finding.size} {file}")
+                      f"the file system has {finding.free:,} bytes free, and {file} lacks {finding.unreserved:,}: "
+                      f"make room, then fallocate --length {finding.size} {file}")
 
 
 def facts_of(finding: Finding, ages: Sequence[Age]) -> str:
     """What is known of a source that is up."""
-    facts = [f"{finding.kept:,} changes kept of {MOST_CHANGES:,}",
-             *(f"last {age.what} {told(age.value)}" for age in ages)]
+    facts = [f"{finding.change_count:,} changes kept of {MOST_CHANGES:,}",
+             *(f"last {age.what} {age_text(age.value)}" for age in ages)]
     if finding.unreserved:
         facts.append(f"{finding.unreserved:,} bytes of the file not reserved")
     return ", ".join(facts)
@@ -149,11 +148,12 @@ def facts_of(finding: Finding, ages: Sequence[Age]) -> str:
 
 def figures_of(finding: Finding, arguments: argparse.Namespace, ages: Sequence[Age]) -> str:
     """The figures behind a line, as monitoring plugins write them."""
-    figures = [f"changes={finding.kept};{arguments.changes_warning};{arguments.changes_critical};0;{MOST_CHANGES}"]
+    limits = f"{arguments.changes_warning};{arguments.changes_critical};0;{MOST_CHANGES}"
+    figures = [f"changes={finding.change_count};{limits}"]
     for age in ages:
         if age.value is not None:
             figures.append(f"{age.what}_age={age.value // SECOND}s"
-                           + (f";{age.most * DAY / SECOND:g}" if age.most else ""))
+                           + (f";{age.limit * DAY / SECOND:g}" if age.limit else ""))
     if finding.unreserved is not None:
         figures.append(f"unreserved={finding.unreserved}B")
     return " ".join([*figures, f"time={finding.seconds:.3f}s"])
@@ -164,7 +164,7 @@ def reported(finding: Finding, arguments: argparse.Namespace) -> Health:
     ages = ages_of(finding, arguments)
     all_troubles = list(troubles(finding, arguments, ages))
     status = max((trouble.status for trouble in all_troubles), default=Health.OK)
-    # (behind a bar stand the figures)
+    # (the figures follow a bar)
     words = [trouble.words.replace("|", "/") for trouble in all_troubles]
     line = f"{status.name}: {finding.subject.url}: "
     if finding.is_up:
@@ -181,8 +181,8 @@ def metrics_of(findings: Sequence[tuple[Finding, Health]]) -> str:
     for finding, status in findings:
         source = finding.subject.url.replace("\\", r"\\").replace('"', r"\"").replace("\n", r"\n")
         for name, value in measured(finding, status).items():
-            figures.setdefault(name,
-                               []).append(f'ropepeach_{name}{{source="{source}"}} {float(value):.15g}\n')
+            line = f'ropepeach_{name}{{source="{source}"}} {float(value):.15g}\n'
+            figures.setdefault(name, []).append(line)
     return "".join(f"# TYPE ropepeach_{name} gauge\n{''.join(lines)}" for name, lines in figures.items())
 
 
@@ -192,7 +192,7 @@ def measured(finding: Finding, status: Health) -> dict[str, float]:
                                  "check_timestamp_seconds": round(finding.begun, 3),
                                  "answer_seconds": round(finding.seconds, 3)}
     if finding.is_up:
-        figures |= {"changes_kept": finding.kept, "changes_most": MOST_CHANGES,
+        figures |= {"changes_kept": finding.change_count, "changes_most": MOST_CHANGES,
                     "last_change_timestamp_seconds": milliseconds(finding.changed) / SECOND,
                     "last_publication_timestamp_seconds": milliseconds(finding.published) / SECOND}
     if finding.unreserved is not None:
@@ -222,12 +222,12 @@ def side_by_side(subjects: Sequence[Subject], arguments: argparse.Namespace) -> 
     from ropepeach.side_by_side import Failed, Sides
 
     def work(subject: Subject, link: Any) -> None:
+        """Answers with what is found out about a source."""
         link.send(found(subject, arguments))
 
     with Sides(subjects, work) as sides:
         answers = {subject: sides.heard(subject) for subject in subjects}
-    return [Finding(subject, time.time(), fault=" ".join(answer.lines)) if isinstance(answer, Failed)
-            else answer
+    return [Finding(subject, time.time(), fault=" ".join(answer.lines)) if isinstance(answer, Failed) else answer
             for subject, answer in answers.items()]
 
 

@@ -10,9 +10,8 @@ from xml.etree.ElementTree import Element
 from ropepeach import room
 from ropepeach.connections import Connections
 from ropepeach.faults import Fault, Misused, Silent
-from ropepeach.lists import (
-    SITEMAP, Several, Source, Unheld, described_by, moment_of, named, pointers, text_of,
-)
+from ropepeach.lists import Several, Source, Unheld, list_address, moment_of, pointers
+from ropepeach.sitemaps import SITEMAP, described_by, text_of
 from ropepeach.verification import Verification, last_verification
 
 # A list is read again this often, if a publication drops a part of it.
@@ -37,7 +36,7 @@ class Finding:
     is_up: bool = False
     is_closed: bool = False
     fault: str = ""
-    kept: int = 0
+    change_count: int = 0
     changed: str = ""
     published: str = ""
     # The bytes that the file system has not reserved for the file, and those that it has free.
@@ -53,8 +52,8 @@ class Finding:
         try:
             source = Source(Connections(self.subject.url, arguments.patience, arguments.certificate,
                                         arguments.max_time))
-            self.kept, self.changed = kept_changes(source)
-            head = source.document(named(source.lists, "resourcelist"))
+            self.change_count, self.changed = kept_changes(source)
+            head = source.document(list_address(source.lists, "resourcelist"))
             self.published, self.is_up = moment_of(described_by(head).get("at")), True
         except (Misused, Several):
             raise
@@ -87,7 +86,7 @@ def found(subject: Subject, arguments: argparse.Namespace) -> Finding:
 def kept_changes(source: Source) -> tuple[int, str]:
     """How many changes the Change List has, and the moment of the last."""
     for turn in range(READINGS):
-        head = source.document(named(source.lists, "changelist"))
+        head = source.document(list_address(source.lists, "changelist"))
         try:
             return counted(source, head)
         except Unheld:

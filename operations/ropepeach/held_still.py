@@ -10,9 +10,10 @@ from collections.abc import Iterator
 
 from ropepeach.faults import Fault
 
-# How long a program may take until it stands still.
+# How long a program may take to stop.
 SECONDS, PAUSE = 30, 0.02
-# A process beside this one: it reads a pipe that only this process can close, by its end too, and then lets the program go on.
+# A second process: it reads a pipe that only this process can close, at its end at the latest, and then lets the
+# program go on.
 GUARD = 'cat > /dev/null; kill -CONT "$1"'
 
 
@@ -36,7 +37,7 @@ def state_of(process: int) -> str:
 
 
 def wait_until_still(process: int) -> None:
-    """Waits until a process that was told to stop stands still, in each of its threads."""
+    """Waits until each thread of a process that was sent a signal to stop has stopped."""
     end = time.monotonic() + SECONDS
     while (state := state_of(process)) not in ("T", "t"):
         if not state:

@@ -3,7 +3,6 @@
 from __future__ import annotations
 
 import argparse
-import textwrap
 from collections.abc import Mapping
 
 # Longer lines are hard to read on a wide terminal.
@@ -13,6 +12,9 @@ WIDEST = 80
 def paragraphs(text: str, width: int) -> str:
     """A text wrapped to a width: an empty line parts paragraphs, and an indented line is an item of a list.
     """
+    # (only help needs it)
+    import textwrap
+
     blocks = []
     for block in textwrap.dedent(text).strip().split("\n\n"):
         items: list[str] = []
@@ -26,7 +28,7 @@ def paragraphs(text: str, width: int) -> str:
 
 
 def wrapped(item: str, width: int) -> str:
-    """A paragraph, or an item of a list: its later lines stand below its text, behind the mark of at most ten
+    """A paragraph, or an item of a list: its later lines are below its text, behind the mark of at most ten
     characters.
     """
     indent = len(item) - len(item.lstrip(" "))
@@ -34,8 +36,9 @@ def wrapped(item: str, width: int) -> str:
     hang = indent
     if indent and len(mark) <= 10 and "  " in item[indent:]:
         hang = len(item) - len(item[indent + len(mark):].lstrip(" "))
-    return textwrap.fill(item, width, subsequent_indent=" " * hang, break_long_words=False,
-                         break_on_hyphens=False)
+    from textwrap import fill
+
+    return fill(item, width, subsequent_indent=" " * hang, break_long_words=False, break_on_hyphens=False)
 
 
 def statuses(table: Mapping[int, str]) -> str:
@@ -51,4 +54,6 @@ class Formatter(argparse.HelpFormatter):
         self._width = min(self._width, WIDEST)
 
     def _fill_text(self, text: str, width: int, indent: str) -> str:
-        return textwrap.indent(paragraphs(text, width), indent)
+        from textwrap import indent as indented
+
+        return indented(paragraphs(text, width), indent)

@@ -27,8 +27,25 @@ class Count:
     sum: int = 0
 
     def add(self, size: int) -> int:
+        """Counts bytes, and gives all that were counted."""
         self.sum += size
         return self.sum
+
+
+class SharedCount:
+    """A count of bytes that several processes share."""
+
+    def __init__(self) -> None:
+        # (few runs have several processes)
+        import multiprocessing
+
+        self.sum: Any = multiprocessing.get_context("fork").Value("Q", 0)
+
+    def add(self, size: int) -> int:
+        """Counts bytes, and gives all that were counted."""
+        with self.sum.get_lock():
+            self.sum.value += size
+            return int(self.sum.value)
 
 
 class Rate:
@@ -93,13 +110,12 @@ class Limits:
             raise Spent(f"the run would take more than {self.bytes:,} bytes, as --max-bytes allows; the next "
                         f"run goes on")
 
-    def check_removals(self, count: int, held: int) -> None:
+    def check_removals(self, count: int, total: int) -> None:
         """Refuses to remove more of what was there than was allowed: the source may be in trouble."""
         if self.removals is not None:
             if count > self.removals:
-                raise Fault(f"{count:,} of {held:,} resources would be removed, more than --max-delete "
+                raise Fault(f"{count:,} of {total:,} resources would be removed, more than --max-delete "
                             f"{self.removals:,}: none was")
-        elif 2 * count > held and not self.is_sure:
-            raise Fault(f"{count:,} of {held:,} resources would be removed, more than half: does the source "
-                        f"hold what it should? "
-                        "(--yes removes them; none was)")
+        elif 2 * count > total and not self.is_sure:
+            raise Fault(f"{count:,} of {total:,} resources would be removed, more than half: does the source "
+                        f"hold what it should? (--yes removes them; none was)")

@@ -6,11 +6,12 @@ and its entries. Python's own XML parser would expand entities, so defusedxml re
 """
 from __future__ import annotations
 
+import copy
 import re
 import time
 from collections.abc import Callable
 from typing import NamedTuple, TypeVar
-from xml.etree.ElementTree import Element, TreeBuilder
+from xml.etree.ElementTree import Element
 
 import defusedxml
 from defusedxml.ElementTree import ParseError, XMLParser
@@ -20,15 +21,11 @@ from ropepeach.facts import Facts, exact_facts, fit, is_name, length_of
 from ropepeach.faults import Fault, Long
 from ropepeach.moments import LAST, is_moment
 from ropepeach.room import MOST_CHANGES, MOST_RESOURCES
+from ropepeach.sitemaps import ROOTS, SITEMAP, Builder, described_by, text_of
 
 DESCRIPTION, CAPABILITIES = "/.well-known/resourcesync", "/capabilitylist.xml"
-SITEMAP = "{http://www.sitemaps.org/schemas/sitemap/0.9}"
-RS = "{http://www.openarchives.org/rs/terms/}"
 # What an address is: visible ASCII.
 ADDRESS = re.compile(r"[!-~]+")
-# An entry has three elements below it at most; Sitemap 0.9 allows 50,000 entries a document.
-MOST_ENTRIES = 50_000
-MOST_ELEMENTS = 4 * MOST_ENTRIES + 100
 # How often a list is read again, if a publication comes meanwhile; the pauses before the third reading and
 # later ones, in seconds.
 READINGS, PAUSE, LONGEST_PAUSE = 50, 0.1, 1.0
@@ -36,20 +33,31 @@ Read = TypeVar("Read")
 
 
 class Entry(NamedTuple):
-    """What a list says of a name; `facts` is None where it is deleted."""
+    """What a list says of a name; `facts` is None where it is deleted. A Change List says which change it is.
+    """
 
     name: str
     moment: str
     facts: Facts | None
+    change: str = ""
 
 
 class Changes(NamedTuple):
     """What a Change List has: the moment of the newest change, and the entries after the moment that was
-    asked for.
+    asked for. `met` is the change of that very moment, if it was read, `has_met` whether there is one, and
+    `covers` whether the list goes back so far that it would have it.
     """
 
     newest: str
     entries: list[Entry]
+    met: Entry | None = None
+    has_met: bool = False
+    covers: bool = False
+
+
+def plain_facts(entry: Entry) -> Facts | None:
+    """What is kept of an entry where its moment is of no use."""
+    return entry.facts
 
 
 class Unheld(Fault):
@@ -70,7 +78,7 @@ class Several(Fault):
 
 
 def pointers(head: Element) -> list[Element]:
-    """The parts that an index names; a list of its own has none."""
+    """The parts that an index names; a list that is no index has none."""
     return head.findall(SITEMAP + "sitemap")
 
 
@@ -84,23 +92,32 @@ class Source:
         No moment is taken that is later than the latest one.
         """
         self.connections, self.base, self.documents, self.latest = connections, connections.address, 0, latest
-        named_ones = addresses(self.document(self.base + DESCRIPTION), "capabilitylist")
-        bases = [it.removesuffix(CAPABILITIES) for it in named_ones]
+        try:
+            capability_lists = addresses(self.document(self.base + DESCRIPTION), "capabilitylist")
+        except Unheld as why:
+            raise Unheld(f"{why}: give the base of a source, as https://source.example.org") from None
+        bases = [address.removesuffix(CAPABILITIES) for address in capability_lists]
         # (one below the address is a collection of one)
         if len(bases) > 1 or (is_at_base and bases[0].startswith(self.base + "/")):
             raise Several(self.base, bases)
         if is_at_base and bases[0] != self.base:
             raise Fault(f"{self.base}: the source calls itself {bases[0]}; use that address, its base")
         self.base = bases[0]
-        self.lists = self.document(named_ones[0])
+        self.lists = self.document(capability_lists[0])
 
-    def asked(self, address: str, most: int) -> bytes:
+    def at_another_connection(self) -> Source:
+        """The same source, asked at a separate connection."""
+        other = copy.copy(self)
+        other.connections = self.connections.another()
+        return other
+
+    def bytes_at(self, address: str, limit: int) -> bytes:
         """What an address below the base answers to GET."""
         if not address.startswith(self.base + "/"):
             raise Fault(f"{address[:300]}: refused, as it is not below the base {self.base}")
         if not ADDRESS.fullmatch(address):
             raise Fault(f"{address[:300]}: refused, as an address has visible ASCII characters alone")
-        answer = self.connections.ask("GET", address.removeprefix(self.base), most=most)
+        answer = self.connections.ask("GET", address.removeprefix(self.base), limit=limit)
         if answer.status != 200:
             raise Unheld(f"{address}: {told_by(answer)}")
         body: bytes = answer.body
@@ -108,7 +125,7 @@ class Source:
 
     def document(self, address: str, take: Callable[[Entry], None] | None = None) -> Element:
         """The root of a document; `take` gets each entry of a list, which the root has not then."""
-        return self.parsed(address, self.asked(address, self.connections.longest), take)
+        return self.parsed(address, self.bytes_at(address, self.connections.longest), take)
 
     def parsed(self, address: str, text: bytes, take: Callable[[Entry], None] | None = None) -> Element:
         """The root of the document of an address."""
@@ -117,9 +134,11 @@ class Source:
         try:
             parser.feed(text)
             root: Element = parser.close()
-            return root
-        except (ParseError, defusedxml.DefusedXmlException, ValueError) as fault:
+        except (ParseError, defusedxml.DefusedXmlException, ValueError, LookupError) as fault:
             raise Fault(f"{address}: refused, as it is no document: {type(fault).__name__}") from None
+        if root.tag not in ROOTS:
+            raise Fault(f"{address}: refused, as it is no document of Sitemap 0.9")
+        return root
 
     def taker(self, take: Callable[[Entry], None] | None) -> Callable[[Element], None] | None:
         """What takes the element of an entry, where the entry is to be taken."""
@@ -133,7 +152,7 @@ class Source:
         self.connections.expected = f"/resource/{following}" if following else ""
         address = f"{self.base}/resource/{name}"
         try:
-            body = self.asked(address, length_of(facts))
+            body = self.bytes_at(address, length_of(facts))
         except Long as why:
             raise Unheld(f"{why}: it is listed with fewer") from None
         if not fit(facts, body):
@@ -142,29 +161,29 @@ class Source:
 
     def entry(self, url: Element) -> Entry:
         """An entry of a list."""
-        front, place, said = self.base + "/resource/", text_of(url, "loc"), described_by(url)
+        front, place, attributes = self.base + "/resource/", text_of(url, "loc"), described_by(url)
         name = place.removeprefix(front)
         if name == place or not is_name(name):
             raise Fault(f"{place[:300]}: refused, as it is no resource below {front}")
-        moment = self.moment(said.get("datetime") or text_of(url, "lastmod"))
-        if said.get("change") == "deleted":
-            return Entry(name, moment, None)
-        facts = exact_facts(said)
+        moment = self.moment(attributes.get("datetime") or text_of(url, "lastmod"))
+        change = attributes.get("change", "")
+        if change == "deleted":
+            return Entry(name, moment, None, change)
+        facts = exact_facts(attributes)
         if facts is None:
             raise Fault(f"{place}: refused, as it is listed with no length of 16 MiB at most or no digest "
-                        f"that is known: {dict(said)}"[:600])
-        return Entry(name, moment, facts)
+                        f"that is known: {dict(attributes)}"[:600])
+        return Entry(name, moment, facts, change)
 
     def moment(self, text: str | None) -> str:
         """A moment of a document, which is not later than the latest one."""
         moment = moment_of(text)
         if moment > self.latest:
-            raise Fault(f"{self.base}: refused, as its lists have the moment {moment}, later than "
-                        f"{self.latest}: "
+            raise Fault(f"{self.base}: refused, as its lists have the moment {moment}, later than {self.latest}: "
                         "one of the two clocks is wrong, this machine's or the source's")
         return moment
 
-    def list_of(self, capability: str, most: int, take: Callable[[Entry], None],
+    def list_of(self, capability: str, limit: int, take: Callable[[Entry], None],
                 parts_of: Callable[[Element], list[Element]] = pointers) -> Element:
         """Reads a list, part by part if it is an index, and gives each entry to `take`. Gives its head, of
         which `parts_of` says which parts are read.
@@ -172,15 +191,16 @@ class Source:
         counted = 0
 
         def count(entry: Entry) -> None:
+            """Counts an entry, and gives it away."""
             nonlocal counted
             counted += 1
-            if counted > most:
-                raise Fault(f"{self.base}: refused, as its {capability} has more than {most:,} entries")
+            if counted > limit:
+                raise Fault(f"{self.base}: refused, as its {capability} has more than {limit:,} entries")
             take(entry)
 
-        head = self.document(named(self.lists, capability), count)
-        for it in parts_of(head):
-            check_age(it, self.document(text_of(it, "loc"), count))
+        head = self.document(list_address(self.lists, capability), count)
+        for part in parts_of(head):
+            check_age(part, self.document(text_of(part, "loc"), count))
         return head
 
     def read_again(self, read: Callable[[], Read], lost: type[Fault], what: str) -> Read:
@@ -200,16 +220,19 @@ class Source:
             pause = min(2 * pause or PAUSE, LONGEST_PAUSE)
         raise Fault(f"the {what.format(turn)}: {why}")
 
-    def resource_list(self) -> tuple[str, dict[str, Facts | None]]:
-        """The moment of the latest publication, and the facts of each name in it."""
+    def resource_list(self, keep: Callable[[Entry], Facts | None] = plain_facts
+                      ) -> tuple[str, dict[str, Facts | None]]:
+        """The moment of the latest publication, and what `keep` makes of each entry in it, by name."""
 
         def read() -> tuple[str, dict[str, Facts | None]]:
+            """Reads the list once."""
             found: dict[str, Facts | None] = {}
 
             def take(entry: Entry) -> None:
+                """Keeps what is wanted of an entry."""
                 if entry.name in found:
                     raise Fault(f"{self.base}: refused, as its Resource List has {entry.name} twice")
-                found[entry.name] = entry.facts
+                found[entry.name] = keep(entry)
 
             head = self.list_of("resourcelist", MOST_RESOURCES, take)
             return self.moment(described_by(head).get("at")), found
@@ -218,53 +241,30 @@ class Source:
 
     def published_at(self) -> str:
         """The moment of the latest publication."""
-        return moment_of(described_by(self.document(named(self.lists, "resourcelist"))).get("at"))
+        return moment_of(described_by(self.document(list_address(self.lists, "resourcelist"))).get("at"))
 
     def changes(self, after: str) -> Changes:
         """What the Change List has after a moment; earlier parts are not read."""
 
         def read() -> Changes:
+            """Reads the list once."""
             bounds, found = Bounds(self, after), list[Entry]()
             self.list_of("changelist", MOST_CHANGES, found.append, bounds.wanted)
             return changes_in(bounds, found)
 
         return self.read_again(read, Unheld, "Change List was read {} times, and each time lost a part")
 
-    def lists_that_meet(self) -> tuple[str, dict[str, Facts | None], Changes]:
-        """The moment of a publication, the facts in it, and what the Change List has after it."""
+    def lists_that_meet(self, keep: Callable[[Entry], Facts | None] = plain_facts
+                        ) -> tuple[str, dict[str, Facts | None], Changes]:
+        """The moment of a publication, what is kept of its entries, and what the Change List has after it."""
 
         def read() -> tuple[str, dict[str, Facts | None], Changes]:
-            at, listed = self.resource_list()
+            """Reads the two lists once."""
+            at, listed = self.resource_list(keep)
             return at, listed, self.changes(at)
 
         # (Dropped: two publications came since the Resource List was read, and there is a later one)
         return self.read_again(read, Dropped, "Resource List was read {} times, and each time too early")
-
-
-class Builder(TreeBuilder):
-    """Builds the tree of a document, which has no more elements than a list may have; entries are taken out
-    of it.
-    """
-
-    def __init__(self, address: str, take: Callable[[Element], None] | None,
-                 most_elements: int = MOST_ELEMENTS) -> None:
-        super().__init__()
-        self.address, self.take, self.elements, self.entries = address, take, 0, 0
-        self.most_elements = most_elements
-
-    def start(self, tag: str, attributes: dict[str, str]) -> Element:
-        self.elements += 1
-        self.entries += tag in (SITEMAP + "url", SITEMAP + "sitemap")
-        if self.elements > self.most_elements or self.entries > MOST_ENTRIES:
-            raise Fault(f"{self.address}: refused, as it has more than {MOST_ENTRIES:,} entries")
-        return super().start(tag, attributes)
-
-    def end(self, tag: str) -> Element:
-        element = super().end(tag)
-        if self.take and tag == SITEMAP + "url":
-            self.take(element)
-            element.clear()
-        return element
 
 
 class Bounds:
@@ -273,6 +273,8 @@ class Bounds:
 
     def __init__(self, source: Source, after: str) -> None:
         self.source, self.after, self.start, self.latest = source, after, "", ""
+        # Whether a part ends at the moment that was asked for.
+        self.has_met = False
 
     def wanted(self, head: Element) -> list[Element]:
         """The parts that have changes after the moment. A list that begins later, or whose parts are not in
@@ -282,15 +284,16 @@ class Bounds:
         if self.start > self.after:
             raise Dropped(f"the Change List begins at {self.start}, and not at {self.after} or before")
         parts = pointers(head)
-        untils = [self.until_of(it, is_last=it is parts[-1]) for it in parts]
-        return [it for it, until in zip(parts, untils) if until > self.after]
+        untils = [self.until_of(part, is_last=part is parts[-1]) for part in parts]
+        self.has_met = self.after in untils
+        return [part for part, until in zip(parts, untils) if until > self.after]
 
     def until_of(self, part: Element, is_last: bool) -> str:
         """The moment of the last change that a part may have. The last part may be open, and have changes of
         any later moment.
         """
-        said = described_by(part)
-        start, until = self.source.moment(said.get("from")), said.get("until")
+        attributes = described_by(part)
+        start, until = self.source.moment(attributes.get("from")), attributes.get("until")
         is_open_amid = until is None and not is_last
         if start < self.latest or is_open_amid or (until is not None and self.source.moment(until) <= start):
             raise Fault(f"{self.source.base}: refused, as the parts of its Change List are not in the order "
@@ -300,7 +303,7 @@ class Bounds:
 
 
 def check_age(pointer: Element, part: Element) -> None:
-    """Refuses a part that does not go as far as the list that names it says: a cache may have kept it from before it was full."""
+    """Refuses a part that does not go as far as its list says: a cache may have kept it from before it was full."""
     wanted, own = described_by(pointer).get("until"), described_by(part).get("until")
     if wanted is not None and (own is None or own < wanted):
         raise Unheld(f"{text_of(pointer, 'loc')}: is older than the list that names it")
@@ -308,26 +311,14 @@ def check_age(pointer: Element, part: Element) -> None:
 
 def changes_in(bounds: Bounds, entries: list[Entry]) -> Changes:
     """What a Change List has, of which the wanted parts were read."""
-    moments = [it.moment for it in entries]
+    moments = [entry.moment for entry in entries]
     if any(first >= then for first, then in zip([bounds.start, *moments], moments)):
         raise Fault("the Change List is not in the order of its moments")
     # The last change that was dropped has the moment at which the list begins.
     newest = max([bounds.start, bounds.latest, *moments])
-    return Changes(newest, [it for it in entries if it.moment > bounds.after])
-
-
-def text_of(element: Element, tag: str) -> str:
-    """The text of a child."""
-    found = element.find(SITEMAP + tag)
-    if found is None or not found.text:
-        raise Fault(f"a document has a {element.tag.rpartition('}')[2]} without {tag}")
-    return found.text
-
-
-def described_by(element: Element) -> dict[str, str]:
-    """The attributes of an element's `rs:md`."""
-    found = element.find(RS + "md")
-    return {} if found is None else found.attrib
+    met = next((entry for entry in entries if entry.moment == bounds.after), None)
+    return Changes(newest, [entry for entry in entries if entry.moment > bounds.after], met,
+                   bounds.has_met or met is not None, bounds.start < bounds.after)
 
 
 def moment_of(text: str | None) -> str:
@@ -339,13 +330,13 @@ def moment_of(text: str | None) -> str:
 
 def addresses(document: Element, capability: str) -> list[str]:
     """The addresses at which a document names lists of this kind."""
-    found = [text_of(it, "loc") for it in document.findall(SITEMAP + "url")
-             if described_by(it).get("capability") == capability]
+    found = [text_of(url, "loc") for url in document.findall(SITEMAP + "url")
+             if described_by(url).get("capability") == capability]
     if not found:
         raise Fault(f"the source names no {capability}")
     return found
 
 
-def named(document: Element, capability: str) -> str:
+def list_address(document: Element, capability: str) -> str:
     """The address at which a document names a list."""
     return addresses(document, capability)[0]

@@ -7,11 +7,12 @@ the last line says if a later command was done by the end of the reading. Bodies
 from __future__ import annotations
 
 import argparse
+import dataclasses
 import os
 from collections.abc import Iterator, Mapping, Sequence
 from typing import Any
 
-from ropepeach import disk_file, disk_room, numbers, output, room
+from ropepeach import disk_file, disk_room, installed, numbers, output, room
 from ropepeach.disk_formats import BLOCK, MOST_ITEMS, Broken
 from ropepeach.disk_room import Run
 from ropepeach.disk_source import KINDS, Source, items_of
@@ -26,7 +27,8 @@ def add_arguments(parser: argparse.ArgumentParser) -> None:
     """The arguments of the command."""
     parser.add_argument("file", metavar="FILE", help="the file of a source, such as /var/lib/ropepeach/source.disk")
     parser.add_argument("--log", action="store_true", help="FILE is the site's log of changes: print who changed what")
-    parser.add_argument("--put", type=numbers.body_size, metavar="SIZE", help="tell how many more puts of this many bytes fit")
+    parser.add_argument("--put", type=numbers.body_size, metavar="SIZE",
+                        help="tell how many more puts of this many bytes fit")
     parser.add_argument("--picture", metavar="FILE.svg", help="draw the map of the blocks into this file")
 
 
@@ -41,20 +43,21 @@ def blocks_of(source: Source, runs: Sequence[Run]) -> dict[str, Any]:
 
 def facts_of(path: str, source: Source, put: int | None) -> dict[str, Any]:
     """All facts of a source, by their names in JSON."""
-    header, held, status = source.header, items_of(source.catalogue), os.stat(path)
+    header, records, status = source.header, items_of(source.catalogue), os.stat(path)
     changes = len(items_of(source.changes))
     parts = -(-changes // header.limit)
     facts = {
         "file": path, "base": header.base, "version": source.root.version,
         "generation": source.root.generation,
         "block_size": BLOCK, "blocks": blocks_of(source, disk_room.free_runs(source.extents, source.blocks)),
-        "resources": len(held), "bytes": sum(record.length for record in held), "most_resources": MOST_ITEMS,
+        "resources": len(records), "bytes": sum(record.length for record in records), "most_resources": MOST_ITEMS,
         "changes": changes, "most_changes": MOST_ITEMS, "changes_begin": moment_text(header.begin),
         "item_limit": header.limit, "parts": parts, "first_part": header.first,
         "publications": header.number, "published": moment_text(header.at),
         "published_resources": len(items_of(source.published)),
         "formatted": moment_text(header.start), "last": moment_text(header.last),
-        "readings": source.tries, "changed_meanwhile": source.is_changed, "size": status.st_size, "not_reserved": room.unreserved(status),
+        "readings": source.tries, "changed_meanwhile": source.is_changed,
+        "size": status.st_size, "not_reserved": room.unreserved(status),
     }
     if put is not None:
         name, kind = disk_room.usual_texts(source)
@@ -86,6 +89,8 @@ def lines_of(facts: Mapping[str, Any]) -> Iterator[str]:
     if put := facts.get("put"):
         yield (f"puts of {put['size']:,} bytes: {put['fit']:,} more fit, then {put['then']} "
                f"(new names of {put['name']} bytes behind all others, media types of {put['type']})")
+    if program := facts.get("program"):
+        yield installed.Installed(**program).text
     if facts["changed_meanwhile"] or facts["readings"] > 1:
         yield (f"the file changed while it was read ({facts['readings']} readings); "
                f"this is the state of generation {facts['generation']}")
@@ -116,7 +121,8 @@ def run(arguments: argparse.Namespace) -> int:
         raise type(why)(f"{arguments.file}: {why.word}{why}") from None
     except OSError as fault:
         raise Unusable(f"{arguments.file}: can't be read: {fault.strerror}") from None
-    facts = facts_of(arguments.file, source, arguments.put)
+    facts, program = facts_of(arguments.file, source, arguments.put), installed.program()
+    facts["program"] = dataclasses.asdict(program) if program else None
     if arguments.picture:
         write_picture(arguments.picture, arguments.file, source, facts)
     output.results(lines_of(facts), facts)

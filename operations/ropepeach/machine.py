@@ -1,4 +1,4 @@
-"""Where this machine keeps sources: the paths of the packages, the names of the units, and what stands there now."""
+"""Where this machine keeps sources: the paths of the packages, the names of the units, and what is there now."""
 from __future__ import annotations
 
 import os

@@ -24,7 +24,7 @@ LONGEST = 2_048
 @dataclasses.dataclass(frozen=True, slots=True)
 class Address:
     """An address: two texts that say the same scheme, host and port are the same one; path and query are
-    taken as they stand.
+    taken unchanged.
     """
 
     scheme: str

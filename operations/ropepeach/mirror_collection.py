@@ -1,17 +1,16 @@
-"""Mirrors a collection: each source that a Source Description names, into a folder of its own, some of them
-side by side.
+"""Mirrors a collection: each source that a Source Description names, into a separate folder, some of them side
+by side.
 
 Each folder below the one of the whole is then exactly what its source held at the moment in its line. There
 is no moment for all. What moves from one source to another is put there before it is deleted here
 (ropepeach-grow(1)). So nothing is removed before every source was read after the deletion was: what was moved
-is fetched first, and a mirror has it once or twice, never not at all.
+is fetched first, and a mirror has it once or twice, never zero times.
 """
 from __future__ import annotations
 
 import argparse
 import dataclasses
 import enum
-import multiprocessing
 import os
 import time
 from typing import Any
@@ -19,9 +18,10 @@ from typing import Any
 from ropepeach import output
 from ropepeach.connections import Connections, connections_of
 from ropepeach.facts import Facts
-from ropepeach.faults import Fault, Unusable
+from ropepeach.faults import Fault, Misused, Unusable
 from ropepeach.fill_sending import KEPT
-from ropepeach.limits import Limits
+from ropepeach.filters import Filters
+from ropepeach.limits import Limits, SharedCount
 from ropepeach.lists import Dropped, Several, Source
 from ropepeach.mirror_folder import STATE, Folder
 from ropepeach.mirror_run import BASELINE, Forecast, Run
@@ -32,57 +32,47 @@ from ropepeach.side_by_side import Failed, failures
 
 __all__ = ["begin", "is_whole", "run"]
 
-# How often sources are read again because of what others deleted, and how often a run begins anew with other
+# How often sources are read again because of what others deleted, and how often a run begins again with other
 # sources.
 PASSES, RUNS = 50, 10
-
-
-class SharedCount:
-    """A count of bytes that several processes share."""
-
-    def __init__(self) -> None:
-        self.sum: Any = multiprocessing.get_context("fork").Value("Q", 0)
-
-    def add(self, size: int) -> int:
-        """Counts bytes, and gives all that were counted."""
-        with self.sum.get_lock():
-            self.sum.value += size
-            return int(self.sum.value)
 
 
 class Part(Folder):
     """The folder of one source, which keeps what has to be removed until it is released."""
 
-    def __init__(self, path: str, source: str, within: int | None) -> None:
-        super().__init__(path, source, within)
-        self.kept: dict[str, bool] = {}
+    def __init__(self, path: str, source: str, within: int | None, filters: Filters | None = None) -> None:
+        super().__init__(path, source, within, filters=filters)
+        self.removals: dict[str, bool] = {}
         self.gone: set[str] = set()
 
     def remove(self, name: str) -> bool:
-        self.kept[name] = True
+        """Notes a name whose file has to go. Whether it is there."""
+        self.removals[name] = True
         self.gone.add(name)
         return self.is_held(name)
 
     def has(self, name: str, facts: Facts) -> bool:
-        self.kept.pop(name, None)
+        """Whether the file of a name, which stays, has what a list says."""
+        self.removals.pop(name, None)
         return super().has(name, facts)
 
     def write(self, name: str, body: bytes) -> None:
-        self.kept.pop(name, None)
+        """Gives a name, which stays, these bytes."""
+        self.removals.pop(name, None)
         super().write(name, body)
 
-    def remember(self, until: str | None, newest: str | None) -> None:
+    def remember(self, until: str | None, newest: str | None, mark: str | None = None) -> None:
         """Notes a moment, which is written once all is removed that was gone by then."""
         if until is None:
-            super().remember(until, newest)
+            super().remember(until, newest, mark)
         else:
-            self.until, self.newest = until, newest
+            self.until, self.newest, self.mark = until, newest, mark
 
     def release(self) -> None:
         """Removes what is gone, and remembers the moment."""
-        for it in self.kept:
-            super().remove(it)
-        super().remember(self.until, self.newest)
+        for name in self.removals:
+            super().remove(name)
+        super().remember(self.until, self.newest, self.mark)
 
 
 class Step(enum.Enum):
@@ -111,7 +101,7 @@ class Report:
     is_baseline: bool = False
     gone: set[str] = dataclasses.field(default_factory=set)
     going: int = 0
-    held: int = 0
+    file_count: int = 0
     lines: list[str] = dataclasses.field(default_factory=list)
     until: str = ""
 
@@ -119,17 +109,18 @@ class Report:
 class PartRun:
     """A run of one source."""
 
-    def __init__(self, name: str, base: str, given: argparse.Namespace, within: int | None,
+    def __init__(self, name: str, base: str, arguments: argparse.Namespace, within: int | None,
                  limits: Limits) -> None:
         # How much may be removed is decided for the whole.
         limits = dataclasses.replace(limits, removals=None, is_sure=True)
-        connections = connections_of(given, base, limits)
-        self.name, self.given = name, given
-        self.folder = Part(os.path.join(given.folder, name), connections.address, within)
-        if given.incremental and self.folder.until is None:
+        connections = connections_of(arguments, base, limits)
+        self.name, self.arguments = name, arguments
+        self.folder = Part(os.path.join(arguments.folder, name), connections.address, within, Filters(arguments.rules))
+        self.folder.tell_filters()
+        if arguments.incremental and self.folder.until is None:
             raise Fault("there is no earlier run to go on from")
         self.source = Source(connections, is_at_base=True, latest=latest_now())
-        self.run, self.told = Run(self.source, self.folder, limits), ""
+        self.run, self.summary = Run(self.source, self.folder, limits), ""
 
     def answer(self, message: Message) -> Report:
         """Does a step."""
@@ -143,15 +134,17 @@ class PartRun:
                 self.folder.rest()
 
     def is_baseline(self) -> bool:
-        return self.given.baseline or self.folder.until is None
+        """Whether the run begins with a baseline."""
+        return self.arguments.baseline or self.folder.until is None
 
     def foretell(self, _: Message) -> Report:
-        """Tells what the source would do to the folder, and changes nothing."""
+        """Says what the source would do to the folder, and changes nothing."""
         self.folder.count()
         found = Forecast(self.run, self.is_baseline())
         self.folder.check_room(found.lacking)
-        *lines, told = found.lines(f"{self.name} ")
-        return Report(going=len(found.going), held=self.folder.held, lines=[*lines, f"{self.name}: {told}"])
+        *lines, summary = found.lines(f"{self.name} ")
+        return Report(going=len(found.going), file_count=self.folder.file_count,
+                      lines=[*lines, f"{self.name}: {summary}"])
 
     def begin(self, _: Message) -> Report:
         """Mirrors the source, but removes nothing."""
@@ -165,27 +158,29 @@ class PartRun:
     def release(self, _: Message) -> Report:
         """Removes what is gone, and remembers the moment."""
         self.folder.release()
-        return self.report([self.told])
+        return self.report([self.summary])
 
     def gone(self, is_baseline: bool) -> Report:
-        """Runs, and tells what is gone since the last run here."""
+        """Runs, and reports what is gone since the last run here."""
         self.folder.gone = set()
-        self.told = self.run.go(is_baseline)
+        self.summary = self.run.go(is_baseline)
         return dataclasses.replace(self.report(), is_baseline=self.run.way == BASELINE, gone=self.folder.gone)
 
     def report(self, lines: list[str] | None = None) -> Report:
-        going = sum(self.folder.is_held(it) for it in self.folder.kept if it not in self.folder.absent)
-        return Report(going=going, held=self.folder.held, lines=lines or [], until=self.folder.until or "")
+        """How many files have to go, with lines to print."""
+        folder = self.folder
+        going = sum(folder.is_held(name) for name in folder.removals if name not in folder.absent)
+        return Report(going=going, file_count=folder.file_count, lines=lines or [], until=folder.until or "")
 
     def is_due(self, names: set[str]) -> bool:
-        """Whether the source has new changes that may have brought one of these names; any one, where none
-        are given.
+        """Whether the source has new changes that may have brought one of these names; any name, where none
+        are named.
         """
         try:
             entries = self.source.changes(self.folder.until or NEVER).entries
         except Dropped:
             return True
-        return any(it.facts is not None and (not names or it.name in names) for it in entries)
+        return any(entry.facts is not None and (not names or entry.name in names) for entry in entries)
 
 
 def bases_at(connections: Connections) -> list[str]:
@@ -196,92 +191,94 @@ def bases_at(connections: Connections) -> list[str]:
         return several.bases
 
 
-def begin(given: argparse.Namespace, connections: Connections, folder: Folder) -> int:
+def begin(arguments: argparse.Namespace, connections: Connections, folder: Folder) -> int:
     """Mirrors a collection into a folder that is no mirror yet."""
     if folder.is_open:
         if folder.tree.is_there(STATE):
             raise Unusable(f"{folder.path}: is a mirror of one source, and {connections.address} names "
                            f"several: take another folder")
         folder.close()
-    return run(given, connections)
+    return run(arguments, connections)
 
 
-def run(given: argparse.Namespace, connections: Connections) -> int:
-    """Mirrors all, anew where the Source Description names other sources meanwhile, and gives the exit
+def run(arguments: argparse.Namespace, connections: Connections) -> int:
+    """Mirrors all, again where the Source Description names other sources meanwhile, and gives the exit
     status.
     """
-    path = os.path.abspath(given.folder)
-    whole = Whole(path, connections.address) if is_whole(given.folder) else None
+    if arguments.on_change is not None or arguments.connections > 1:
+        raise Misused("--on-change and --connections go with one source: mirror each of a collection by its own base")
+    path = os.path.abspath(arguments.folder)
+    whole = Whole(path, connections.address) if is_whole(arguments.folder) else None
     limits = dataclasses.replace(connections.limits, taken=SharedCount())
     for _ in range(RUNS):
-        parts = parts_of(bases_at(connections), connections.address, given.elsewhere)
-        if given.dry_run:
-            return foretold(given, parts, whole, limits)
+        parts = parts_of(bases_at(connections), connections.address, arguments.elsewhere)
+        if arguments.dry_run:
+            return foretold(arguments, parts, whole, limits)
         whole = whole or Whole(path, connections.address)
-        status = once(given, connections, parts, whole, limits)
+        status = once(arguments, connections, parts, whole, limits)
         if status is not None:
             return status
     raise Fault("the Source Description names other sources again and again")
 
 
-def pool_of(given: argparse.Namespace, parts: dict[str, str], whole: Whole | None, limits: Limits) -> Pool:
+def pool_of(arguments: argparse.Namespace, parts: dict[str, str], whole: Whole | None, limits: Limits) -> Pool:
     """The processes that mirror these sources."""
     within = whole.lock if whole else None
-    return Pool(min(len(parts), given.jobs), lambda name: PartRun(name, parts[name], given, within, limits))
+    return Pool(min(len(parts), arguments.jobs), lambda name: PartRun(name, parts[name], arguments, within, limits))
 
 
-def foretold(given: argparse.Namespace, parts: dict[str, str], whole: Whole | None, limits: Limits) -> int:
-    """Tells what a run would do, and whether it would be refused. Gives the exit status."""
-    with pool_of(given, parts, whole, limits) as pool:
-        answers = pool.asked(dict.fromkeys(parts, Message(Step.FORETELL)))
+def foretold(arguments: argparse.Namespace, parts: dict[str, str], whole: Whole | None, limits: Limits) -> int:
+    """Says what a run would do, and whether it would be refused. Gives the exit status."""
+    with pool_of(arguments, parts, whole, limits) as pool:
+        answers = pool.answers_to(dict.fromkeys(parts, Message(Step.FORETELL)))
     failed = failures(answers)
-    for name, it in answers.items():
+    for name, answer in answers.items():
         if name in failed:
-            tell_of(name, it)
+            tell_of(name, answer)
         else:
-            for line in it.lines:
+            for line in answer.lines:
                 output.result(line)
-    check_removals(limits, [it for name, it in answers.items() if name not in failed])
+    check_removals(limits, [answer for name, answer in answers.items() if name not in failed])
     return status_of(failed)
 
 
-def once(given: argparse.Namespace, connections: Connections, parts: dict[str, str], whole: Whole,
+def once(arguments: argparse.Namespace, connections: Connections, parts: dict[str, str], whole: Whole,
          limits: Limits) -> int | None:
     """Mirrors these sources. Gives the exit status, or nothing where there are others by now."""
-    with pool_of(given, parts, whole, limits) as pool:
-        answers = pool.asked(dict.fromkeys(parts, Message(Step.BEGIN)))
+    with pool_of(arguments, parts, whole, limits) as pool:
+        answers = pool.answers_to(dict.fromkeys(parts, Message(Step.BEGIN)))
         failed, reports, waiting = failures(answers), dict[str, Report](), set[str]()
         for _ in range(PASSES):
-            well = {name: it for name, it in answers.items() if name not in failed}
+            well = {name: report for name, report in answers.items() if name not in failed}
             reports |= well
-            is_baseline = any(it.is_baseline for it in well.values())
-            gone = set[str]().union(*(it.gone for it in well.values()))
-            waiting |= {name for name, it in well.items() if it.gone}
+            is_baseline = any(report.is_baseline for report in well.values())
+            gone = set[str]().union(*(report.gone for report in well.values()))
+            waiting |= {name for name, report in well.items() if report.gone}
             if not is_baseline and not gone:
                 break
             if gone and set(bases_at(connections)) != set(parts.values()):
                 return None
             # (a proxy may serve a list that is as old as this)
             time.sleep(KEPT)
-            answers = pool.asked(dict.fromkeys(well, Message(Step.READ_ON, set() if is_baseline else gone)))
+            answers = pool.answers_to(dict.fromkeys(well, Message(Step.READ_ON, set() if is_baseline else gone)))
             failed |= failures(answers)
         else:
             raise Fault("the sources change faster than they can be read")
         # Where a source was not read, others may not remove what it may have by now.
         ends = [name for name in parts if name not in failed and not (failed and name in waiting)]
         check_removals(limits, [reports[name] for name in ends])
-        answers = pool.asked(dict.fromkeys(ends, Message(Step.RELEASE)))
-        return told(parts, answers, failed | failures(answers), whole)
+        answers = pool.answers_to(dict.fromkeys(ends, Message(Step.RELEASE)))
+        return print_outcome(parts, answers, failed | failures(answers), whole)
 
 
 def check_removals(limits: Limits, reports: list[Report]) -> None:
     """Refuses to remove more of the whole than was allowed."""
-    limits.check_removals(sum(it.going for it in reports), sum(it.held for it in reports))
+    limits.check_removals(sum(report.going for report in reports), sum(report.file_count for report in reports))
 
 
-def told(parts: dict[str, str], answers: dict[str, Any], failed: dict[str, Failed], whole: Whole) -> int:
+def print_outcome(parts: dict[str, str], answers: dict[str, Any], failed: dict[str, Failed], whole: Whole) -> int:
     """Prints at which moment each source's part is, and what could not be had. Gives the exit status."""
-    ended = {name: it for name, it in answers.items() if name not in failed}
+    ended = {name: report for name, report in answers.items() if name not in failed}
     for name in parts:
         if name in ended:
             output.result(f"{name}: {' '.join(ended[name].lines)}")
@@ -290,12 +287,12 @@ def told(parts: dict[str, str], answers: dict[str, Any], failed: dict[str, Faile
         else:
             output.message(f"{name}: keeps what its source deleted, and its old moment, until the others can "
                            f"be read")
-    moments = sorted(it.until for it in ended.values())
+    moments = sorted(report.until for report in ended.values())
     if moments:
         output.result(f"{len(ended):,} of {len(parts):,} sources, each at its own moment, from {moments[0]} "
                       f"to {moments[-1]}")
-    for it in whole.others(parts):
-        output.message(f"{it}: no source of this name is in the Source Description any more; its folder "
+    for name in whole.others(parts):
+        output.message(f"{name}: no source of this name is in the Source Description any more; its folder "
                        f"stays")
     return status_of(failed)
 
@@ -303,10 +300,10 @@ def told(parts: dict[str, str], answers: dict[str, Any], failed: dict[str, Faile
 def tell_of(name: str, failed: Failed) -> None:
     """Writes why a source's part failed."""
     first, *more = failed.lines
-    for it in (f"{name}: {first}", *more):
-        output.message(it)
+    for line in (f"{name}: {first}", *more):
+        output.message(line)
 
 
 def status_of(failed: dict[str, Failed]) -> int:
     """The exit status of a run of which these failed."""
-    return max((int(it.status) for it in failed.values()), default=0)
+    return max((int(failure.status) for failure in failed.values()), default=0)

@@ -15,8 +15,8 @@ from ropepeach.lists import Unheld
 from ropepeach.mirror_address import Address, joined
 from ropepeach.mirror_asking import Asking, refused
 from ropepeach.mirror_documents import (
-    CAPABILITIES, CHANGES, DESCRIPTION, RESOURCES, Document, Listed, document_in, is_markup, links_of_fields,
-    links_of_page, sitemaps_of)
+    CAPABILITIES, CHANGE_DUMP, CHANGES, DESCRIPTION, DUMP, RESOURCES, Document, Listed, document_in, is_markup,
+    links_of_fields, links_of_page, sitemaps_of)
 
 # How many Capability Lists, links or sitemaps are followed.
 MOST_LISTS = 1_000
@@ -24,10 +24,19 @@ MOST_LISTS = 1_000
 
 @dataclasses.dataclass(frozen=True)
 class Lists:
-    """The lists of one set of resources."""
+    """The lists of one set of resources, and its dumps. Where there is no Resource List, the manifests of the
+    Resource Dump are the list.
+    """
 
     resources: Address
     changes: Address | None = None
+    dump: Address | None = None
+    change_dump: Address | None = None
+
+    @property
+    def is_dump(self) -> bool:
+        """Whether the Resource Dump is the list."""
+        return self.resources == self.dump
 
 
 class Discovery:
@@ -60,11 +69,11 @@ class Discovery:
 
     def at(self, address: Address) -> list[Lists]:
         """The lists that the document or the page of an address leads to."""
-        answer = self.asking.text(address)
+        place, answer = self.asking.text(address)
         if is_markup(answer.body):
             self.asking.documents += 1
-            return self.of_document(document_in(address, answer.body))
-        return self.of_page(address, answer)
+            return self.of_document(document_in(place, answer.body))
+        return self.of_page(place, answer)
 
     def of_page(self, address: Address, answer: Answer) -> list[Lists]:
         """The lists that the links of a page lead to."""
@@ -78,7 +87,7 @@ class Discovery:
         """The lists that the robots.txt of a host leads to."""
         robots = dataclasses.replace(address, target="/robots.txt")
         lists = []
-        for text in sitemaps_of(self.asking.text(robots).body)[:MOST_LISTS]:
+        for text in sitemaps_of(self.asking.text(robots)[1].body)[:MOST_LISTS]:
             lists += self.of_document(self.asking.document(followed(robots, text)))
         return lists
 
@@ -103,13 +112,13 @@ class Discovery:
         lists = []
         for entry in document.entries:
             if document.is_index or entry.attributes.get("capability") == CAPABILITIES:
-                named = self.asking.document(followed(document.address, entry.loc))
-                if named.capability == DESCRIPTION and not named.is_index and document.is_index:
-                    lists += self.of_description(named)
-                elif named.capability == CAPABILITIES:
-                    lists.append(of_capabilities(named))
+                target = self.asking.document(followed(document.address, entry.loc))
+                if target.capability == DESCRIPTION and not target.is_index and document.is_index:
+                    lists += self.of_description(target)
+                elif target.capability == CAPABILITIES:
+                    lists.append(of_capabilities(target))
                 else:
-                    raise refused(named.address, "it is no Capability List, as the Source Description says")
+                    raise refused(target.address, "it is no Capability List, as the Source Description says")
         return lists
 
     def above(self, document: Document) -> Document | None:
@@ -125,7 +134,7 @@ class Discovery:
         return found if found.capability == CAPABILITIES else None
 
     def with_changes(self, document: Document) -> Lists:
-        """A Resource List with the Change List beside it, if the Capability List above names both."""
+        """A Resource List with its Change List, if the Capability List above names both."""
         above = self.above(document)
         if above is not None:
             lists = of_capabilities(above)
@@ -134,8 +143,10 @@ class Discovery:
         return Lists(document.address)
 
     def of_other(self, document: Document) -> Lists:
-        """The lists beside a Change List or a dump, by the Capability List above it."""
+        """The other lists of a Change List or a dump, by the Capability List above it."""
         above = self.above(document)
+        if above is None and document.capability == DUMP:
+            return Lists(document.address, dump=document.address)
         if above is None:
             raise refused(document.address, f"it is a {document.capability}, and no Capability List above it "
                                             f"names a Resource List")
@@ -143,15 +154,16 @@ class Discovery:
 
 
 def of_capabilities(document: Document) -> Lists:
-    """The Resource List and the Change List that a Capability List names."""
-    resources, changes = (named(document, capability) for capability in (RESOURCES, CHANGES))
-    if resources is None:
-        raise refused(document.address, "it names no Resource List")
-    return Lists(followed(document.address, resources.loc), changes
-                 and followed(document.address, changes.loc))
+    """The Resource List, the Change List and the dumps that a Capability List names."""
+    found = (first_entry(document, capability) for capability in (RESOURCES, CHANGES, DUMP, CHANGE_DUMP))
+    resources, changes, dump, change_dump = (None if entry is None else followed(document.address, entry.loc)
+                                             for entry in found)
+    if resources is None and dump is None:
+        raise refused(document.address, "it names no Resource List and no Resource Dump")
+    return Lists(resources or dump or document.address, changes, dump, change_dump)
 
 
-def named(document: Document, capability: str) -> Listed | None:
+def first_entry(document: Document, capability: str) -> Listed | None:
     """The first entry of a capability."""
     return next((entry for entry in document.entries if entry.attributes.get("capability") == capability),
                 None)

@@ -1,5 +1,4 @@
-"""Documents of any source of the framework: what stands in them, as Sitemap 0.9 and ANSI/NISO Z39.99-2017
-have it.
+"""Documents of any source of the framework: what they say, by Sitemap 0.9 and ANSI/NISO Z39.99-2017.
 
 They are read as lists.py reads those of a Ropepeach: whole or not at all, with no document type, and with
 limits on bytes, elements and entries. A document may be packed by gzip, on the way or as a file.
@@ -18,9 +17,9 @@ import defusedxml
 from defusedxml.ElementTree import ParseError, XMLParser
 
 from ropepeach.faults import Fault
-from ropepeach.lists import MOST_ENTRIES, RS, SITEMAP, Builder, described_by
 from ropepeach.mirror_address import Address, address_in
 from ropepeach.moments import Moment, latest_instant, moment_in
+from ropepeach.sitemaps import MOST_ENTRIES, RS, SITEMAP, Builder, described_by
 
 # The longest document once it is unpacked, in bytes, and how many elements it has at most: a dozen an entry.
 LONGEST_UNPACKED, MOST_ELEMENTS = 52_428_800, 12 * MOST_ENTRIES + 100
@@ -31,10 +30,11 @@ LONGEST_HEAD = 65_536
 RELATION = "resourcesync"
 LINK = re.compile(r"<([^<>]{1,2048})>((?:\s*;\s*[A-Za-z*-]+\s*=\s*(?:\"[^\"]*\"|[^\s\",;]+))*)")
 DESCRIPTION, CAPABILITIES, RESOURCES, CHANGES = "description", "capabilitylist", "resourcelist", "changelist"
+DUMP, CHANGE_DUMP = "resourcedump", "changedump"
 
 
 class Listed(NamedTuple):
-    """An entry of a document as it stands: its address, the attributes of its `rs:md`, and its `lastmod`."""
+    """An entry of a document, unchanged: its address, the attributes of its `rs:md`, and its `lastmod`."""
 
     loc: str
     attributes: Mapping[str, str]
@@ -137,7 +137,7 @@ def document_in(address: Address, body: bytes) -> Document:
 
 
 def listed(element: Element) -> Listed:
-    """An entry as it stands."""
+    """An entry, unchanged."""
     modified = element.findtext(SITEMAP + "lastmod")
     return Listed((element.findtext(SITEMAP + "loc") or "").strip(), dict(described_by(element)),
                   modified and modified.strip())

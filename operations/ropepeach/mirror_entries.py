@@ -107,22 +107,27 @@ class Reading:
         entries: Entries = {}
         for part in self.parts_of(head):
             moments.append(part.moment("at"))
-            for listed, place in self.counted(part):
-                entry = Entry(place, any_facts(listed.attributes), modified_at(listed),
-                              encoding=listed.attributes.get("encoding", "")[:100])
-                other = entries.setdefault(place_of(place), entry)
-                if other.facts != entry.facts:
-                    raise refused(address, f"it has {str(place)[:300]} twice, with different bytes")
+            self.add_resources(part, entries)
         known = [moment for moment in moments if moment is not None]
         return earliest(known), entries
+
+    def add_resources(self, document: Document, entries: Entries) -> None:
+        """Adds the entries of a part of a Resource List, or of a manifest."""
+        for listed, place in self.counted(document):
+            entry = Entry(place, any_facts(listed.attributes), modified_at(listed),
+                          encoding=listed.attributes.get("encoding", "")[:100])
+            other = entries.setdefault(place_of(place), entry)
+            if other.facts != entry.facts:
+                raise refused(document.address, f"it has {str(place)[:300]} twice, with different bytes")
 
     def changes(self, address: Address, since: Moment) -> Changes:
         """The changes of a Change List that may be after a moment, or at it."""
         head = self.asking.document(address)
         if head.capability != CHANGES:
             raise refused(address, f"it is a {head.capability or 'sitemap'}, and no Change List")
-        wanted = [part for part in head.entries if not is_over(address, part,
-                                                               since)] if head.is_index else None
+        wanted = None
+        if head.is_index:
+            wanted = [part for part in head.entries if not is_over(address, part, since)]
         read, start = list[Entry](), head.moment("from")
         for part in self.parts_of(head, wanted):
             for listed, place in self.counted(part):
@@ -142,7 +147,7 @@ class Changes:
 
     newest: Moment
     entries: Entries
-    told: Moment | None
+    latest: Moment | None
 
 
 def earliest(moments: list[Moment]) -> Moment | None:
@@ -191,7 +196,7 @@ def check_start(address: Address, start: Moment | None, read: list[Entry], since
 
 def changes_in(read: list[Entry], since: Moment, bounds: list[Moment | None]) -> Changes:
     """The changes that aren't before a moment, of each resource the latest."""
-    told = [moment for moment in (*bounds, *(entry.moment for entry in read)) if moment is not None]
+    moments = [moment for moment in (*bounds, *(entry.moment for entry in read)) if moment is not None]
     due = [(entry.moment, entry) for entry in read if entry.moment is not None
            and not entry.moment.is_before(since)]
     due.sort(key=lambda pair: pair[0].first)
@@ -203,7 +208,7 @@ def changes_in(read: list[Entry], since: Moment, bounds: list[Moment | None]) ->
         is_together = before is not None and before.moment is not None and not before.moment.is_before(moment)
         latest[place] = joined(before, entry) if before is not None and is_together else entry
         newest = moment if moment.first > newest.first else newest
-    return Changes(newest, latest, sorted(told, key=lambda moment: moment.first)[-1] if told else None)
+    return Changes(newest, latest, sorted(moments, key=lambda moment: moment.first)[-1] if moments else None)
 
 
 def joined(before: Entry, later: Entry) -> Entry:

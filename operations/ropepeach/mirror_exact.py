@@ -10,8 +10,7 @@ from ropepeach.faults import Fault
 
 # How a person reads each check; the strongest first.
 WORDS = {Check.SHA_512: "by SHA-512", Check.SHA_256: "by SHA-256", Check.SHA_1: "by SHA-1",
-         Check.MD5: "by MD5", Check.LENGTH: "by length",
-         Check.NOTHING: "not at all"}
+         Check.MD5: "by MD5", Check.LENGTH: "by length", Check.NOTHING: "not at all"}
 EXACT = "exact"
 # This many of the resources that are listed with too little are named.
 NAMED = 10
@@ -34,8 +33,7 @@ def standing(compared: Mapping[Check, int], passed: Mapping[str, int], moment: s
 
 def counted(compared: Mapping[Check, int]) -> str:
     """With what files were compared: `412 by SHA-256, 3 by length, 9 not at all`."""
-    return ", ".join(f"{compared[check]:,} {words}" for check,
-                     words in WORDS.items() if compared.get(check)) or "none"
+    return ", ".join(f"{compared[check]:,} {words}" for check, words in WORDS.items() if compared.get(check)) or "none"
 
 
 def check_required(listed: Iterable[tuple[str, Facts]], required: Check | None) -> None:
@@ -46,5 +44,4 @@ def check_required(listed: Iterable[tuple[str, Facts]], required: Check | None) 
     if weak:
         more = f" and {len(weak) - NAMED:,} more" if len(weak) > NAMED else ""
         raise Fault(f"{len(weak):,} resources are listed with less than --require {required.value}: "
-                    f"{', '.join(weak[:NAMED])}{more}; "
-                    "nothing was fetched")
+                    f"{', '.join(weak[:NAMED])}{more}; nothing was fetched")

@@ -2,8 +2,8 @@
 
 A name is a path of segments joined by `/`, and its bytes lie in the file of that path below the folder, byte
 for byte as the name is written, `%` too. A name that is held while another one lies below it (`a` and `a/b`)
-can't be a file and a folder at once: it has then a `#` behind it (`a#` beside `a/b`), which stands in no
-name. Where a resource lies follows from the names held alone. `#state` and `#incoming` at the top are the
+can't be a file and a folder at once: it has then a `#` behind it (`a#` next to `a/b`), which no name
+has. Where a resource lies follows only from the names held. `#state` and `#incoming` at the top are the
 mirror's own: what is remembered, and what is being written. All else that begins with `#` is somebody else's,
 and stays.
 
@@ -14,34 +14,37 @@ link below the folder is followed (mirror_tree.py).
 """
 from __future__ import annotations
 
-import concurrent.futures
 import contextlib
 import ctypes
+import dataclasses
 import errno
 import fcntl
 import os
 import re
 import stat
-from collections.abc import Iterator
+from typing import TYPE_CHECKING
 
 from ropepeach import output
-from ropepeach.facts import Facts, fit, has_length, is_name, length_of
+from ropepeach.facts import Facts, length_of
 from ropepeach.faults import Unusable
+from ropepeach.filters import Filters
+from ropepeach.mirror_contents import ASIDE, Contents
+from ropepeach.mirror_folding import PROBE, names_of_probe
 from ropepeach.mirror_state import FRONTS, LONGEST, State
 from ropepeach.mirror_tree import FOLDER, Tree
 
+if TYPE_CHECKING:
+    import concurrent.futures
+
 STATE, INCOMING = "#state", "#incoming"
-ASIDE = "#"
 # This many files, or bytes, are synced together.
 BATCH, BATCH_BYTES = 256, 16 << 20
-# Two names that a file system which folds case has as one, of all characters that a name may have.
-PROBE, FOLDED = "aB0-._~!$&'()*+,;=:@%C3.", "Ab0-._~!$&'()*+,;=:@%c3."
 LIBRARY = ctypes.CDLL(None, use_errno=True)
 
 
 def above_it(name: str) -> list[str]:
     """The folders that a name lies in, the outermost first."""
-    return [name[: it.start()] for it in re.finditer("/", name)]
+    return [name[: slash.start()] for slash in re.finditer("/", name)]
 
 
 def sync_all(opened: int) -> None:
@@ -52,17 +55,22 @@ def sync_all(opened: int) -> None:
         raise OSError(ctypes.get_errno(), os.strerror(ctypes.get_errno()))
 
 
-class Folder:
+class Folder(Contents):
     """A folder that one program at a time makes the mirror of one source."""
 
-    def __init__(self, path: str, source: str, within: int | None = None, is_any: bool = False) -> None:
+    def __init__(self, path: str, source: str, within: int | None = None, is_any: bool = False,
+                 filters: Filters | None = None) -> None:
         """Looks at a folder, and changes nothing: `begin` does. The last segment of a path may be one of an
         open folder.
         """
+        super().__init__()
         self.path, self.source, self.within, self.lock = os.path.abspath(path), source, within, -1
-        self.is_any = is_any
+        self.is_any, self.filters = is_any, filters or Filters()
+        # The digest of the filters of the run that made the folder what it is, and whether these are others.
+        self.filtered_by, self.has_other_filters = self.filters.digest(), False
         self.until: str | None = None
         self.newest: str | None = None
+        self.mark: str | None = None
         self.worker: concurrent.futures.ThreadPoolExecutor | None = None
         self.incoming: int | None = None
         # What was written since the last sync began, and its bytes; how many files were written; what is
@@ -71,15 +79,18 @@ class Folder:
         self.syncing: list[tuple[str, str]] = []
         self.synced: concurrent.futures.Future[None] | None = None
         self.size = self.number = 0
-        # How many resources were there when it was begun, and which were looked for and were not there.
-        self.held, self.absent = 0, set[str]()
         if self.is_there():
             self.open()
 
-    @property
-    def is_open(self) -> bool:
-        """Whether there is such a folder, which is locked then."""
-        return self.lock >= 0
+    def tell_filters(self) -> None:
+        """Says that a run with these filters is a baseline, where the last one had others."""
+        if self.has_other_filters:
+            output.message(f"{self.path}: the last run had other patterns of --include and --exclude: this run is a "
+                           f"baseline")
+
+    def take_filters(self) -> None:
+        """Lets the folder be one of this run's filters, where a stop is followed by a baseline."""
+        self.filtered_by = self.filters.digest()
 
     def is_there(self) -> bool:
         """Whether there is something by its path."""
@@ -97,8 +108,8 @@ class Folder:
         try:
             return os.open(os.path.basename(self.path), FOLDER, dir_fd=self.within)
         except NotADirectoryError:
-            raise Unusable(f"{self.path}: is a link, or no folder, and a mirror follows no link: move it "
-                           f"away") from None
+            raise Unusable(f"{self.path}: is a link, or no folder, and a mirror follows no link: "
+                           "move it away") from None
 
     def open(self) -> None:
         """Locks the folder, and reads what it remembers."""
@@ -120,22 +131,22 @@ class Folder:
         if state.is_any != self.is_any and not is_empty:
             raise Unusable(f"{self.path}: was made {'with' if state.is_any else 'without'} --any-source, and "
                            f"goes on so")
-        if state.is_true():
-            self.until, self.newest = state.until, state.newest
-        else:
+        self.filtered_by, self.has_other_filters = state.filters, state.filters != self.filters.digest()
+        if not state.is_true():
             output.message(f"{self.at(STATE)}: remembers {state.until} and {state.newest}, which no source "
                            f"may have by now: this run is a baseline")
+        elif not self.has_other_filters:
+            self.until, self.newest, self.mark = state.until, state.newest, state.mark
 
     def is_begun(self) -> bool:
-        """Whether what lies where the first state is written is such a state, which a stop left, or nothing.
-        """
+        """Whether what lies where the first state is written is such a state, which a stop left, or nothing."""
         found = self.tree.status(INCOMING)
         if found is None:
             return True
         if not stat.S_ISREG(found.st_mode) or found.st_size > LONGEST:
             return False
         text = self.text_of(INCOMING)
-        return any(text.startswith(it) or it.startswith(text) for it in FRONTS)
+        return any(text.startswith(front) or front.startswith(text) for front in FRONTS)
 
     def begin(self) -> None:
         """Makes the folder if there is none, and puts right what a stop left half done."""
@@ -184,48 +195,8 @@ class Folder:
             return file.read(LONGEST)
 
     def at(self, name: str) -> str:
+        """A path below the folder, for a message."""
         return os.path.join(self.path, name)
-
-    def place(self, name: str) -> str:
-        """The path at which the bytes of a name lie, or would lie now."""
-        return name + ASIDE if self.tree.is_folder(name) else name
-
-    def is_held(self, name: str) -> bool:
-        """Whether there is something in the place of a name."""
-        return self.is_open and self.tree.is_there(self.place(name))
-
-    def length(self, name: str) -> int:
-        """The bytes of the file of a name, or 0."""
-        found = self.tree.status(self.place(name)) if self.is_open else None
-        return found.st_size if found is not None and stat.S_ISREG(found.st_mode) else 0
-
-    def has(self, name: str, facts: Facts) -> bool:
-        """Whether the file of a name has what a list says."""
-        if not self.is_open:
-            return False
-        try:
-            number = self.tree.opened(name)
-            found = os.fstat(number)
-            if stat.S_ISDIR(found.st_mode):
-                os.close(number)
-                number = self.tree.opened(name + ASIDE)
-                found = os.fstat(number)
-            with open(number, "rb", buffering=0) as file:
-                is_fit = stat.S_ISREG(found.st_mode) and (not has_length(facts)
-                                                          or found.st_size == length_of(facts))
-                return is_fit and fit(facts, file.read())
-        except (FileNotFoundError, NotADirectoryError):
-            self.absent.add(name)
-            return False
-        except OSError:
-            # (a link, a socket or a device without a driver can't be opened so, and is no file)
-            if self.tree.is_file(self.place(name)):
-                raise
-            return False
-
-    def count(self) -> None:
-        """Counts what is there."""
-        self.held = sum(len(it.others) for it in self.tree.levels(ASIDE)) if self.is_open else 0
 
     def check_room(self, wanted: dict[str, Facts]) -> None:
         """Refuses what the folder's file system has no room for, if it says how much that is."""
@@ -235,8 +206,8 @@ class Folder:
         free, unit = room.f_bavail * room.f_frsize, room.f_frsize
         if sum(rounded(length_of(facts), unit) for facts in wanted.values()) <= free:
             return
-        more = sum(max(0, rounded(length_of(facts), unit) - rounded(self.length(name), unit)) for name,
-                   facts in wanted.items())
+        more = sum(max(0, rounded(length_of(facts), unit) - rounded(self.length(name), unit))
+                   for name, facts in wanted.items())
         if more > free:
             raise Unusable(f"{self.path}: has room for {free:,} bytes, and what the source lists takes "
                            f"{more:,} more: nothing was fetched")
@@ -262,6 +233,7 @@ class Folder:
         return self.incoming
 
     def leave_incoming(self) -> None:
+        """Closes the folder of what is being written."""
         if self.incoming is not None:
             os.close(self.incoming)
             self.incoming = None
@@ -273,6 +245,9 @@ class Folder:
         synced, self.syncing, self.synced = self.syncing, self.written, None
         self.written, self.size = [], 0
         if self.syncing:
+            # (a run with nothing new needs none of this)
+            import concurrent.futures
+
             self.worker = self.worker or concurrent.futures.ThreadPoolExecutor(1)
             self.synced = self.worker.submit(sync_all, self.lock)
         for path, name in synced:
@@ -314,11 +289,11 @@ class Folder:
     def put_right(self) -> None:
         """Undoes what a stop left half done, and counts what is there."""
         self.drop_incoming()
-        self.held, due = 0, []
-        for it in self.tree.levels(ASIDE):
-            aside = {name[:-1] for name in it.others if name.endswith(ASIDE)}
-            due.append([it.front + name for name in it.folders | aside])
-            self.held += len(it.others)
+        self.file_count, due = 0, []
+        for level in self.tree.levels(ASIDE):
+            aside = {name[:-1] for name in level.others if name.endswith(ASIDE)}
+            due.append([level.front + name for name in level.folders | aside])
+            self.file_count += len(level.others)
         # The top's own are not among these.
         for paths in reversed(due):
             for path in paths:
@@ -326,11 +301,8 @@ class Folder:
 
     def check_names(self) -> None:
         """Refuses a file system that has two names of a source as one, or a name as another one."""
-        folder = self.enter_incoming()
         try:
-            os.close(os.open(PROBE, os.O_WRONLY | os.O_CREAT | os.O_EXCL | os.O_NOFOLLOW, 0o666,
-                             dir_fd=folder))
-            found = [*os.listdir(folder), *(it for it in (FOLDED, PROBE.rstrip(".")) if is_at(folder, it))]
+            found = names_of_probe(self.enter_incoming())
         except OSError as fault:
             if fault.errno not in (errno.EINVAL, errno.EILSEQ):
                 raise
@@ -347,44 +319,39 @@ class Folder:
         self.leave_incoming()
         if self.tree.is_folder(INCOMING):
             folder = self.tree.folder(INCOMING)
-            for it in os.listdir(folder):
-                os.remove(it, dir_fd=folder)
+            for name in os.listdir(folder):
+                os.remove(name, dir_fd=folder)
             self.tree.remove_folder(INCOMING)
         elif self.tree.is_there(INCOMING):
             self.tree.remove(INCOMING)
 
-    def names(self) -> Iterator[str]:
-        """The names of all files but the mirror's own, and the paths of what can be no name's."""
-        if not self.is_open:
-            return
-        for it in self.tree.levels(ASIDE):
-            for name in it.others:
-                is_aside = name.endswith(ASIDE) and name[:-1] in it.folders and is_name(it.front + name[:-1])
-                yield it.front + (name[:-1] if is_aside else name)
+    def promise(self, newest: str) -> None:
+        """Notes the moment of the newest change that a run is about to bring: a source that is older by the
+        next run has gone back.
+        """
+        state = self.state()
+        if state.until is not None and (state.newest is None or state.newest < newest):
+            self.drop_incoming()
+            self.write_state(dataclasses.replace(state, newest=newest))
+            self.newest = newest
 
-    def remember(self, until: str | None, newest: str | None) -> None:
+    def remember(self, until: str | None, newest: str | None, mark: str | None = None) -> None:
         """Writes the state, once all else is synced. What was written has to be in its place."""
         self.drop_incoming()
         sync_all(self.lock)
-        state = State(self.source, until, newest, self.is_any)
+        self.write_state(State(self.source, until, newest, self.is_any, mark, self.filtered_by))
+        self.until, self.newest, self.mark = until, newest, mark
+
+    def write_state(self, state: State) -> None:
+        """Writes a state to another file, syncs it, and puts it in its place."""
         with open(self.tree.made(INCOMING), "wb") as file:
             file.write(state.text())
             file.flush()
             os.fsync(file.fileno())
         self.tree.move(INCOMING, STATE)
         os.fsync(self.lock)
-        self.until, self.newest = until, newest
 
 
 def rounded(size: int, unit: int) -> int:
     """The bytes that a file of this size takes of a file system."""
     return -(-size // unit) * unit
-
-
-def is_at(folder: int, name: str) -> bool:
-    """Whether an open folder has something by a name."""
-    try:
-        os.stat(name, dir_fd=folder, follow_symlinks=False)
-    except FileNotFoundError:
-        return False
-    return True

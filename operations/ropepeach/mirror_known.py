@@ -1,19 +1,21 @@
-"""What a mirror of any source knows of its files, in the file `#known` beside `#state`: a database of SQLite.
+"""What a mirror knows of its files, in the file `#known` next to `#state`: a database of SQLite.
 
-It is read and written whole, through the folder's own descriptor: SQLite itself opens no path, so no link
-leads it elsewhere. A lost or damaged one costs a baseline that asks again for what has no digest.
+It is read and written whole, through the folder's own descriptor: SQLite itself opens no path there, so no
+link leads it elsewhere. A lost or damaged one costs a baseline that asks again for what has no digest.
 """
 from __future__ import annotations
 
 import contextlib
 import dataclasses
+import operator
 import os
 import sqlite3
-from collections.abc import Iterable, Iterator, Mapping
+from collections.abc import Iterable, Iterator, Mapping, Sequence
 from typing import NamedTuple
 
 from ropepeach.faults import Unusable
 from ropepeach.mirror_tree import Tree
+from ropepeach.private_base import LONGEST, PrivateBase
 
 MAGIC = b"SQLite format 3\0"
 KNOWN, WRITING = "#known", "#incoming"
@@ -54,63 +56,67 @@ class Since(NamedTuple):
     """
 
     since: str
-    told: str
+    latest: str
 
 
 FIELDS = [field.name for field in dataclasses.fields(Row)]
+PUT = f"INSERT OR REPLACE INTO resources ({', '.join(FIELDS)}) VALUES ({', '.join('?' for _ in FIELDS)})"
+values_of = operator.attrgetter(*FIELDS)
 TYPES = {"length": int, "sha256": bytes}
 
 
 class Known:
-    """The database of a mirror, held in memory until it is saved."""
+    """A database of a mirror, beside its folder until it is saved."""
 
-    def __init__(self, tree: Tree | None) -> None:
-        """Reads what a folder knows; nothing where there is no folder yet."""
-        self.tree = tree
-        self.base = sqlite3.connect(":memory:", isolation_level=None, check_same_thread=False)
-        self.is_lost = not self.is_read()
+    def __init__(self, tree: Tree | None, name: str = KNOWN) -> None:
+        """Reads what a folder knows; nothing where there is no folder yet, or no name of a file."""
+        self.tree, self.name = tree, name
+        found = self.found() if tree is not None and name else None
+        self.is_lost = found is None
+        self.private = found or PrivateBase()
+        self.base = self.private.connection
         if self.is_lost:
-            self.base.close()
-            self.base = sqlite3.connect(":memory:", isolation_level=None, check_same_thread=False)
             self.base.executescript(TABLES)
         self.base.execute("BEGIN")
 
-    def is_read(self) -> bool:
-        """Whether the file could be read, and has the tables of this form alone."""
-        if self.tree is None or not self.tree.is_file(KNOWN):
-            if self.tree is not None and self.tree.is_folder(KNOWN):
-                raise Unusable(f"{self.tree.shown(KNOWN)}: is a folder, where the mirror keeps a file: move "
+    def found(self) -> PrivateBase | None:
+        """A copy of the file, if it can be read, and has only the tables of this form."""
+        assert self.tree is not None
+        if not self.tree.is_file(self.name):
+            if self.tree.is_folder(self.name):
+                raise Unusable(f"{self.tree.shown(self.name)}: is a folder, where the mirror keeps a file: move "
                                f"it away")
-            return False
-        with open(self.tree.opened(KNOWN), "rb") as file:
-            image = file.read()
-        if not image.startswith(MAGIC):
-            return False
-        try:
-            self.base.deserialize(image)
-            self.base.execute("PRAGMA trusted_schema = OFF")
-            tables = [name for name, in self.base.execute("SELECT sql FROM sqlite_schema WHERE sql IS NOT "
-                                                          "NULL ORDER BY name")]
-            form = self.base.execute("PRAGMA user_version").fetchone()[0]
-            check = self.base.execute("PRAGMA quick_check").fetchone()[0]
-        except (sqlite3.Error, OverflowError, UnicodeError, MemoryError):
-            return False
-        return form == FORM and check == "ok" and tables == ours()
+            return None
+        with open(self.tree.opened(self.name), "rb") as file:
+            if file.read(len(MAGIC)) != MAGIC or os.fstat(file.fileno()).st_size > LONGEST:
+                return None
+            file.seek(0)
+            try:
+                private = PrivateBase(file)
+            except sqlite3.Error:
+                return None
+        if is_ours(private.connection):
+            return private
+        private.close()
+        return None
+
+    def close(self) -> None:
+        """Lets the database go."""
+        self.private.close()
 
     def save(self) -> None:
-        """Writes the database beside, syncs it, and puts it in its place."""
+        """Writes the database to another file, syncs it, and puts it in its place."""
         if self.tree is None:
             raise Unusable("there is no folder to write to")
         self.base.execute("COMMIT")
-        image = self.base.serialize()
         self.base.execute("BEGIN")
         with contextlib.suppress(FileNotFoundError):
             self.tree.remove(WRITING)
         with open(self.tree.made(WRITING), "wb") as file:
-            file.write(image)
+            self.private.copy_to(file)
             file.flush()
             os.fsync(file.fileno())
-        self.tree.move(WRITING, KNOWN)
+        self.tree.move(WRITING, self.name)
         os.fsync(self.tree.top)
 
     def row(self, place: str) -> Row | None:
@@ -128,9 +134,15 @@ class Known:
 
     def put(self, row: Row) -> None:
         """Notes what is known of a place."""
-        marks = ", ".join("?" for _ in FIELDS)
-        self.base.execute(f"INSERT OR REPLACE INTO resources ({', '.join(FIELDS)}) VALUES ({marks})",
-                          dataclasses.astuple(row))
+        self.put_all([values_of(row)])
+
+    def put_all(self, rows: Iterable[tuple[object, ...]]) -> None:
+        """Notes the values of rows, in the order of the fields."""
+        self.base.executemany(PUT, rows)
+
+    def count(self) -> int:
+        """How many places are known."""
+        return int(self.base.execute("SELECT count(*) FROM resources").fetchone()[0])
 
     def forget(self, places: Iterable[str]) -> None:
         """Forgets places."""
@@ -144,7 +156,7 @@ class Known:
     def lists(self) -> dict[str, Since]:
         """How far each Change List was read."""
         rows = self.base.execute("SELECT address, since, told FROM lists")
-        return {str(address): Since(str(since), str(told)) for address, since, told in rows}
+        return {str(address): Since(str(since), str(latest)) for address, since, latest in rows}
 
     def passed(self) -> dict[str, int]:
         """How many entries were passed over since the last baseline began, and why."""
@@ -159,6 +171,18 @@ class Known:
         self.base.executemany("INSERT INTO passed VALUES (?, ?)", list(passed.items()))
 
 
+def is_ours(base: sqlite3.Connection) -> bool:
+    """Whether a database has only the tables of this form."""
+    try:
+        tables = [name for name, in base.execute("SELECT sql FROM sqlite_schema WHERE sql IS NOT NULL ORDER BY "
+                                                 "name")]
+        form = base.execute("PRAGMA user_version").fetchone()[0]
+        check = base.execute("PRAGMA quick_check").fetchone()[0]
+    except (sqlite3.Error, OverflowError, UnicodeError, MemoryError):
+        return False
+    return bool(form == FORM and check == "ok" and tables == ours())
+
+
 def ours() -> list[str]:
     """The texts of the tables, as SQLite keeps them."""
     with contextlib.closing(sqlite3.connect(":memory:")) as base:
@@ -167,7 +191,7 @@ def ours() -> list[str]:
                                                "name")]
 
 
-def row_of(found: tuple[object, ...]) -> Row | None:
+def row_of(found: Sequence[object]) -> Row | None:
     """A row of the database, or None where it has values of other types."""
     words = dict(zip(FIELDS, found))
     if not all(isinstance(value, TYPES.get(name, str)) for name, value in words.items()):

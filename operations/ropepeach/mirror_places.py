@@ -13,7 +13,7 @@ import re
 from ropepeach.facts import is_name
 from ropepeach.mirror_address import PORTS, Address
 
-# What stands for itself: what a name may have but `!`; a `%` only before two hexadecimal digits.
+# What stays unchanged: what a name may have but `!`; a `%` only before two hexadecimal digits.
 SPECIAL = re.compile(r"%(?![0-9A-Fa-f]{2})|[^A-Za-z0-9._~$&'()*+,;=:@%-]")
 EMPTY, LONG = "!", "!long"
 
@@ -31,9 +31,8 @@ def front_of(address: Address) -> str:
     """The first segment: the host and the port; an address of http has `http+` before it."""
     mark = "" if address.scheme == "https" else "http+"
     port = "" if address.port == PORTS[address.scheme] else f":{address.port}"
-    return mark + re.sub(r"[\[\]]", "", address.host).replace(":",
-                                                              "!3A" if address.host.startswith("[")
-                                                              else ":") + port
+    colon = "!3A" if address.host.startswith("[") else ":"
+    return mark + re.sub(r"[\[\]]", "", address.host).replace(":", colon) + port
 
 
 def place_of(address: Address) -> str:

@@ -62,8 +62,8 @@ class Tree:
         while same < min(len(segments), len(self.way)) and segments[same] == self.way[same][0]:
             same += 1
         self.back_to(same)
-        for it in segments[same:]:
-            self.way.append((it, self.entered(it)))
+        for name in segments[same:]:
+            self.way.append((name, self.entered(name)))
         self.last = (path, self.way[-1][1] if self.way else self.top)
         return self.last[1]
 
@@ -74,7 +74,7 @@ class Tree:
             return os.open(segment, FOLDER, dir_fd=above)
         except NotADirectoryError:
             if stat.S_ISLNK(os.stat(segment, dir_fd=above, follow_symlinks=False).st_mode):
-                path = self.shown("/".join([*(it for it, _ in self.way), segment]))
+                path = self.shown("/".join([*(name for name, _ in self.way), segment]))
                 says = "is a link, and none below a folder is followed: move it away"
                 raise Linked(f"{path}: {says}") from None
             raise
@@ -147,8 +147,8 @@ class Tree:
         folder is none.
         """
         with os.scandir(self.folder(path)) as entries:
-            for it in entries:
-                yield it.name, it.is_dir(follow_symlinks=False)
+            for entry in entries:
+                yield entry.name, entry.is_dir(follow_symlinks=False)
 
     def levels(self, is_passed: str) -> Iterator[Level]:
         """The folders from the top on, each before those in it, but for what begins with a mark."""
@@ -159,8 +159,8 @@ class Tree:
                 raise Unusable(f"{self.shown(front)[:300]}: lies deeper than any resource: a mirror has none "
                                f"but its own folders")
             level = Level(front, set(), [])
-            for it, is_folder in self.listed(front.rstrip("/")):
-                if not it.startswith(is_passed):
-                    level.folders.add(it) if is_folder else level.others.append(it)
+            for name, is_folder in self.listed(front.rstrip("/")):
+                if not name.startswith(is_passed):
+                    level.folders.add(name) if is_folder else level.others.append(name)
             yield level
-            due += [f"{front}{it}/" for it in level.folders]
+            due += [f"{front}{name}/" for name in level.folders]

@@ -25,8 +25,29 @@ def is_whole(folder: str) -> bool:
     return os.path.lexists(os.path.join(folder, WHOLE))
 
 
+def address_of(folder: str) -> str:
+    """The address of the collection of which a folder is a mirror."""
+    top = os.open(folder, os.O_RDONLY | os.O_DIRECTORY)
+    try:
+        return marked(Tree(folder, top))
+    finally:
+        os.close(top)
+
+
+def marked(tree: Tree) -> str:
+    """The address of the collection that a folder is marked with."""
+    if not tree.is_file(WHOLE):
+        raise Unusable(f"{tree.shown(WHOLE)}: is no regular file")
+    with open(tree.opened(WHOLE), "rb") as file:
+        text = file.read(LONGEST)
+    try:
+        return str(json.loads(text)["collection"])
+    except (ValueError, LookupError, TypeError, RecursionError):
+        raise Unusable(f"{tree.shown(WHOLE)}: can't be read") from None
+
+
 class Whole:
-    """The locked folder of the whole, which may be a mirror of one collection alone."""
+    """The locked folder of the whole, which may be a mirror of only one collection."""
 
     def __init__(self, path: str, address: str) -> None:
         """Makes and locks the folder."""
@@ -39,7 +60,7 @@ class Whole:
         self.tree = Tree(path, self.lock)
         if not self.tree.is_there(WHOLE):
             self.mark(address)
-        if (found := self.marked()) != address:
+        if (found := marked(self.tree)) != address:
             raise Unusable(f"{path}: is a mirror of {found}")
 
     def mark(self, address: str) -> None:
@@ -55,20 +76,9 @@ class Whole:
         self.tree.move(INCOMING, WHOLE)
         os.fsync(self.lock)
 
-    def marked(self) -> str:
-        """The address of the collection of which the folder is."""
-        if not self.tree.is_file(WHOLE):
-            raise Unusable(f"{self.tree.shown(WHOLE)}: is no regular file")
-        with open(self.tree.opened(WHOLE), "rb") as file:
-            text = file.read(LONGEST)
-        try:
-            return str(json.loads(text)["collection"])
-        except (ValueError, LookupError, TypeError, RecursionError):
-            raise Unusable(f"{self.tree.shown(WHOLE)}: can't be read") from None
-
     def others(self, parts: dict[str, str]) -> list[str]:
         """What lies there and is no part of the collection now."""
-        return [it for it in sorted(os.listdir(self.lock)) if it not in parts and not it.startswith("#")]
+        return [name for name in sorted(os.listdir(self.lock)) if name not in parts and not name.startswith("#")]
 
 
 def parts_of(bases: list[str], address: str, is_elsewhere: bool) -> dict[str, str]:

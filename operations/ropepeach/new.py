@@ -22,7 +22,7 @@ NAME, HELP = "new", "make a source on this machine: file, units and site"
 LETS_ENCRYPT = Path("/etc/letsencrypt/live")
 DEFAULT_SIZE = 128 * 1_048_576
 SMALLEST = 16_384
-# What stays free on the file system beside the file of a source.
+# What stays free on the file system of a source.
 SPARE = 16 * 1_048_576
 
 
@@ -36,13 +36,15 @@ def add_arguments(parser: argparse.ArgumentParser) -> None:
     sizes.add_argument("--size", type=numbers.size, metavar="BYTES", help="its size, as 512MiB (128MiB)")
     parser.add_argument("--items", type=numbers.count, default=1000, metavar="N",
                         help="entries in one part of a list (1,000)")
-    parser.add_argument("--port", type=numbers.port, metavar="PORT", help="its port on 127.0.0.1 (the first that is free from 8080 on)")
+    parser.add_argument("--port", type=numbers.port, metavar="PORT",
+                        help="its port on 127.0.0.1 (the first that is free from 8080 on)")
     parser.add_argument("--http", action="store_true", help="serve it by http, without TLS, for a try")
     parser.add_argument("--certificate", metavar="FILE", help="the certificate of the host (looked for)")
     parser.add_argument("--key", metavar="FILE", help="its key (looked for)")
     parser.add_argument("--depositors", metavar="FILE", help="the authority whose clients may change the source")
     parser.add_argument("--may", metavar=("SUBJECT", "PREFIX"), nargs=2, action="append", default=[],
-                        help="let a certificate change only names with a prefix, or all if that is ''; may be given again")
+                        help="let a certificate change only names with a prefix, or all if that is ''; "
+                             "may be given again")
     parser.add_argument("--near", metavar="NETWORK", action="append",
                         help="who may change the source by address; may be given again; none is nobody (this machine)")
     parser.add_argument("--no-site", action="store_true", help="leave nginx alone")
@@ -74,10 +76,12 @@ class Plan:
         fresh, folder = f"{file}.new", str(self.settings.file.parent)
         steps: list[Step] = []
         if self.settings.file.parent == machine.STATE and not machine.STATE.is_dir():
-            steps.append(Program("the folder of sources", ("install", "-d", "-o", user, "-g", user, "-m", "700", folder)))
+            steps.append(Program("the folder of sources",
+                                 ("install", "-d", "-o", user, "-g", user, "-m", "700", folder)))
         return steps + [
             Program("no file of a run that was stopped", as_user(user, "rm", "-f", fresh)),
-            Program("an empty source", as_user(user, "rs_source", "format", fresh, str(self.size), self.base, str(self.items))),
+            Program("an empty source",
+                    as_user(user, "rs_source", "format", fresh, str(self.size), self.base, str(self.items))),
             Program("its room, reserved", as_user(user, "fallocate", "--length", str(self.size), fresh)),
             Program("all of it on the disk", as_user(user, "sync", fresh)),
             Program("its own name", as_user(user, "mv", "-n", "-T", fresh, file)),
@@ -116,9 +120,11 @@ class Linked:
     link: Path
 
     def shell(self) -> str:
+        """The step as shell."""
         return f"ln -s {self.site} {self.link}\nnginx -t || {{ rm {self.link} {self.site}; exit 1; }}"
 
     def do(self) -> None:
+        """Does it, or ends with a fault that names it."""
         Program(self.purpose, ("ln", "-s", str(self.site), str(self.link))).do()
         try:
             Program("nginx tests the site", ("nginx", "-t")).do()
@@ -158,25 +164,27 @@ def files_of_tls(host: str, arguments: argparse.Namespace) -> None:
         found = next(((cert, key) for cert, key in pairs if cert.exists() and key.exists()), None)
         if found is None:
             places = " or ".join(f"{cert} and {key}" for cert, key in pairs)
-            raise Unusable(f"there is no certificate for {host} at {places}: name one by --certificate and --key, or try --http")
+            raise Unusable(
+                f"there is no certificate for {host} at {places}: name one by --certificate and --key, or try --http")
         arguments.certificate, arguments.key = map(str, found)
     try:
-        ssl.SSLContext(ssl.PROTOCOL_TLS_SERVER).load_cert_chain(arguments.certificate, arguments.key, password=lambda: "")
+        ssl.SSLContext(ssl.PROTOCOL_TLS_SERVER).load_cert_chain(arguments.certificate, arguments.key,
+                                                                password=lambda: "")
     except (ssl.SSLError, OSError) as fault:
         raise Unusable(f"{arguments.certificate} and {arguments.key}: no certificate with its key: {fault}") from None
 
 
 def settings_for(place: machine.Place, arguments: argparse.Namespace) -> tuple[machine.Settings, bool]:
-    """The file and the port of the source, and whether they stand in its settings already."""
+    """The file and the port of the source, and whether its settings have them already."""
     known, others = place.known(), machine.other_settings(place.name)
     default = machine.STATE / f"{place.name}.disk"
-    taken = {it.port: name for name, it in others.items()}
+    taken = {other.port: name for name, other in others.items()}
     if known is not None and arguments.port in (None, known.port):
         return known, True
     if arguments.port is not None and arguments.port in taken:
         raise Unusable(f"--port: {arguments.port} is that of the source {taken[arguments.port]}")
     file = known.file if known else default
-    owner = next((name for name, it in others.items() if it.file == file), None)
+    owner = next((name for name, other in others.items() if other.file == file), None)
     if owner:
         raise Unusable(f"{file} is the file of the source {owner}")
     port = arguments.port or machine.free_port(set(taken))
@@ -187,7 +195,7 @@ def settings_for(place: machine.Place, arguments: argparse.Namespace) -> tuple[m
 
 def check_room(file: Path, size: int) -> None:
     """Refuses a file that the file system has no room for."""
-    folder = next(it for it in file.parents if it.is_dir())
+    folder = next(parent for parent in file.parents if parent.is_dir())
     free = os.statvfs(folder)
     if free.f_bavail * free.f_frsize < size + SPARE:
         raise Unusable(f"{folder}: there are {free.f_bavail * free.f_frsize:,} bytes free, and {size:,} are needed: "
@@ -199,7 +207,8 @@ def site_of(place: machine.Place, settings: machine.Settings, arguments: argpars
     if arguments.no_site:
         return None
     words = argparse.Namespace(base=arguments.base, name=place.name, port=settings.port, near=arguments.near,
-                               certificate=arguments.certificate, key=arguments.key, depositors=arguments.depositors, may=arguments.may)
+                               certificate=arguments.certificate, key=arguments.key, depositors=arguments.depositors,
+                               may=arguments.may)
     host = urlsplit(arguments.base).netloc.partition(":")[0].lower()
     site.site_of(words)
     if not arguments.http:
@@ -243,5 +252,6 @@ def run(arguments: argparse.Namespace) -> int:
              f"look:   curl {plan.base}/.well-known/resourcesync",
              f"fill:   ropepeach fill FOLDER {address}",
              f"backup: ropepeach backup {plan.place.name} FILE"]
-    output.results(lines, {"base": plan.base, "file": str(plan.settings.file), "unit": plan.place.unit(), "address": address})
+    output.results(lines,
+                   {"base": plan.base, "file": str(plan.settings.file), "unit": plan.place.unit(), "address": address})
     return 0

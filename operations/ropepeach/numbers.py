@@ -7,7 +7,7 @@ import re
 from ropepeach.room import LONGEST_BODY, MOST_CHANGES
 
 UNITS = {"": 1, "KiB": 1 << 10, "MiB": 1 << 20, "GiB": 1 << 30}
-MOST_PORT = 65_535
+MOST_PORT, MOST_CONNECTIONS = 65_535, 64
 
 
 def seconds(text: str) -> float:
@@ -35,6 +35,13 @@ def count(text: str) -> int:
     """A count of at least one."""
     if number(text) < 1:
         raise argparse.ArgumentTypeError(f"{text!r} is less than 1")
+    return int(text)
+
+
+def connections(text: str) -> int:
+    """How many connections are used at once."""
+    if not 1 <= number(text) <= MOST_CONNECTIONS:
+        raise argparse.ArgumentTypeError(f"connections are 1 to {MOST_CONNECTIONS}")
     return int(text)
 
 

@@ -6,9 +6,7 @@ The object has the fields `command`, `version`, `status`, `results` and `message
 from __future__ import annotations
 
 import argparse
-import dataclasses
 import enum
-import json
 import sys
 from collections.abc import Iterable, Mapping
 from typing import IO
@@ -16,29 +14,31 @@ from typing import IO
 from ropepeach import __version__
 from ropepeach.faults import printable
 
-# What stands in a result of JSON.
+# What a result of JSON has.
 Value = object
 
 
 class Level(enum.Enum):
-    """What kind of message a line is: --quiet leaves errors alone, --verbose adds details."""
+    """What kind of message a line is: --quiet leaves only errors, --verbose adds details."""
 
     ERROR = "error"
     MESSAGE = "message"
     DETAIL = "detail"
 
 
-@dataclasses.dataclass
 class Output:
     """Where the lines of a run go. `source` is the name of the source that this process works for, if there
     are several.
+
+    (A dataclass would take longer to import than all else of a small command.)
     """
 
-    levels: frozenset[Level] = frozenset({Level.ERROR, Level.MESSAGE})
-    # With --json: an open file of no name, with a line of JSON for each result and message of all processes
-    # of the run.
-    journal: IO[str] | None = None
-    source: str = ""
+    def __init__(self) -> None:
+        self.levels = frozenset({Level.ERROR, Level.MESSAGE})
+        # With --json: an open file of no name, with a line of JSON for each result and message of all
+        # processes of the run.
+        self.journal: IO[str] | None = None
+        self.source = ""
 
     @property
     def is_quiet(self) -> bool:
@@ -48,6 +48,8 @@ class Output:
     def note(self, kind: str, value: object) -> None:
         """Keeps a result or a message for the object of JSON."""
         if self.journal:
+            import json
+
             self.journal.write(json.dumps([kind, value]) + "\n")
             self.journal.flush()
 
@@ -86,6 +88,8 @@ def end(command: str, status: int) -> None:
     """Ends the output of a run: with --json it prints the object."""
     journal, current.journal = current.journal, None
     if journal:
+        import json
+
         with journal:
             journal.seek(0)
             entries = [json.loads(line) for line in journal]

@@ -37,9 +37,9 @@ class Pool:
     def serve(self, _: int, link: Any) -> None:
         """The process: takes a name and a message, and answers."""
         # (each task has files open)
-        most = resource.getrlimit(resource.RLIMIT_NOFILE)[1]
+        limit = resource.getrlimit(resource.RLIMIT_NOFILE)[1]
         with contextlib.suppress(OSError, ValueError):
-            resource.setrlimit(resource.RLIMIT_NOFILE, (most, most))
+            resource.setrlimit(resource.RLIMIT_NOFILE, (limit, limit))
         tasks: dict[str, Task] = {}
         while True:
             name, message = link.recv()
@@ -57,16 +57,17 @@ class Pool:
         except OSError as fault:
             return failed_by(fault, Status.UNUSABLE)
 
-    def asked(self, messages: dict[str, Any]) -> dict[str, Any]:
+    def answers_to(self, messages: dict[str, Any]) -> dict[str, Any]:
         """Sends each task its message, and gives what each answers, in this order. A new task goes to a
         process that has nothing to do.
         """
-        queues = {it: collections.deque[str]() for it in self.sides.names}
+        queues = {worker: collections.deque[str]() for worker in self.sides.names}
         new, answers, busy = collections.deque[str](), dict[str, Any](), dict[Any, int]()
         for name in messages:
             (queues[self.owners[name]] if name in self.owners else new).append(name)
 
         def give(worker: int) -> None:
+            """Sends a process its next task, if there is one."""
             if queues[worker] or new:
                 name = queues[worker].popleft() if queues[worker] else new.popleft()
                 self.owners[name] = worker

@@ -66,7 +66,7 @@ class Processes:
                 continue
         return False
 
-    def seen(self, look: Callable[[int, Any], bool], thing: object) -> int | None:
+    def find(self, look: Callable[[int, Any], bool], thing: object) -> int | None:
         """The first process that has a thing, or None."""
         for number in self.numbers():
             try:
@@ -80,8 +80,8 @@ class Processes:
         """The processes by which /proc/locks has a file locked, each with whether the table has the file's
         device, too.
 
-        A file system of several devices may have another one there. A line behind whose number an arrow
-        stands waits for a lock.
+        A file system of several devices may have another one there. A line with an arrow behind its
+        number waits for a lock.
         """
         for line in self.lines("locks"):
             words = line.split()
@@ -103,7 +103,7 @@ class Processes:
                 listed = listed or (0 if is_device else None)
             except Unseen:
                 listed = number if is_device else listed
-        return (self.seen(self.has_open, file) or 0) if listed == 0 else listed
+        return (self.find(self.has_open, file) or 0) if listed == 0 else listed
 
     def listener(self, port: int) -> int | None:
         """The process that listens on a port of 127.0.0.1: None where the tables have none, 0 where one
@@ -113,10 +113,10 @@ class Processes:
             for words in (line.split() for line in self.lines(table)[1:]):
                 address, _, number = words[1].partition(":")
                 if words[3] == LISTENS and int(number, 16) == port and address in TAKING:
-                    return self.seen(self.has_socket, words[9]) or 0
+                    return self.find(self.has_socket, words[9]) or 0
         return None
 
-    def told(self, number: int | None) -> str:
+    def describe(self, number: int | None) -> str:
         """A process on one line: its number, its command and its unit of systemd."""
         if not number:
             return "a process that can't be seen from here (root sees more, and outside of a container)"

@@ -1,13 +1,16 @@
 """How far a run is: a bar of tqdm on a terminal, and nothing elsewhere."""
 from __future__ import annotations
 
+import os
 import sys
 from typing import Any
 
 from ropepeach import output
 
-# What an item costs beside its bytes, for the share and the time left.
+# What an item costs on top of its bytes, for the share and the time left.
 ITEM = 16_384
+# The columns of a terminal that has no width: there tqdm would show another line, which counts no bytes.
+COLUMNS = 80
 FORMAT = "{desc} {percentage:3.0f}% |{bar}| {remaining} left{postfix}"
 
 
@@ -19,7 +22,9 @@ def bar_of(what: str, total: int) -> Any:
 
     # (without the thread that watches for bars that stand still)
     tqdm.monitor_interval = 0
-    return tqdm(total=total, desc=what, bar_format=FORMAT, leave=False, file=sys.stderr, dynamic_ncols=True)
+    is_wide = os.get_terminal_size(sys.stderr.fileno()).columns > 0
+    return tqdm(total=total, desc=what, bar_format=FORMAT, leave=False, file=sys.stderr, dynamic_ncols=is_wide,
+                ncols=None if is_wide else COLUMNS)
 
 
 class Progress:

@@ -45,6 +45,6 @@ def run(arguments: argparse.Namespace) -> int:
     for step in steps:
         output.message(step.purpose)
         step.do()
-    output.result(f"{place.unit()} is out of service; kept: {settings.file}, {place.settings}"
-        + (f", {place.site}" if place.site.exists() else ""))
+    site = f", {place.site}" if place.site.exists() else ""
+    output.result(f"{place.unit()} is out of service; kept: {settings.file}, {place.settings}{site}")
     return 0

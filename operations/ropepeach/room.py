@@ -30,20 +30,20 @@ def pages(count: int, on_one: int) -> int:
     return -(-count // on_one)
 
 
-def used(it: Collection, base: int, changes: int = MOST_CHANGES) -> int:
+def used(bodies: Collection, base: int, changes: int = MOST_CHANGES) -> int:
     """The blocks of a source that holds a collection, has a base of this many bytes, and keeps this many
     changes.
     """
-    records, kept = 2 * pages(it.count, 32), pages(changes, 64)
-    directories = 2 * blocks(63 + base + 44 * (records + kept))
-    listed = records * blocks(5 + 32 * (70 + it.name
-                                        + it.kind)) + kept * blocks(5 + 64 * (63 + it.name + it.kind))
-    return it.blocks + listed + directories + blocks(it.longest) + 64
+    record_pages, change_pages = 2 * pages(bodies.count, 32), pages(changes, 64)
+    directories = 2 * blocks(63 + base + 44 * (record_pages + change_pages))
+    texts = bodies.name + bodies.kind
+    lists = record_pages * blocks(5 + 32 * (70 + texts)) + change_pages * blocks(5 + 64 * (63 + texts))
+    return bodies.blocks + lists + directories + blocks(bodies.longest) + 64
 
 
-def needed(it: Collection, base: int, changes: int = MOST_CHANGES) -> int:
+def needed(bodies: Collection, base: int, changes: int = MOST_CHANGES) -> int:
     """The bytes of the disk, with a third of it free."""
-    return -(-used(it, base, changes) * BLOCK * 3 // 2)
+    return -(-used(bodies, base, changes) * BLOCK * 3 // 2)
 
 
 def unreserved(status: os.stat_result) -> int:

@@ -6,9 +6,11 @@ messages on standard error begin with its name.
 """
 from __future__ import annotations
 
+import collections
 import contextlib
 import io
 import multiprocessing
+import multiprocessing.connection
 import os
 import signal
 import sys
@@ -31,7 +33,7 @@ class Failed(NamedTuple):
     status: int
 
     def fault(self, *lines: str) -> Fault:
-        """The fault that ends the run, told in its own words or in others."""
+        """The fault that ends the run, with its own lines or with others."""
         fault = Fault(*(lines or self.lines))
         fault.status = self.status
         return fault
@@ -55,9 +57,10 @@ class Prefixed(io.TextIOBase):
         self.name, self.rest = name, ""
 
     def write(self, text: str) -> int:
+        """Writes the lines that are whole by now."""
         *lines, self.rest = (self.rest + text).split("\n")
-        for it in lines:
-            os.write(2, f"{self.name}: {it}\n".encode("utf-8", "backslashreplace"))
+        for line in lines:
+            os.write(2, f"{self.name}: {line}\n".encode("utf-8", "backslashreplace"))
         return len(text)
 
 
@@ -70,17 +73,18 @@ def works_for(name: object) -> None:
 class Sides:
     """A process for each name. `work(name, link)` is what it does; `link` has `recv` and `send`. They end
     with the `with` block.
+
+    With a number of jobs, a process begins when `begun` lets it, and `begun` and `answers_to` let so many work at once.
     """
 
-    def __init__(self, names: Iterable[Any], work: Callable[[Any, Any], None]) -> None:
-        self.names, self.work = list(names), work
+    def __init__(self, names: Iterable[Any], work: Callable[[Any, Any], None], jobs: int | None = None) -> None:
+        self.names, self.work, self.jobs = list(names), work, jobs
         self.links: dict[Any, Any] = {}
         self.processes: dict[Any, Any] = {}
 
     def __enter__(self) -> Sides:
         sys.stdout.flush()
-        self.life, kept = os.pipe()
-        self.kept = kept
+        self.life, self.writer = os.pipe()
         context = multiprocessing.get_context("fork")
         for name in self.names:
             ours, its = context.Pipe()
@@ -92,28 +96,30 @@ class Sides:
         return self
 
     def __exit__(self, kind: Any, *_: Any) -> None:
-        os.close(self.kept)
-        for it in self.links.values():
-            it.close()
-        for it in self.processes.values():
+        os.close(self.writer)
+        for link in self.links.values():
+            link.close()
+        for process in self.processes.values():
             if kind:
-                it.terminate()
-            it.join(ENDING)
-            if it.is_alive():
-                it.kill()
-                it.join()
+                process.terminate()
+            process.join(ENDING)
+            if process.is_alive():
+                process.kill()
+                process.join()
 
     def run(self, name: Any, link: Any) -> None:
         """The process of a name."""
         signal.signal(signal.SIGINT, signal.SIG_IGN)
-        os.close(self.kept)
-        for it in self.links.values():
-            it.close()
+        os.close(self.writer)
+        for other in self.links.values():
+            other.close()
         threading.Thread(target=lambda: (os.read(self.life, 1), os._exit(1)), daemon=True).start()
         works_for(name)
         # (where it has no one to answer, its parent has left)
         with contextlib.suppress(EOFError, BrokenPipeError):
             try:
+                if self.jobs:
+                    link.recv()
                 self.work(name, link)
             except Fault as fault:
                 link.send(failed_by(fault, fault.status))
@@ -131,33 +137,45 @@ class Sides:
 
     def well(self, name: Any) -> Any:
         """What a process says next, if it is no failure."""
-        said = self.heard(name)
-        if isinstance(said, Failed):
-            raise said.fault()
-        return said
+        answer = self.heard(name)
+        if isinstance(answer, Failed):
+            raise answer.fault()
+        return answer
 
-    def asked(self, messages: dict[Any, Any]) -> dict[Any, Any]:
-        """Sends each process its message, and gives what each answers."""
-        for name, it in messages.items():
-            with contextlib.suppress(OSError):
-                self.links[name].send(it)
-        return {name: self.heard(name) for name in messages}
+    def begun(self) -> dict[Any, Any]:
+        """Lets each process begin, and gives what each says first."""
+        return self.answers_to(dict.fromkeys(self.names))
+
+    def answers_to(self, messages: dict[Any, Any]) -> dict[Any, Any]:
+        """Sends each process its message, so many at once as there are jobs, and gives what each answers."""
+        due, busy, answers = collections.deque(messages), dict[Any, Any](), dict[Any, Any]()
+        while due or busy:
+            while due and len(busy) < (self.jobs or len(messages)):
+                name = due.popleft()
+                with contextlib.suppress(OSError):
+                    self.links[name].send(messages[name])
+                busy[self.links[name]] = name
+            for link in multiprocessing.connection.wait(list(busy)):
+                name = busy.pop(link)
+                answers[name] = self.heard(name)
+        return {name: answers[name] for name in messages}
 
 
 def failures(answers: dict[Any, Any]) -> dict[Any, Failed]:
     """What failed, by name."""
-    return {name: it for name, it in answers.items() if isinstance(it, Failed)}
+    return {name: answer for name, answer in answers.items() if isinstance(answer, Failed)}
 
 
-def told_of(failed: dict[Any, Failed]) -> list[str]:
+def failure_lines(failed: dict[Any, Failed]) -> list[str]:
     """What failed, as lines behind its name."""
-    return [line for name, it in failed.items() for line in (f"{name}: {it.lines[0]}", *it.lines[1:])]
+    return [line for name, failure in failed.items()
+            for line in (f"{name}: {failure.lines[0]}", *failure.lines[1:])]
 
 
 def check(answers: dict[Any, Any]) -> dict[Any, Any]:
     """Ends the run where something failed, with a line for each."""
     failed = failures(answers)
     if failed:
-        worst = max(failed.values(), key=lambda it: it.status)
-        raise worst.fault(*told_of(failed))
+        worst = max(failed.values(), key=lambda failure: failure.status)
+        raise worst.fault(*failure_lines(failed))
     return answers

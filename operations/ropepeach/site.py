@@ -1,6 +1,6 @@
 """Writes the site of nginx in front of one source on standard output, and asks nobody.
 
-BASE is the address that the source was formatted with. Each source has a site with a name of its own, so one
+BASE is the address that the source was formatted with. Each source has a site with another name, so one
 nginx serves many. `ropepeach collection` makes the site of a collection.
 """
 import argparse
@@ -33,7 +33,8 @@ def add_arguments(parser: argparse.ArgumentParser) -> None:
     parser.add_argument("--key", metavar="FILE", help="its key (/etc/ssl/private/HOST.key)")
     parser.add_argument("--depositors", metavar="FILE", help="the authority whose clients may change the source")
     parser.add_argument("--may", metavar=("SUBJECT", "PREFIX"), nargs=2, action="append", default=[],
-                        help="let a certificate change only names with a prefix, or all if that is ''; may be given again")
+                        help="let a certificate change only names with a prefix, or all if that is ''; "
+                             "may be given again")
 
 
 def network(text: str) -> str:
@@ -48,32 +49,33 @@ def near_of(texts: list[str] | None) -> tuple[str, ...]:
     """Which addresses are near."""
     if texts is None:
         return LOOPBACK
-    return tuple(network(it) for it in texts if it != "none")
+    return tuple(network(text) for text in texts if text != "none")
 
 
-def site_of(given: argparse.Namespace) -> Site:
-    """The site that some arguments ask for. What nginx would not take as it stands is refused."""
-    if not WHOLE.fullmatch(given.base):
-        raise Misused(f"{given.base!r}: an address is http:// or https:// and a host, without a path")
-    if not SOURCE_NAME.fullmatch(given.name):
-        raise Misused(f"--name: {given.name!r}: a name is 1 to 32 of a-z, 0-9 and -, and begins with a "
+def site_of(arguments: argparse.Namespace) -> Site:
+    """The site that some arguments ask for. What nginx would not take unchanged is refused."""
+    if not WHOLE.fullmatch(arguments.base):
+        raise Misused(f"{arguments.base!r}: an address is http:// or https:// and a host, without a path")
+    if not SOURCE_NAME.fullmatch(arguments.name):
+        raise Misused(f"--name: {arguments.name!r}: a name is 1 to 32 of a-z, 0-9 and -, and begins with a "
                       f"letter or digit")
-    parts, is_safe = urlsplit(given.base), given.base.startswith("https:")
+    parts, is_safe = urlsplit(arguments.base), arguments.base.startswith("https:")
     port = port_of(parts.netloc, 443 if is_safe else 80)
     if not 0 < port <= MOST_PORT:
         raise Misused("a port is 1 to 65535")
-    files = {it: getattr(given, it) for it in ("certificate", "key",
-                                               "depositors") if getattr(given, it) is not None}
+    files = {word: getattr(arguments, word) for word in ("certificate", "key", "depositors")
+             if getattr(arguments, word) is not None}
     for word, path in files.items():
         if not FILE.fullmatch(path):
             raise Misused(f"--{word}: {path!r}: a file is a whole path, of letters, digits and ._~+@/-")
-    rules = tuple(Rule(*words) for words in given.may)
+    rules = tuple(Rule(*words) for words in arguments.may)
     for rule in rules:
         if rule.fault() or "depositors" not in files or not is_safe:
             raise Misused(f"--may: {rule.fault() or 'it wants https:// and --depositors FILE'}")
-    host, place = parts.netloc.partition(":")[0].lower(), f"127.0.0.1:{given.port}"
-    head = HEAD.format(base=given.base, place=place, host=host)
-    return Site(head, given.name, host, port, (Served(f"ropepeach_{given.name}", place),), near_of(given.near),
+    host, place = parts.netloc.partition(":")[0].lower(), f"127.0.0.1:{arguments.port}"
+    head = HEAD.format(base=arguments.base, place=place, host=host)
+    sources = (Served(f"ropepeach_{arguments.name}", place),)
+    return Site(head, arguments.name, host, port, sources, near_of(arguments.near),
                 tls_of(host, files) if is_safe else None, rules=rules)
 
 
@@ -83,8 +85,8 @@ def port_of(place: str, plain: int) -> int:
     return int(port) if port else plain
 
 
-def run(given: argparse.Namespace) -> int:
+def run(arguments: argparse.Namespace) -> int:
     """Writes the site."""
-    text = site_of(given).text()
+    text = site_of(arguments).text()
     output.results(text.splitlines(), {"text": text})
     return 0

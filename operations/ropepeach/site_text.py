@@ -37,6 +37,18 @@ DESCRIPTION = """    # The Source Description of the whole, which names each sou
     }}
 
 """
+# (nginx takes a value `0` for nothing, so a value is a whole address)
+TABS = """# Who opens the base of a source in a browser is led to its tab of the page.
+map "$request_method $request_uri" $rp_{word}_tab {{
+    default  "";
+{lines}}}
+
+"""
+TABBED = """    if ($rp_{word}_tab) {{
+        return 302 "$scheme://$rp_{word}_host$rp_{word}_tab";
+    }}
+
+"""
 TLS = """
     ssl_certificate     {certificate};
     ssl_certificate_key {key};
@@ -62,7 +74,7 @@ RULED = """    if ($rp_{word}_barred) {{
         return 403;
     }}
 """
-# What a rule may have: what nginx and its patterns take as it stands, once it is escaped.
+# What a rule may have: what nginx and its patterns take unchanged, once it is escaped.
 SUBJECT, PREFIX = re.compile(r"[A-Za-z0-9 =,.@_/:+()'#&~*-]{1,256}"), re.compile(r"[A-Za-z0-9._~!&'()*+,=:@%/-]{0,240}")
 WHOLE_LINK = '</.well-known/resourcesync>; rel="resourcesync"'
 SOURCE_LINK = '</capabilitylist.xml>; rel="resourcesync"'
@@ -94,9 +106,10 @@ class Rule:
     prefix: str
 
     def fault(self) -> str:
-        """Why nginx could not take this rule as it stands, or nothing."""
+        """Why nginx could not take this rule unchanged, or nothing."""
         if not SUBJECT.fullmatch(self.subject):
-            return f"{self.subject!r}: a subject is as nginx has it, such as CN=alice,O=Library, of letters, digits and  =,.@_/:+()'#&~*-"
+            return (f"{self.subject!r}: a subject is as nginx has it, such as CN=alice,O=Library, of letters, digits "
+                    "and  =,.@_/:+()'#&~*-")
         if not PREFIX.fullmatch(self.prefix):
             return f"{self.prefix!r}: a prefix is that of names, such as papers/, as they are sent"
         return ""
@@ -131,24 +144,28 @@ class Site:
         return self.name.replace("-", "_")
 
     def blanks(self) -> dict[str, str]:
-        """What stands in the template in the place of each word between two @."""
+        """What the template has in the place of each word between two @."""
         strict = f"    {STRICT}\n" if self.tls else ""
         inner = strict and f"    {strict}"
-        is_whole, described = bool(self.description), ""
+        is_whole, described, rules = bool(self.description), "", ""
         if is_whole:
             described = DESCRIPTION.format(file=self.description, strict=inner, word=self.word(),
                                            link=WHOLE_LINK)
+        if self.rules:
+            rules = RULES.format(word=self.word(), lines="".join(rule.line() for rule in self.rules))
         return {
-            "head": "\n".join(f"# {it}" for it in self.head.splitlines()),
+            "head": "\n".join(f"# {line}" for line in self.head.splitlines()),
             "name": self.name,
             "word": self.word(),
-            "rules": RULES.format(word=self.word(), lines="".join(rule.line() for rule in self.rules)) if self.rules else "",
+            "rules": rules,
             "ruled": RULED.format(word=self.word()) if self.rules else "",
-            "near": "".join(f"    {it:<14}1;\n" for it in self.near),
-            "paths": "".join(self.path_of(it) for it in self.sources),
+            "near": "".join(f"    {network:<14}1;\n" for network in self.near),
+            "paths": "".join(self.path_of(source) for source in self.sources),
+            "tabs": TABS.format(word=self.word(), lines="".join(map(tab_of, self.sources))) if is_whole else "",
+            "tabbed": TABBED.format(word=self.word()) if is_whole else "",
             "keys": "16m" if is_whole else "4m",
             "kept": "8g" if is_whole else "2g",
-            "upstreams": "".join(UPSTREAM.format(name=it.upstream, place=it.place) for it in self.sources),
+            "upstreams": "".join(UPSTREAM.format(name=source.upstream, place=source.place) for source in self.sources),
             "moved": MOVED.format(host=self.host) if self.tls and self.port == 443 else "",
             "port": str(self.port),
             "tls": " ssl" * bool(self.tls),
@@ -157,22 +174,32 @@ class Site:
             "strict": strict,
             "strict_in": inner,
             "links": WHOLE_LINK if is_whole else f"{SOURCE_LINK}, {WHOLE_LINK}",
-            "sitemaps": "".join(f"Sitemap: {self.address()}{it.path}/resourcelist.xml\\n"
-                                for it in self.sources),
+            "sitemaps": "".join(f"Sitemap: {self.address()}{source.path}/resourcelist.xml\\n"
+                                for source in self.sources),
             "description": described,
             "bodies": str(BODIES),
         }
 
     def path_of(self, source: Served) -> str:
         """The line of the map that leads from the path of a base to its source."""
-        path = re.escape(source.path).replace("\\-", "-")
+        path = pattern_of(source.path)
         # (a name within a pattern has 32 letters at most; sites share it, as a request has one site)
         return f'    "~^{path}(?<rp_at>/.*)$" {source.upstream}$rp_at;\n'
 
     def text(self) -> str:
         """The file."""
         blanks = self.blanks()
-        return BLANK.sub(lambda it: blanks[it[1]], TEMPLATE.read_text())
+        return BLANK.sub(lambda blank: blanks[blank[1]], TEMPLATE.read_text())
+
+
+def pattern_of(path: str) -> str:
+    """The path of a base within a pattern of nginx."""
+    return re.escape(path).replace("\\-", "-")
+
+
+def tab_of(source: Served) -> str:
+    """The line of the map that leads from the base of a source to its tab."""
+    return f'    "~^(GET|HEAD) {pattern_of(source.path)}/?(\\?|$)" "/#source={source.path[1:]}";\n'
 
 
 def certificates_of(tls: Tls | None) -> str:
@@ -184,6 +211,6 @@ def certificates_of(tls: Tls | None) -> str:
 
 
 def tls_of(host: str, files: dict[str, str]) -> Tls:
-    """The files of TLS of a host, of which some may be given."""
+    """The files of TLS of a host: those that are named, and else the usual ones."""
     plain = {"certificate": f"/etc/ssl/certs/{host}.pem", "key": f"/etc/ssl/private/{host}.key"}
     return Tls(**plain | files)

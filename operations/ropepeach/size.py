@@ -1,8 +1,8 @@
 """Tells how large a disk has to be for a source that holds what FOLDER holds: SIZE for `rs_source format`, in
 bytes.
 
-SIZE stands alone on standard output. It follows the formula of operations/docs/OPERATING.md ("How large a disk"), with a
-third of the disk free. What it is made of stands on standard error, and so does each file that cannot be a
+Standard output has only SIZE. It follows the formula of operations/docs/OPERATING.md ("How large a disk"), with
+a third of the disk free. Standard error says what it is made of, and names each file that cannot be a
 resource. No file is read.
 """
 from __future__ import annotations
@@ -68,8 +68,7 @@ def run(arguments: argparse.Namespace) -> int:
     used = room.used(whole, base, arguments.changes)
     size = room.blocks(room.needed(whole, base, arguments.changes)) * room.BLOCK
     output.message(f"{counted.files:,} files of {counted.bytes:,} bytes, the longest of {counted.longest:,}; "
-                   f"names of {whole.name} and types of {whole.kind} bytes; {arguments.changes:,} changes "
-                   f"kept: "
+                   f"names of {whole.name} and types of {whole.kind} bytes; {arguments.changes:,} changes kept: "
                    f"{used:,} blocks of {room.BLOCK} bytes, with the free third {-(-size // MIB):,} MiB")
     if counted.files > room.MOST_RESOURCES:
         raise Fault(f"too much for one source: it holds {room.MOST_RESOURCES:,} resources at most; "

@@ -48,6 +48,15 @@ TABLE: Mapping[str, Mapping[int, str]] = {
                          "disk has no room",
         Status.INTERRUPTED: GOES_ON,
     },
+    "check": {
+        Status.DONE: "each file is what it should be, or was put right",
+        Status.ENDED_EARLY: "the source does not answer, or not as its lists say, or a limit is reached",
+        Status.MISUSED: WRONG_ARGUMENTS,
+        Status.UNUSABLE: "the folder can't be used: it is no mirror, another run has it, nothing is known of its "
+                         "files",
+        Status.DAMAGED: "files are missing, rotten or strange",
+        Status.INTERRUPTED: RUN_AGAIN,
+    },
     "look": {
         Status.DONE: "the file holds a source",
         Status.ENDED_EARLY: "the file changes faster than it can be read",
@@ -142,6 +151,6 @@ def of_wrong_arguments(command: str) -> int:
     return Health.UNKNOWN if command == "health" else Status.MISUSED
 
 
-def told_on_stop(command: str) -> str:
+def text_on_stop(command: str) -> str:
     """What a command says when it is stopped by Ctrl-C."""
     return TABLE[command][Status.INTERRUPTED].replace(" by Ctrl-C", "")

@@ -36,11 +36,14 @@ class Program:
     words: tuple[str, ...]
 
     def shell(self) -> str:
+        """The step as shell."""
         return shlex.join(self.words)
 
     def do(self) -> None:
+        """Does it, or ends with a fault that names it."""
         try:
-            ended = subprocess.run(self.words, stdin=subprocess.DEVNULL, capture_output=True, text=True, errors="replace")
+            ended = subprocess.run(self.words, stdin=subprocess.DEVNULL, capture_output=True, text=True,
+                                   errors="replace")
         except OSError as fault:
             raise Fault(f"{self.purpose}: {self.words[0]}: {fault.strerror}") from None
         if ended.returncode:
@@ -59,9 +62,11 @@ class Write:
     mode: int = 0o644
 
     def shell(self) -> str:
+        """The step as shell."""
         return f"cat > {shlex.quote(str(self.path))} <<'{END}'\n{self.text}{END}"
 
     def do(self) -> None:
+        """Does it, or ends with a fault that names it."""
         beside = self.path.with_name(f".{self.path.name}.new")
         try:
             self.path.parent.mkdir(parents=True, exist_ok=True)

@@ -2,9 +2,9 @@
 operations/docs/REPLICAS.md in turn.
 
 It asks this machine's mount whether it keeps old bytes, and the store whether OTHER is fenced and the copies
-are in step. Then it opens FILE, and tells what it holds. It stops at a step that is not done, and fences,
+are in step. Then it opens FILE, and says what it holds. It stops at a step that is not done, and fences,
 mounts and starts nothing. By default OTHER was lost: it has to be fenced by its whole address, since it may
-come back. With --planned OTHER has ended in peace, and all has to be well.
+come back. With --planned OTHER has ended in order, and all has to be well.
 """
 from __future__ import annotations
 
@@ -23,7 +23,7 @@ from ropepeach.takeover_store import CephFS, Refused
 
 NAME, HELP = "takeover", "take a source over from another machine, on a replicated store"
 PROGRAM, SOCKETS, WAIT = "rs_source", "/run/ceph", 60
-# The most seconds in which the program opens a file, and copies the longest one.
+# How many seconds the program may take to open a file, and to copy the longest one.
 OPENING, COPYING = 120, 3_600
 
 
@@ -33,7 +33,7 @@ def add_arguments(parser: argparse.ArgumentParser) -> None:
     parser.add_argument("other", metavar="OTHER",
                         help="the address of the machine that had the source, as the store knows it")
     parser.add_argument("--planned", action="store_true",
-                        help="OTHER has ended its program and its mount in peace")
+                        help="OTHER has ended its program and its mount in order")
     parser.add_argument("--copy", action="store_true",
                         help="the store's copies may differ: copy the source, and keep the old file")
     parser.add_argument("--dry-run", action="store_true", help="look at each step, and copy nothing")
@@ -57,7 +57,7 @@ def waited(step: Callable[[], str], seconds: float) -> str:
         time.sleep(min(1, max(0, end - time.monotonic())))
 
 
-def ran(words: list[str], lines: str, seconds: float) -> tuple[str, str]:
+def run_program(words: list[str], lines: str, seconds: float) -> tuple[str, str]:
     """A run of the program: its output, and its messages, which it has where it fails."""
     try:
         process = subprocess.run(words, input=lines, capture_output=True, text=True, errors="replace",
@@ -71,14 +71,13 @@ def ran(words: list[str], lines: str, seconds: float) -> tuple[str, str]:
     return process.stdout.strip(), process.stderr.strip() or failure
 
 
-def held(program: str, path: str) -> str:
+def contents(program: str, path: str) -> str:
     """What a file holds, as the program says it."""
-    answer, messages = ran([program, "run", path], "status\n", OPENING)
+    answer, messages = run_program([program, "run", path], "status\n", OPENING)
     if answer.startswith("resources ") and not messages:
         return answer
     raise Refused(f"{path} does not open, {messages or answer or 'without a word'}: `ropepeach why {path}` "
-                  f"names a cause of Device; "
-                  "keep the file, and restore a backup, where it is Damaged or NotASource")
+                  "names a cause of Device; keep the file, and restore a backup, where it is Damaged or NotASource")
 
 
 def copy(arguments: argparse.Namespace, wanted: str) -> str:
@@ -89,31 +88,32 @@ def copy(arguments: argparse.Namespace, wanted: str) -> str:
     """
     where, name = os.path.split(os.path.abspath(arguments.file))
     made, now = f"{name}.taken-over", datetime.datetime.now(datetime.timezone.utc)
-    kept = f"{name}.before-{now:%Y%m%dT%H%M%SZ}"
+    old_name = f"{name}.before-{now:%Y%m%dT%H%M%SZ}"
     folder = os.open(where, os.O_RDONLY | os.O_DIRECTORY)
     try:
         old = regular(folder, name, where)
-        for other in (made, kept):
+        for other in (made, old_name):
             if is_there(folder, other):
                 raise Refused(f"{arguments.file}{other.removeprefix(name)} is there, of an earlier copy: "
                               "look at it, and move it away")
         if arguments.dry_run:
-            return os.path.join(where, kept)
+            return os.path.join(where, old_name)
         path = os.path.join(where, made)
-        _, messages = ran([arguments.program, "copy", arguments.file, path, str(old.st_size)], "", COPYING)
+        words = [arguments.program, "copy", arguments.file, path, str(old.st_size)]
+        _, messages = run_program(words, "", COPYING)
         if messages:
             raise Refused(f"the copy {path} failed, {messages}: remove it; the old file is as it was")
         give_away(folder, made, path, old)
-        if (found := held(arguments.program, path)) != wanted:
+        if (found := contents(arguments.program, path)) != wanted:
             raise Refused(f"the copy {path} holds {found}, and the old file {wanted}: start neither, and "
                           f"look at the store")
         # (there is a file of this name at each moment)
-        os.link(name, kept, src_dir_fd=folder, dst_dir_fd=folder, follow_symlinks=False)
+        os.link(name, old_name, src_dir_fd=folder, dst_dir_fd=folder, follow_symlinks=False)
         os.rename(made, name, src_dir_fd=folder, dst_dir_fd=folder)
         os.fsync(folder)
     finally:
         os.close(folder)
-    return os.path.join(where, kept)
+    return os.path.join(where, old_name)
 
 
 def is_there(folder: int, name: str) -> bool:
@@ -163,10 +163,10 @@ def look(arguments: argparse.Namespace) -> None:
     done("mount", store.look_at_mount(arguments.other))
     done("fence", waited(lambda: store.look_at_fence(arguments.other, arguments.planned), arguments.wait))
     done("copies", waited(lambda: store.look_at_copies(arguments.planned), arguments.wait))
-    holds = waited(lambda: held(arguments.program, arguments.file), arguments.wait)
+    holds = waited(lambda: contents(arguments.program, arguments.file), arguments.wait)
     if arguments.copy:
         done("copy", f"the old file {'would be' if arguments.dry_run else 'is'} {copy(arguments, holds)}")
-        holds = held(arguments.program, arguments.file)
+        holds = contents(arguments.program, arguments.file)
     done("source", holds)
 
 

@@ -16,7 +16,7 @@ from typing import Any
 
 from ropepeach.faults import Fault, Misused, Unusable
 
-# A server that hangs does not answer; asked again, another one may.
+# How long a command may take, in seconds. A server that hangs does not answer; another one may, the next time.
 SECONDS = 30
 FUSE, KERNEL = "fuse.ceph-fuse", "ceph"
 # A mount that would show old bytes, or come back by itself once it was fenced, has another value.
@@ -30,8 +30,8 @@ OPTIONS = {"fsc": "pages are kept on this machine's disk",
            "recover_session=clean": "a fenced mount comes back by itself"}
 # A fence that ends sooner may end before the machine wakes up.
 LASTING = datetime.timedelta(days=1)
-# A group of objects that is active is read and written by the copies that have it all. With one of these
-# words something is wrong with it.
+# A group of objects that is active is read and written by the copies that have it all. Each of
+# these words says that something is wrong with it.
 WRONG = {"down", "incomplete", "stale", "inconsistent", "failed_repair", "recovery_unfound",
          "backfill_unfound", "snaptrim_error"}
 COPIES, WRITTEN = 3, 2
@@ -101,9 +101,9 @@ class CephFS:
         for option, why in OPTIONS.items():
             if option in self.options:
                 raise Refused(f"the mount {self.place} has {option}, so {why}: mount it anew without")
-        named = [option.partition("=")[2] for option in self.options
+        names = [option.partition("=")[2] for option in self.options
                  if option.startswith(("mds_namespace=", "fs="))]
-        names = named or [system["name"] for system in ceph("fs", "ls")]
+        names = names or [system["name"] for system in ceph("fs", "ls")]
         if len(names) != 1:
             raise Unusable(f"the store has the file systems {', '.join(names)}: mount by name (fs=NAME)")
         self.name = names[0]

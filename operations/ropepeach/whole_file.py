@@ -8,7 +8,7 @@ from ropepeach.faults import Unusable
 
 
 def write_whole(path: str, text: str) -> None:
-    """Writes a file beside another one, and puts it in its place: a reader sees the one or the other, and whole."""
+    """Writes a new file, and puts it in the place of another: a reader sees the one or the other, and whole."""
     try:
         replace(path, text)
     except OSError as fault:

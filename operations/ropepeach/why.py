@@ -2,7 +2,7 @@
 
 It names one cause, the first that the program meets, and what to do. It opens the file as the program's user
 would, and takes the lock and the port for a moment if nobody has them; it writes and syncs nothing. The unit
-of the program has limits of its own: it may write its own folder alone, and listen on its own port alone.
+of the program has further limits: it may write only its own folder, and listen only on its own port.
 """
 from __future__ import annotations
 
@@ -24,7 +24,7 @@ from ropepeach.statuses import Status
 
 NAME, HELP = "why", "tell why the program says Device: what is in the way of a file and a port"
 USER = "ropepeach"
-# What the longest command may write beside the old, about: a body, pages and a directory.
+# About what the longest command may write in addition: a body, pages and a directory.
 COMMAND = 17 * 1_048_576
 KINDS = {stat.S_ISFIFO: "a named pipe", stat.S_ISSOCK: "a socket", stat.S_ISBLK: "a block device",
          stat.S_ISCHR: "a device"}
@@ -39,7 +39,7 @@ def add_arguments(parser: argparse.ArgumentParser) -> None:
     parser.add_argument("file", metavar="FILE", help="the file of the source")
     parser.add_argument("port", metavar="PORT", nargs="?", type=numbers.any_port,
                         help="the port that it is to be served on")
-    runner = f"who runs the program ({USER}, where root asks and there is such a user; else who asks)"
+    runner = f"the user that runs the program ({USER}, if root asks and there is that user; else the one who asks)"
     parser.add_argument("--user", metavar="USER", help=runner)
 
 
@@ -68,7 +68,7 @@ def number_of(call: Callable[..., object], *words: object) -> int:
 
 
 def tried(user: pwd.struct_passwd | None, call: Callable[..., object], *words: object) -> int:
-    """The number of the fault of a call that a user makes, in a process of its own; 0 where there is none."""
+    """The number of the fault of a call that a user makes, in a separate process; 0 where there is none."""
     if user is None or user.pw_uid == os.geteuid():
         return number_of(call, *words)
     child = os.fork()
@@ -210,17 +210,16 @@ def look_at_lock(path: str, status: os.stat_result, processes: Processes) -> Non
         number = 0
     if number is not None:
         unit = processes.unit(number)
-        raise Cause(f"{path} is locked by {processes.told(number)}: one program has a file at a time, so "
-                    f"stop that one first"
-                    f"{f' (systemctl stop {unit})' if unit else ''}")
+        raise Cause(f"{path} is locked by {processes.describe(number)}: one program has a file at a time, so "
+                    f"stop that one first{f' (systemctl stop {unit})' if unit else ''}")
 
 
 def look_at_port(number: int, user: pwd.struct_passwd | None, processes: Processes) -> None:
     """Whether the port can be taken."""
     fault = tried(user, bound, number)
     if fault == errno.EADDRINUSE:
-        told = processes.told(processes.listener(number))
-        raise Cause(f"port {number} is taken by {told}: stop that one, or serve on another port "
+        process = processes.describe(processes.listener(number))
+        raise Cause(f"port {number} is taken by {process}: stop that one, or serve on another port "
                     f"(operations/docs/OPERATING.md, \"Installing\")")
     if fault in (errno.EACCES, errno.EPERM):
         raise Cause(f"the user {name_of(user)} may not listen on port {number}: take a port from 1024 on")
@@ -234,8 +233,7 @@ def look_at_room(path: str, status: os.stat_result) -> None:
     lacking, system = room.unreserved(status), os.statvfs(path)
     free = system.f_bavail * system.f_frsize
     if free < min(lacking, COMMAND):
-        raise Cause(f"the file system of {path} has room for {free:,} bytes, and the file still lacks "
-                    f"{lacking:,}: "
+        raise Cause(f"the file system of {path} has room for {free:,} bytes, and the file still lacks {lacking:,}: "
                     f"make room, reserve it (fallocate --length {status.st_size} {path}), then restart the "
                     f"program")
 
@@ -253,7 +251,7 @@ def look(arguments: argparse.Namespace, processes: Processes) -> str:
     return name_of(user)
 
 
-def told_of_room(path: str) -> tuple[str, int]:
+def room_text(path: str) -> tuple[str, int]:
     """How much of the file is not reserved, as words and as a number."""
     status = os.stat(path)
     lacking = room.unreserved(status)
@@ -267,7 +265,7 @@ def run(arguments: argparse.Namespace) -> int:
     file = arguments.file
     try:
         who = look(arguments, Processes())
-        words, lacking = told_of_room(file)
+        words, lacking = room_text(file)
     except Cause as cause:
         output.result(str(cause), file=file, cause=str(cause))
         return Status.ENDED_EARLY
