@@ -38,8 +38,9 @@ SECONDS = ROOT / "out" / "seconds.txt"
 # A line of Python has at most so many columns.
 WIDTH = 120
 # What is looked at on the program that cargo builds of the same sources (rust/README.md), and where that lies.
-PLAIN_CHECKS = ["rows", "system.calls", "system.edges", "crash --short", "hostile.disks --short",
-                "hostile.lines --short", "hostile.requests --short", "ends --short"]
+PLAIN_CHECKS = ["rows", "system.calls", "system.edges", "system.large", "system.memory", "system.documents",
+                "system.pages", "system.kept", "crash", "hostile.disks", "hostile.lines", "hostile.requests", "ends",
+                "mirror", "system.folder", "tools.fill", "tools.mirror", "tools.look"]
 PLAIN = "out/rust/ropepeach-plain-*/target/release/rs_source"
 # How many of a part passed, what failed, and why pieces of it were not tried, if it has such pieces.
 Result = tuple[int, list[str]] | tuple[int, list[str], list[str]]
@@ -209,9 +210,9 @@ def plain(parts: Parts, copy: Path) -> list[tuple[str, Script]]:
     parts.run("the eraser's own tests", script("-m", "rust.tests", folder=copy))
     parts.run("plain Rust", script("-m", "rust.build", folder=copy))
     built = str(next(iter(copy.glob(PLAIN)), ""))
-    checked = [(name, *name.split()) for name in PLAIN_CHECKS if built]
-    return [(f"{name}, of the plain program", script("-m", f"tests.{module}", *words, folder=copy, PROGRAM=built))
-            for name, module, *words in checked]
+    words = {check.name: check.words for check in checks()}
+    return [(f"{name}, of the plain program", script("-m", *words[name], folder=copy, PROGRAM=built))
+            for name in PLAIN_CHECKS if built]
 
 
 def proved(copy: Path) -> list[tuple[str, Script]]:

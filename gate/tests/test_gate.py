@@ -132,7 +132,8 @@ class Parts(unittest.TestCase):
             built = write("", self.room, "out/rust/ropepeach-plain-1/target/release/rs_source")
             parts.run_beside(gate.plain(parts, Path(self.room)), 1)
         calls = [(call.args[1][1], call.args[3].get("PROGRAM")) for call in program.call_args_list]
-        self.assertEqual(calls, made + made + [(f"tests.{name.split()[0]}", str(built)) for name in gate.PLAIN_CHECKS])
+        modules = {check.name: check.module for check in checks()}
+        self.assertEqual(calls, made + made + [(modules[name], str(built)) for name in gate.PLAIN_CHECKS])
 
     def test_no_part_takes_another_program_by_the_environment(self) -> None:
         with mock.patch.dict(os.environ, PROGRAM="another"):
