@@ -13,8 +13,10 @@ from unittest import mock
 
 from samples import CODE, repository, text, write, write_edit, write_program
 
+import edits
 import gate
 import kit
+import record
 import runs
 from tests.table import checks
 
@@ -124,6 +126,26 @@ class Parts(unittest.TestCase):
             self.assertEqual((name, finished.returncode), (name, gate.SKIPPED))
             self.assertTrue(any(map(gate.NOT_TRIED.search, finished.stdout.splitlines())), finished.stdout)
 
+    def test_edits_that_the_record_lacks_are_tried_all_and_some_of_others(self) -> None:
+        """Two crates are picked, one of which the record does not cover; the copy gets the edits that are tried."""
+        with repository(low=CODE, high=CODE) as room, mock.patch.object(gate, "ROOT", Path(room)):
+            for name in ("two", "three"):
+                write_edit(room, "low", name, "a", "b")
+                write_edit(room, "high", name, "a", "b")
+            every = [f"must-fail/{name}.edit" for name in ("one", "three", "two")]
+            with (mock.patch.object(record, "uncovered", return_value=["low"]),
+                  mock.patch.object(record, "picked", return_value=["high", "low"]),
+                  mock.patch.object(record, "drawn", lambda root, name, commit: every[:1])):
+                due = gate.due()
+            self.assertEqual(due, {"high": every[:1], "low": every})
+            copy = Path(self.room, "tried")
+            for name in due:
+                (copy / "crates" / name).mkdir(parents=True)
+            with mock.patch.object(edits, "try_crates", return_value={}) as tried:
+                gate.some_edits(copy, due)
+            self.assertEqual([*tried.call_args.args[1]], ["high", "low"])
+            self.assertEqual({name: record.edits_of(copy, name) for name in due}, due)
+
     def test_the_plain_program_is_looked_at_where_it_was_built(self) -> None:
         parts, made = gate.Parts(), [("rust.tests", None), ("rust.build", None)]
         with mock.patch.object(gate, "program", return_value=(1, [], [])) as program:
@@ -131,9 +153,9 @@ class Parts(unittest.TestCase):
             self.assertEqual(program.call_count, len(made))
             built = write("", self.room, "out/rust/ropepeach-plain-1/target/release/rs_source")
             parts.run_beside(gate.plain(parts, Path(self.room)), 1)
-        calls = [(call.args[1][1], call.args[3].get("PROGRAM")) for call in program.call_args_list]
-        modules = {check.name: check.module for check in checks()}
-        self.assertEqual(calls, made + made + [(modules[name], str(built)) for name in gate.PLAIN_CHECKS])
+        calls = [(*call.args[1][1:], call.args[3].get("PROGRAM")) for call in program.call_args_list]
+        words = {check.name: check.words for check in checks()}
+        self.assertEqual(calls, made + made + [(*words[name], str(built)) for name in gate.PLAIN_CHECKS])
 
     def test_no_part_takes_another_program_by_the_environment(self) -> None:
         with mock.patch.dict(os.environ, PROGRAM="another"):
