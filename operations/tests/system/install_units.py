@@ -1,4 +1,4 @@
-"""What the units of publications and fills run (install.py). Each function is one thing that has to hold; its
+"""What the units of publications, fills and mirrors run (install.py). Each function is one thing that has to hold; its
 first line says what.
 """
 from __future__ import annotations
@@ -12,6 +12,7 @@ import subprocess
 from operations.tests import PYTHON
 from operations.tests.system import install_looks, install_scripts
 from operations.tests.system.install_shared import compare_answers, request, told_by
+from operations.tests.tools.running import Server
 from tests.program import TOOLS, compare
 from tests.served_source import serving
 
@@ -52,14 +53,30 @@ def a_publication_without_changes_is_skipped(program: str, room: str) -> None:
                     (status, "404" in output and "\x1b" not in output, output.count("\n")))
 
 
+def started_by(unit: str) -> str:
+    """The line that a unit runs."""
+    line = re.search(r"(?m)^ExecStart=(.*)", unit)
+    assert line
+    return line[1].replace("/usr/local/bin/ropepeach", shlex.join([PYTHON, str(TOOLS / "ropepeach-command")]), 1)
+
+
+def words_of(line: str, settings: dict[str, str]) -> list[str]:
+    """The words of a unit's line: systemd splits the value of $NAME into words, and that of ${NAME} not."""
+    words: list[str] = []
+    for word in shlex.split(line):
+        braced = re.fullmatch(r"\$\{(\w+)\}", word)
+        split = settings[word[1:]].split() if word.startswith("$") and not braced else [word]
+        words += [settings[braced[1]]] if braced else split
+    return words
+
+
 def the_unit_fills(program: str, room: str) -> None:
     """What ropepeach-fill runs, by its settings, fills a source; what is remembered goes into its state
     folder, and OPTIONS are words.
     """
     unit = install_looks.INSTALL.joinpath("ropepeach-fill@.service").read_text()
-    line = re.search(r"(?m)^ExecStart=(.*)", unit)
     state = re.search(r"(?m)^StateDirectory=(.*)", unit)
-    assert line and state
+    assert state
     compare("where it remembers", b"True", str(f"XDG_STATE_HOME=%S/{state[1]}" in unit).encode())
     subprocess.run([program, "format", "a.disk", "262144", BASE, "2"], cwd=room, check=True,
                    capture_output=True)
@@ -70,14 +87,7 @@ def the_unit_fills(program: str, room: str) -> None:
     with serving(program, room) as (url, _):
         for options, wanted in (("", 3), ("--skip-unlawful --no-publish", 0)):
             settings = {"OPTIONS": options, "FOLDER": str(folder), "SOURCE": url}
-            words: list[str] = []
-            for word in shlex.split(line[1].replace("/usr/local/bin/ropepeach",
-                                                    shlex.join([PYTHON, str(TOOLS / "ropepeach-command")]))):
-                # (systemd splits the value of $NAME into words, and that of ${NAME} not)
-                braced = re.fullmatch(r"\$\{(\w+)\}", word)
-                split = settings[word[1:]].split() if word.startswith("$") and not braced else [word]
-                words += [settings[braced[1]]] if braced else split
-            output, status = told_by(*words, env=os.environ
+            output, status = told_by(*words_of(started_by(unit), settings), env=os.environ
                                      | {"XDG_STATE_HOME": f"{room}/state", "no_proxy": "127.0.0.1"})
             compare_answers(f"{options}: {output}", wanted, status)
         compare_answers("what is held", (200, b"a"),
@@ -86,5 +96,26 @@ def the_unit_fills(program: str, room: str) -> None:
             b"%d" % len(list(pathlib.Path(room, "state/ropepeach/fill").iterdir())))
 
 
+def the_unit_mirrors(program: str, room: str) -> None:
+    """What ropepeach-mirror runs, by its settings, mirrors a source into its own folder; OPTIONS are words, and none
+    where the settings have none.
+    """
+    unit = install_looks.INSTALL.joinpath("ropepeach-mirror@.service").read_text()
+    preset = re.search(r"(?m)^Environment=OPTIONS=(.*)\n(?:.*\n)*?EnvironmentFile=", unit)
+    compare("the options that are preset", b"", (preset[1] if preset else "none").encode())
+    line = started_by(unit).replace("/var/lib/ropepeach-mirror/%i", f"{room}/mirror")
+    with Server(pathlib.Path(program), pathlib.Path(room, "a.disk"), 262_144, 2) as server:
+        for name in ("a.txt", "b.tmp"):
+            request(server.port, "PUT", f"/resource/{name}", b"a")
+        request(server.port, "POST", "/publish")
+        for options, names in (("", ["a.txt", "b.tmp"]), ("--exclude *.tmp --yes", ["a.txt"])):
+            output, status = told_by(*words_of(line, {"OPTIONS": options, "SOURCE": server.url}),
+                                     env=os.environ | {"no_proxy": "127.0.0.1"})
+            compare_answers(f"{options}: {output}", 0, status)
+            files = sorted(path.name for path in pathlib.Path(room, "mirror").iterdir() if path.name[0] != "#")
+            compare_answers(options, names, files)
+
+
 # What is looked at, and which tools it needs.
-CHECKS: dict[object, list[str]] = {a_publication_without_changes_is_skipped: [], the_unit_fills: []}
+CHECKS: dict[object, list[str]] = {a_publication_without_changes_is_skipped: [], the_unit_fills: [],
+                                   the_unit_mirrors: []}
