@@ -78,6 +78,9 @@ def trim(root: Path, moment: int) -> None:
     # (the third field is the day on which a password was changed; no user has one)
     shadow.write_text(re.sub(r"(?m)^([^:]*:[^:]*):\d*:", rf"\1:{moment // 86_400}:", shadow.read_text()))
     (root / "data").mkdir(exist_ok=True)
+    # (a named volume begins with its owner and its mode; the builder's mask is no matter)
+    os.chown(root / "data", NUMBER, NUMBER)
+    (root / "data").chmod(0o755)
     for path in [*root.rglob("*"), root]:
         os.utime(path, (moment, moment), follow_symlinks=False)
 

@@ -15,6 +15,7 @@ import shutil
 import signal
 import subprocess
 import sys
+import tarfile
 import tempfile
 import time
 from collections.abc import Callable
@@ -48,9 +49,13 @@ def wanted(is_so: object, what: object) -> None:
 def it_is_small_and_its_user_is_not_root(container: Container, layout: Path) -> str:
     """One layer, a few tens of MiB, a user of its own, one volume."""
     size = sum(path.stat().st_size for path in layout.rglob("*") if path.is_file())
-    layers: list[object] = json.loads(manifest_of(layout))["layers"]
+    layers: list[dict[str, str]] = json.loads(manifest_of(layout))["layers"]
     wanted(size < LARGEST and len(layers) == 1, f"{size:,} bytes, {len(layers)} layers")
     wanted(container.user[0] > 0 and container.user[1] > 0, f"the user {container.user}")
+    with tarfile.open(layout / "blobs" / layers[0]["digest"].replace(":", "/")) as layer:
+        volume = layer.getmember("data")
+    facts = (volume.uid, volume.gid, volume.mode & 0o7777)
+    wanted(facts == (*container.user, 0o755), f"the owner and the mode of the volume: {facts}")
     return f"{size / (1 << 20):.0f} MiB, user {container.user[0]}"
 
 
