@@ -120,6 +120,7 @@ def systemd_runs_the_same_files(container: Container, layout: Path) -> str:
     if not shutil.which("systemd-nspawn"):
         return "NOT TRIED: systemd-nspawn (systemd-container)"
     words = ["systemd-nspawn", "--quiet", "--register=no", "--keep-unit", "--read-only",
+             "--kill-signal=SIGTERM",
              f"--directory={container.bundle / 'rootfs'}",
              f"--bind={container.data}:/data", f"--user={container.user[0]}", "--console=pipe", *container.words()]
     with open(container.room / "log", "ab") as log:
@@ -127,9 +128,11 @@ def systemd_runs_the_same_files(container: Container, layout: Path) -> str:
         try:
             container.until(container.listens, "the source listens")
         finally:
-            process.kill()
+            # (killed itself, it would leave what it started)
+            process.terminate()
             process.wait(SECONDS)
-    return "it listens"
+    container.until(lambda: not container.listens(), "nobody listens")
+    return "it listens, and ends"
 
 
 ROWS: list[Callable[[Container, Path], str]] = [
