@@ -28,6 +28,7 @@ from collections.abc import Callable, Iterator
 from dataclasses import dataclass, field
 from pathlib import Path
 
+from bench.asked import Asked, timed
 from tests.disks.paged_disk import name, spelled
 from tests.program import PROGRAM, ROOT
 
@@ -62,37 +63,14 @@ def body(number: int) -> bytes:
     return hashlib.shake_256(number.to_bytes(4, "big")).digest(4096)
 
 
-class Program:
-    """A program on a file, which is asked line by line."""
+class Program(Asked):
+    """A program on a file, which is asked line by line, and whose processor's time is noted."""
 
-    def __init__(self, program: Path, file: Path) -> None:
-        began = time.perf_counter()
-        self.process = subprocess.Popen([program, "run", file], stdin=subprocess.PIPE, stdout=subprocess.PIPE)
-        self.first = self.ask("status")
-        self.opened = time.perf_counter() - began
-
-    def ask(self, line: str) -> str:
-        """The answer to a line."""
-        assert self.process.stdin and self.process.stdout
-        self.process.stdin.write(line.encode() + b"\n")
-        self.process.stdin.flush()
-        return self.process.stdout.readline().decode()
-
-    def timed(self, line: str, wanted: str, times: Times) -> None:
+    def note(self, line: str, wanted: str, times: Times) -> None:
         """Asks a line, which has to be answered well."""
-        before, began = used(self.process.pid), time.perf_counter()
-        answer = self.ask(line)
-        times.clock.append(time.perf_counter() - began)
+        before = used(self.process.pid)
+        times.clock.append(timed(self, line, wanted))
         times.processor += used(self.process.pid) - before
-        if not answer.startswith(wanted):
-            raise SystemExit(f"{line[:40]}: {answer}")
-
-    def end(self) -> None:
-        """Ends it."""
-        assert self.process.stdin
-        self.process.stdin.close()
-        if self.process.wait():
-            raise SystemExit(f"the program ended with status {self.process.returncode}")
 
 
 def facts(data: bytes) -> bytes:
@@ -162,7 +140,7 @@ def puts(programs: dict[str, Path], room: Path, resources: int, count: int) -> N
         at = number * 7919 + 1
         data = body(at)
         for key, one in opened.items():
-            one.timed(f"put {name(at % resources).decode()} {data.hex()} text/plain", "updated", times[key])
+            one.note(f"put {name(at % resources).decode()} {data.hex()} text/plain", "updated", times[key])
         for key, store in stores.items():
             timed_here(store, at, data, times[key])
     for one in opened.values():
@@ -258,7 +236,7 @@ def verifications(programs: dict[str, Path], room: Path, is_short: bool) -> None
         opened = {key: Program(program, room / f"{key}{length}.verify") for key, program in programs.items()}
         for _ in range(TURNS):
             for key, one in opened.items():
-                one.timed("verify", f"verified {count}", times[key])
+                one.note("verify", f"verified {count}", times[key])
         for one in opened.values():
             one.end()
         rates = [f"{count * length / MIB / statistics.median(times[key].clock):.0f} MiB/s" for key in programs]
@@ -278,7 +256,7 @@ def opened_and_published(programs: dict[str, Path], room: Path, resources: int) 
             opening[key].clock.append(one.opened)
             opening[key].processor += used(one.process.pid)
             one.ask(f"put {name(turn).decode()} 616263 text/plain")
-            one.timed("publish", "published", publishing[key])
+            one.note("publish", "published", publishing[key])
             one.end()
     for what, times in (("opening", opening), ("publishing", publishing)):
         figures = " | ".join(each.text() for each in times.values())

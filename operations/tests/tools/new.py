@@ -304,7 +304,7 @@ def no_root_no_change(room: Path, program: Path) -> str:
         for path in (made.room, *made.room.iterdir()):
             path.chmod(0o755)
         user = ["setpriv", "--reuid=65534", "--regid=65534", "--clear-groups"]
-        for words in (TRY, ("remove", "one"), ("backup", "one", "/tmp/b"), RESTORE):
+        for words in (TRY, ("remove", "one"), ("backup", "one", "copy.disk"), RESTORE):
             before = made.tree()
             status_of(made.run(*user, *rows.COMMAND, *words), 2, "only root")
             wanted(made.tree() == before, "something was changed")
