@@ -383,9 +383,10 @@ class Planted(unittest.TestCase):
     def test_what_is_planted_is_noticed(self) -> None:
         """A type that nothing has, a field more of a stop, and premises more, which fail proofs of laws, too."""
         for label, old, new, wanted in PLANTED:
-            self.world = World(ROOT)
-            found = self.change(f"rs_recovery.{label}", old, new)
-            self.assertTrue(any(re.fullmatch(f"{HEADLINE}: {wanted}", fault) for fault in found), (label, found))
+            with self.subTest(label, new=new):
+                self.world = World(ROOT)
+                found = self.change(f"rs_recovery.{label}", old, new)
+                self.assertTrue(any(re.fullmatch(f"{HEADLINE}: {wanted}", fault) for fault in found), found)
 
     def test_sessions_with_a_premise_that_another_session_gives(self) -> None:
         """The proof of the law `sessions_follow` fails then, and nothing here tells it: the premise has a line."""
