@@ -9,16 +9,16 @@ these files already.
 import hashlib
 import os
 import shutil
-import subprocess
 import sys
 import tempfile
 from pathlib import Path
 
 ROOT = Path(__file__).resolve().parent.parent
-sys.path.insert(0, str(ROOT / "gate" / "edits"))
+sys.path[:0] = [str(ROOT / "gate" / "edits"), str(ROOT)]
 
 import kit
 import runs
+from rattle.crates import below, crates_of
 
 LOG = ROOT / "out" / "build.log"
 PROGRAM = "rs_source"
@@ -72,7 +72,7 @@ def build(names: list[str], copy: Path, room: str) -> list[str]:
     LOG.parent.mkdir(exist_ok=True)
     jobs = kit.lanes()
     what = f"make build: proves {len(names)} crates, those that no earlier run here proved, and builds the program."
-    runs.announce(what, runs.proving(kit.crates_of(ROOT), names, jobs), jobs, LOG)
+    runs.announce(what, runs.proving(jobs), jobs, LOG)
     with runs.Meter(room) as meter:
         failed: list[str] = runs.rt_ci(copy, names, LOG, meter.seconds)[1]
     return failed
@@ -81,7 +81,7 @@ def build(names: list[str], copy: Path, room: str) -> list[str]:
 def main() -> int:
     """Builds the program, if it is not made of these files already; its path is printed last."""
     kit.require()
-    names = [*kit.below(kit.crates_of(ROOT), PROGRAM), PROGRAM]
+    names = [*below(crates_of(ROOT), PROGRAM), PROGRAM]
     with tempfile.TemporaryDirectory(prefix="build-") as room:
         # The toolchain runs programs as nobody, on copies below this folder.
         os.chmod(room, 0o711)

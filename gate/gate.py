@@ -29,6 +29,7 @@ import edits
 import kit
 import record
 import runs
+from rattle.crates import crates_of
 from tests import verdict
 from tests.table import checks
 
@@ -37,10 +38,7 @@ LOG = ROOT / "out" / "test.log"
 SECONDS = ROOT / "out" / "seconds.txt"
 # A line of Python has at most so many columns.
 WIDTH = 120
-# What is looked at on the program that cargo builds of the same sources (rust/README.md), and where that lies.
-PLAIN_CHECKS = ["rows", "system.calls", "system.edges", "system.large", "system.memory", "system.documents",
-                "system.pages", "system.kept", "crash", "hostile.disks", "hostile.lines", "hostile.requests", "ends",
-                "mirror", "system.folder", "tools.fill", "tools.mirror", "tools.look"]
+# Where the program lies that cargo builds of the same sources (rust/README.md).
 PLAIN = "out/rust/ropepeach-plain-*/target/release/rs_source"
 # How many of a part passed, what failed, and why pieces of it were not tried, if it has such pieces.
 Result = tuple[int, list[str]] | tuple[int, list[str], list[str]]
@@ -210,9 +208,8 @@ def plain(parts: Parts, copy: Path) -> list[tuple[str, Script]]:
     parts.run("the eraser's own tests", script("-m", "rust.tests", folder=copy))
     parts.run("plain Rust", script("-m", "rust.build", folder=copy))
     built = str(next(iter(copy.glob(PLAIN)), ""))
-    words = {check.name: check.words for check in checks()}
-    return [(f"{name}, of the plain program", script("-m", *words[name], folder=copy, PROGRAM=built))
-            for name in PLAIN_CHECKS if built]
+    return [(f"{check.name}, of the plain program", script("-m", *check.words, folder=copy, PROGRAM=built))
+            for check in checks() if built and check.is_plain_too]
 
 
 def proved(copy: Path) -> list[tuple[str, Script]]:
@@ -242,7 +239,7 @@ def tell(parts: Parts, meter: runs.Meter, started: float) -> None:
     parts.leave_seconds(SECONDS)
     print(f"in all: {sum(row[1] for row in parts.rows) / 60:.1f}, {(time.time() - started) / 60:.1f}")
     print("== seconds of a processor by crate: proofs, tests, compiling, edits")
-    for crate in kit.crates_of(ROOT):
+    for crate in crates_of(ROOT):
         figures = [f"{meter.seconds(crate, kind):.0f}" for kind in ("proofs", "tests", "compiling", "edits")]
         print(f"{crate}: {', '.join(figures)}")
 
@@ -251,8 +248,7 @@ def announce(uses: dict[str, list[str]], tried: dict[str, list[str]]) -> None:
     """What is about to be done, and about how long it takes."""
     processors, known = kit.lanes(), runs.table()
     number = sum(map(len, tried.values()))
-    seconds = runs.proving(uses, [*uses], processors, with_tests=True)
-    seconds += number * known["an_edit"][0] / processors + known["all_else"][0]
+    seconds = runs.proving(processors, with_tests=True) + number * known["an_edit"] / processors + known["all_else"]
     what = (f"make test: proves {len(uses)} crates and their tests, tries {number} must-fail edits of {len(tried)} "
             "crates, and looks at the program that it proved.")
     runs.announce(what, seconds, processors, LOG)
@@ -295,7 +291,7 @@ def main() -> int:
     # The set-up installs what the tests use of Debian, or names what is left out.
     if subprocess.run([sys.executable, "-m", "tests.house.setup"], cwd=ROOT).returncode:
         return 1
-    parts, started, uses, tried = Parts(), time.time(), kit.crates_of(ROOT), due()
+    parts, started, uses, tried = Parts(), time.time(), crates_of(ROOT), due()
     LOG.parent.mkdir(exist_ok=True)
     announce(uses, tried)
     with tempfile.TemporaryDirectory(prefix="gate-") as room, runs.Meter(room) as meter:

@@ -19,6 +19,7 @@ sys.path[:0] = [str(ROOT / "gate" / "edits"), str(ROOT)]
 import gate
 import kit
 import touched
+from rattle.crates import crates_of
 from tests.table import Check, checks
 
 # All is done within so many seconds, except a proof or a check that is longer by itself.
@@ -65,10 +66,9 @@ def texts(names: list[str]) -> list[tuple[str, Part]]:
 
     parts = [("the layout", layout(names)), ("types", gate.types), ("the pages", run("-m", "tests.house.words"))]
     parts += [("the house's own tests", run("-m", "tests.house")), ("imports", run("-m", "tests.house.imports"))]
-    reader = "gate/edits/functions.py"
-    own = [(("statement/", "crates/", "README.md", reader), "the statement", ("statement/statement.py", "--check")),
-           (("statement/", reader), "the statement's own tests", ("statement/test_statement.py",)),
-           (("gate/",), "the gate's own tests", ("gate/tests",))]
+    own = [(("statement/", "crates/", "README.md", "rattle/"), "the statement", ("statement/statement.py", "--check")),
+           (("statement/", "rattle/"), "the statement's own tests", ("statement/test_statement.py",)),
+           (("gate/", "rattle/"), "the gate's own tests", ("gate/tests",))]
     return parts + [(title, run(*words)) for read, title, words in own if any(name.startswith(read) for name in names)]
 
 
@@ -85,7 +85,7 @@ def split(some: list[Check], seconds: float) -> tuple[list[Check], list[Check]]:
 def main() -> int:
     """Looks at what changed, and gives the status."""
     started, names, parts = time.monotonic(), touched.changed(ROOT), gate.Parts()
-    crates = touched.crates([*kit.crates_of(ROOT)], names)
+    crates = touched.crates([*crates_of(ROOT)], names)
     if crates:
         kit.require()
     some = [check for check in checks() if check.form != "never" and touched.is_touched(ROOT, check, names)]

@@ -7,7 +7,7 @@ import re
 import shutil
 import subprocess
 import threading
-from collections.abc import Callable, Collection, Mapping
+from collections.abc import Callable, Collection
 from itertools import count
 from pathlib import Path
 
@@ -15,7 +15,7 @@ import kit
 
 # What the toolchain says of a crate, or of its tests, behind what it printed of it.
 DONE = re.compile(r"rt: (\w+)(: its tests are)? (proved|NOT PROVED|is kept)")
-# What the proofs of each crate take, what those of its tests do, and what else does: all figures stand here.
+# What proofs, tests and all else take: all figures stand here.
 SECONDS = Path(__file__).with_name("seconds.txt")
 
 
@@ -35,22 +35,16 @@ def copied(root: Path, room: str, is_wanted: Callable[[str], bool]) -> Path:
     return copy
 
 
-def table() -> dict[str, list[int]]:
+def table() -> dict[str, int]:
     """Seconds of a processor by name."""
     rows = [line.split() for line in SECONDS.read_text().splitlines() if line and not line.startswith("#")]
-    return {name: [int(figure) for figure in figures] for name, *figures in rows}
+    return {name: int(figure) for name, figure in rows}
 
 
-def proving(uses: Mapping[str, list[str]], names: Collection[str], processors: int, with_tests: bool = False) -> float:
-    """About how many seconds these crates take to prove from nothing: at least those of their longest chain."""
-    known, ends, total = table(), [0], 0
-    chain: dict[str, int] = {}
-    for name in uses:
-        own, tests = known.get(name, [60, 0]) if name in names else (0, 0)
-        chain[name] = own + max((chain[lower] for lower in uses[name] if lower in chain), default=0)
-        ends.append(chain[name] + tests * with_tests)
-        total += own + tests * with_tests
-    return max(*ends, total / processors)
+def proving(processors: int, with_tests: bool = False) -> float:
+    """About how many seconds all crates take to prove from nothing: at least those of their longest chain."""
+    known = table()
+    return max(known["longest_chain_of_crates"], (known["proofs"] + known["tests"] * with_tests) / processors)
 
 
 def announce(what: str, seconds: float, processors: int, log: Path) -> None:

@@ -1,15 +1,10 @@
 """What a change since the last commit touches: files, crates, and checks by the table of tests/checks.txt."""
 
-import ast
 import subprocess
-from functools import cache
 from pathlib import Path
 
+from tests.modules import imported, place_of
 from tests.table import Check
-
-# Where packages lie that are imported by their own name.
-ELSEWHERE = {"ropepeach": "operations"}
-
 
 def changed(root: Path) -> list[str]:
     """The files that are not as the last commit has them: changed, new or gone."""
@@ -25,33 +20,11 @@ def crates(uses: list[str], names: list[str]) -> list[str]:
     return [crate for crate in uses if any(name.startswith(places[crate]) for name in names)]
 
 
-def place_of(root: Path, module: str) -> Path:
-    """The folder of a module, or its file without the suffix, if it is one of the repository."""
-    parts = module.split(".")
-    return root.joinpath(ELSEWHERE.get(parts[0], ""), *parts)
-
-
 def files_of(root: Path, module: str) -> list[Path]:
     """The files of a module: its own, or all of its folder."""
     place = place_of(root, module)
     own = [place.with_suffix(".py")] if place.with_suffix(".py").is_file() else []
     return own + (sorted(place.rglob("*.py")) if place.is_dir() else [])
-
-
-@cache
-def imported(file: Path) -> frozenset[str]:
-    """The modules that a file brings in, and the names that it takes of them, dotted; none where it is no Python."""
-    found: set[str] = set()
-    try:
-        tree = ast.parse(file.read_bytes())
-    except (SyntaxError, ValueError):
-        return frozenset()
-    for node in ast.walk(tree):
-        if isinstance(node, ast.Import):
-            found |= {alias.name for alias in node.names}
-        elif isinstance(node, ast.ImportFrom) and node.module:
-            found |= {node.module, *(f"{node.module}.{alias.name}" for alias in node.names)}
-    return frozenset(found)
 
 
 def behind(root: Path, check: Check) -> set[Path]:

@@ -5,6 +5,8 @@ from collections.abc import Iterator
 from dataclasses import dataclass
 from pathlib import Path
 
+from rattle.crates import crates_of
+
 ROOT = Path(__file__).resolve().parent.parent
 HERE = ROOT / "rust"
 VERSION = (ROOT / "VERSION").read_text().strip()
@@ -43,10 +45,7 @@ class Crate:
 
 def listed(root: Path = ROOT) -> Iterator[Crate]:
     """The crates of the project, the lowest first."""
-    for line in (root / "crates.txt").read_text().splitlines():
-        name, colon, needs = line.partition("#")[0].partition(":")
-        if colon:
-            yield Crate(name.strip(), tuple(needs.split()))
+    yield from (Crate(name, tuple(needs)) for name, needs in crates_of(root).items())
 
 
 def kit() -> Path:

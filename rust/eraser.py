@@ -1,9 +1,9 @@
 """Rattle to plain Rust: one file's text to another, by edits of known forms. What has no form here is refused."""
 from collections.abc import Iterator
 
+from rattle.lexer import Kind
 from rust import names
 from rust.edits import Edit, Form, Refused, applied, ordered, undone
-from rust.lexer import Kind
 from rust.source import Source
 
 

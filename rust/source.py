@@ -1,8 +1,8 @@
 """A source as its tokens of code, and how they belong together."""
 from collections.abc import Iterator
 
+from rattle.lexer import Kind, Token, tokens
 from rust.edits import Edit, Form, Refused
-from rust.lexer import Kind, Token, tokens
 
 OPENING, CLOSING = "([{", ")]}"
 

@@ -1,7 +1,8 @@
 """What each definition was held against: the table evidence.txt, and whether what it points at is there.
 
 A line has the definitions of one file of specs, a kind, and where it is, as in
-`rs_model.Step: fold_of step | python | tests/reading/x.py: f`.
+`rs_model.Step: fold_of step | python | tests/reading/x.py: f`. Of a function of code its crate is enough, if one file
+alone has the name: `rs_time.Moment: moment_text | law | rs_time: moment_texts_read_back`.
 """
 
 import ast
@@ -12,7 +13,9 @@ from pathlib import Path
 from typing import TYPE_CHECKING
 
 import tables
-from antt import Definition
+from rattle import antt
+from rattle.antt import Definition
+from rattle.code import functions_of
 from reach import closure
 from world import Item, Unknown, World
 
@@ -48,21 +51,33 @@ class Evidence:
         return f"{self.kind}: {self.path}" + (f", {self.name}" if self.name else "")
 
 
-def parsed(line: str) -> tuple[list[str], Evidence]:
+def file_of(world: World, place: str, name: str) -> str:
+    """The file of a place: that of a crate which has the function, or the place itself."""
+    if place not in world.crates:
+        return place
+    found = {function.path for code in world.code.values() for function in code.functions
+             if (function.crate, function.name) == (place, name)}
+    if len(found) != 1:
+        raise tables.Wrong(f"statement/evidence.txt: {len(found)} files of {place} have a function {name}")
+    return found.pop()
+
+
+def parsed(world: World, line: str) -> tuple[list[str], Evidence]:
     """The definitions of a line, by their labels, and the evidence of each."""
     parts = [part.strip() for part in line.split(" | ")]
     if len(parts) != 3 or parts[1] not in KINDS:
         raise tables.Wrong(f"statement/evidence.txt: not a line of the table: {line}")
     specs, _, names = parts[0].partition(": ")
-    path, _, name = parts[2].partition(": ")
-    return [f"{specs}.{name}" for name in names.split()], Evidence(parts[1], path, name)
+    place, _, name = parts[2].partition(": ")
+    piece = Evidence(parts[1], file_of(world, place, name), name)
+    return [f"{specs}.{name}" for name in names.split()], piece
 
 
-def evidence(text: str | None = None) -> dict[str, list[Evidence]]:
+def evidence(world: World, text: str | None = None) -> dict[str, list[Evidence]]:
     """The evidence of each definition, by its label."""
     found: dict[str, list[Evidence]] = {}
     for line in tables.rows("evidence.txt", text):
-        labels, piece = parsed(line)
+        labels, piece = parsed(world, line)
         for label in labels:
             found.setdefault(label, []).append(piece)
     return found
@@ -86,8 +101,8 @@ def names_in(path: str, text: str) -> set[str]:
     if path.endswith(".py"):
         return names_in_python(text)
     if path.endswith(".rt"):
-        return set(re.findall(r"\bfn (\w+)", text)) | set(re.findall(r"\bconst (\w+):", text))
-    return set(re.findall(r"^[ ]*(?:(?:abbrev|unfoldable|pub|record|data) )*([^\s({:]+)[^=\n]* :", text, re.M))
+        return {function.name for function in functions_of(text)}
+    return set(antt.read("", path, text).definitions)
 
 
 def fault_of(root: Path, piece: Evidence) -> str:

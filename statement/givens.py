@@ -14,7 +14,7 @@ import re
 from collections.abc import Iterable
 from dataclasses import dataclass
 
-from antt import Definition
+from rattle.antt import Definition
 from relations import Node
 from tables import Wrong
 from terms import Relation

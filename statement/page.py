@@ -9,9 +9,9 @@ import re
 from collections.abc import Iterable, Mapping
 
 import tables
-from antt import Definition
 from evidence import KINDS, Evidence
 from promises import Promise
+from rattle.antt import Definition
 from shown import counted, declared, meaning, summary
 from source import Type
 from world import Item, Links, World, unique

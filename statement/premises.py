@@ -10,10 +10,10 @@ alone has to be there in an example (`uninhabited`), as a promise that takes wha
 
 from dataclasses import dataclass
 
-from antt import Definition
 from evidence import Evidence
 from givens import CONCLUDED, Line
 from promises import Promise
+from rattle.antt import Definition
 from relations import Node, Reader, cases, is_of_values, is_type
 from source import Clause, Function
 from terms import Relation

@@ -11,7 +11,7 @@ is read; breadth first would mix the crates.
 from collections.abc import Iterable
 from dataclasses import dataclass
 
-from antt import Definition
+from rattle.antt import Definition
 from source import Type
 from world import Item, KitWord, World, unique
 

@@ -5,7 +5,7 @@ from dataclasses import dataclass, field
 
 import terms
 import words
-from antt import Definition, Name
+from rattle.antt import Definition, Name
 from source import Clause, Function
 from terms import Arrow, Joined, Relation, Term
 from world import Item, KitWord, Unknown, World

@@ -5,8 +5,8 @@ from collections.abc import Iterable, Mapping
 
 import evidence
 import tables
-from antt import Definition
 from promises import Promise
+from rattle.antt import Definition
 from reach import Chapter
 from source import Type
 from world import unique

@@ -1,26 +1,17 @@
-"""Reads a file of code (*.rt) as far as a statement needs it: its types, and the clauses of its functions.
+"""Reads a file of code (`*.rt`) as far as a statement needs it: its types, and what the clauses of functions may name.
 
-It looks at items at the left edge and at what stands one step in within `impl` and `trait`; of a function it looks at
-the signature and the clauses, never at the body.
+It looks at types at the left edge, and at the signatures and the clauses of functions, never at their bodies.
 """
 
 import re
-import sys
 from dataclasses import dataclass, field
-from pathlib import Path
 
-import antt
-
-# The gate's reader of Rattle.
-sys.path.append(str(Path(__file__).resolve().parents[1] / "gate" / "edits"))
-from functions import blanked, closed
+from rattle import antt, code
+from rattle.code import blanked, closed
 
 GHOST_USE = re.compile(r"^[ ]*ghost (use [^;]*);", re.M)
 RUST_USE = re.compile(r"^(?:pub )?use ([\w:]+?)(?:::\{([^}]*)\})?;", re.M)
 TYPE = re.compile(r"^(?:pub(?:\(\w+\))? )?(struct|enum|trait) (\w+)", re.M)
-BLOCK = re.compile(r"^(?:pub(?:\(\w+\))? )?(impl|trait)\b([^{\n]*)", re.M)
-FUNCTION = re.compile(r"^[ ]*(?:pub(?:\(\w+\))? )?(?:const )?fn (\w+)", re.M)
-CLAUSE = re.compile(r"\b(requires|ensures)\b\s*\*?\s*(\w*)\s*\Z")
 GHOST = re.compile(r"\bghost (\w+):")
 VALUE = re.compile(r"\bghost Value = \{")
 BOUND = re.compile(r"(\w+): (\w+)")
@@ -157,76 +148,53 @@ def ghosts_of(text: str) -> list[tuple[str, str]]:
     return found
 
 
-def types_of(code: Code, text: str, quiet: str) -> None:
+def types_of(file: Code, text: str, quiet: str) -> None:
     """The types of a file and its traits."""
     lines = text.splitlines()
     for head in TYPE.finditer(quiet):
         end, line = item_end(quiet, head.end()), line_of(quiet, head.start())
-        made = Type(code.crate, code.path, head[1], head[2], line, comment_above(lines, line), text[head.start() : end])
+        made = Type(file.crate, file.path, head[1], head[2], line, comment_above(lines, line), text[head.start() : end])
         inner = quiet[head.start() : end]
         made.ghosts, made.brought = ghosts_of(inner), ghost_uses(inner)[0]
-        code.types[head[2]] = made
+        file.types[head[2]] = made
 
 
-def values_of(code: Code, quiet: str) -> None:
+def values_of(file: Code, quiet: str) -> None:
     """The values that stand for types in contracts (`impl Model for`)."""
-    for block in BLOCK.finditer(quiet):
-        model = re.search(r"\bModel for (\w+)", block[2])
-        inner = quiet[block.start() : item_end(quiet, block.end())]
+    for block in code.blocks_of(quiet):
+        model = re.search(r"\bModel for (\w+)", block.head)
+        inner = quiet[block.start : block.end]
         value = VALUE.search(inner)
-        if model and value and model[1] in code.types:
-            made = code.types[model[1]]
+        if model and value and model[1] in file.types:
+            made = file.types[model[1]]
             made.value = inner[value.end() : closed(inner, value.end() - 1) - 1]
             made.brought = ghost_uses(inner)[0]
 
 
-def clauses_of(text: str, quiet: str, at: int) -> tuple[str, list[Clause]]:
-    """The signature of the function whose parameters begin at a place, and its clauses."""
-    start, depth, found = at, 0, list[Clause]()
-    signature: str | None = None
-    while True:
-        depth += (quiet[at] in "([") - (quiet[at] in ")]")
-        if quiet[at] == ";" and not depth:
-            return signature if signature is not None else quiet[start:at], found
-        if quiet[at] == "{" and not depth:
-            clause = CLAUSE.search(quiet, start, at)
-            if signature is None:
-                signature = quiet[start : clause.start() if clause else at]
-            if not clause:
-                return signature, found
-            end = closed(quiet, at) - 1
-            found.append(clause_of(text, quiet, clause, at, end))
-            at = end
-        at += 1
-
-
-def clause_of(text: str, quiet: str, clause: re.Match[str], at: int, end: int) -> Clause:
-    """The clause whose head was matched, between its braces."""
-    first = line_of(text, clause.start())
-    lines = text.splitlines()[first - 1 : line_of(text, end)]
+def clause_of(text: str, clause: code.Clause) -> Clause:
+    """A clause with its lines."""
+    first = line_of(text, clause.start)
+    lines = text.splitlines()[first - 1 : line_of(text, clause.end - 1)]
     step = len(lines[0]) - len(lines[0].lstrip())
-    return Clause(clause[1], clause[2], quiet[at + 1 : end], [line[step:] for line in lines], first)
+    return Clause(clause.kind, clause.name, clause.inner, [line[step:] for line in lines], first)
 
 
-def owner_of(head: str) -> str:
-    """The type that a block belongs to: `impl<D: Disk> Source<D>` belongs to Source."""
-    plain = re.sub(r"<[^<>]*>", "", re.sub(r"<[^<>]*>", "", head))
-    return plain.split(" for ")[-1].split(":")[0].split()[0]
+def owner_of(block: str) -> str:
+    """The type that a block belongs to: `impl<D: Disk> Source<D>` belongs to Source, a module to none."""
+    plain = re.sub(r"<[^<>]*>", "", re.sub(r"<[^<>]*>", "", block))
+    kind, *words = plain.split(" for ")[-1].replace(":", " :").split()
+    return "" if kind == "mod" else (words[0] if kind in ("impl", "trait") else kind)
 
 
-def functions_of(code: Code, text: str, quiet: str) -> None:
-    """The functions of a file, in blocks and outside."""
-    blocks = [(block.start(), item_end(quiet, block.end()), block) for block in BLOCK.finditer(quiet)]
-    for found in FUNCTION.finditer(quiet):
-        around = next((each for each in blocks if each[0] < found.start() < each[1]), None)
-        head = around[2][2] if around else ""
-        inner = quiet[around[0] : around[1]] if around else ""
-        signature, clauses = clauses_of(text, quiet, found.end())
-        bounds = dict(BOUND.findall(head)) | dict(BOUND.findall(signature.split("(")[0]))
-        names = {"result", "self"} | set(re.findall(r"\b(\w+):", signature)) | {name for name, _ in ghosts_of(inner)}
-        owner, line = owner_of(head) if around else "", line_of(text, found.start())
-        code.functions.append(Function(code.crate, code.path, owner, found[1], line, signature, clauses, bounds,
-                                       ghost_uses(inner)[0], names - set(bounds)))
+def function_of(file: Code, text: str, quiet: str, found: code.Function) -> Function:
+    """A function of a file, with what its clauses may name."""
+    inner = quiet[found.around.start : found.around.end] if found.around else ""
+    bounds = dict(BOUND.findall(found.block)) | dict(BOUND.findall(found.signature.split("(")[0]))
+    names = {"result", "self"} | set(re.findall(r"\b(\w+):", found.signature)) | {name for name, _ in ghosts_of(inner)}
+    owner = owner_of(found.block) if found.around else ""
+    return Function(file.crate, file.path, owner, found.name, line_of(text, found.at), found.signature,
+                    [clause_of(text, clause) for clause in found.clauses], bounds, ghost_uses(inner)[0],
+                    names - set(bounds))
 
 
 def read(crate: str, path: str, text: str) -> Code:
@@ -234,10 +202,10 @@ def read(crate: str, path: str, text: str) -> Code:
     quiet = blanked(text)
     if quiet.count("{") != quiet.count("}"):
         raise ValueError(f"{path}: a brace is not closed")
-    code = Code(crate, path, used=rust_uses(crate, quiet))
+    file = Code(crate, path, used=rust_uses(crate, quiet))
     outer = re.sub(r"^[ ]+ghost use [^;]*;", lambda use: " " * len(use[0]), quiet, flags=re.M)
-    code.brought, code.aliases = ghost_uses(outer)
-    types_of(code, text, quiet)
-    values_of(code, quiet)
-    functions_of(code, text, quiet)
-    return code
+    file.brought, file.aliases = ghost_uses(outer)
+    types_of(file, text, quiet)
+    values_of(file, quiet)
+    file.functions = [function_of(file, text, quiet, found) for found in code.functions_of(text)]
+    return file

@@ -19,6 +19,9 @@ import sys
 from collections.abc import Mapping
 from pathlib import Path
 
+ROOT = Path(__file__).resolve().parent.parent
+sys.path.append(str(ROOT))
+
 import evidence
 import givens
 import page
@@ -28,7 +31,6 @@ import tables
 from promises import Promise, promises
 from world import Unknown, World, unique
 
-ROOT = Path(__file__).resolve().parent.parent
 Pieces = dict[str, list[evidence.Evidence]]
 
 
@@ -39,9 +41,6 @@ def arguments() -> argparse.Namespace:
     parser.add_argument("--html", type=Path, help="write one page to this file")
     parser.add_argument("--check", action="store_true", help="look at the tables, and print no statement")
     return parser.parse_args()
-
-
-
 
 
 def refused(found: list[str]) -> int:
@@ -87,7 +86,7 @@ def main() -> int:
     signal.signal(signal.SIGPIPE, signal.SIG_DFL)
     try:
         world = World(ROOT)
-        every, pieces, meanings = promises(world), evidence.evidence(), tables.kit_words()
+        every, pieces, meanings = promises(world), evidence.evidence(world), tables.kit_words()
         premises.follow(world, every)
     except (Unknown, tables.Wrong) as fault:
         return refused([str(fault)])

@@ -1,21 +1,23 @@
 """Tests of the premises: how a type is taken apart, what gives a premise, and what is planted in our own promises."""
 
 import re
+import sys
 import tempfile
 import unittest
 from pathlib import Path
 
-import antt
+ROOT = Path(__file__).resolve().parent.parent
+sys.path.append(str(ROOT))
+
 import evidence
 import premises
 import promises
 import tables
 import terms
 import words
+from rattle import antt
 from terms import Arrow, Joined, Relation
 from world import World
-
-ROOT = Path(__file__).resolve().parent.parent
 
 SPECS = """-- Doors.
 use Rattle.std.specs.Prelude.{ℕ, ◌≡◌, ◌⊎◌, ◌≤◌, IsTrue, Result, IfOk, List, [], ◌∷◌}
@@ -182,7 +184,7 @@ def faults(world: World, table: str | None = None, shown: str | None = None) -> 
     """What is wrong with the premises."""
     every = promises.promises(world, table)
     premises.follow(world, every)
-    return premises.faults(world, every, evidence.evidence(shown))
+    return premises.faults(world, every, evidence.evidence(world, shown))
 
 
 def ungrounded(*clauses: str) -> list[str]:

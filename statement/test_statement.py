@@ -2,11 +2,14 @@
 """Tests of the statement: what its readers take from specs and code, what a promise reaches, what the check refuses."""
 
 import re
+import sys
 import tempfile
 import unittest
 from pathlib import Path
 
-import antt
+ROOT = Path(__file__).resolve().parent.parent
+sys.path.append(str(ROOT))
+
 import evidence
 import page
 import promises
@@ -14,13 +17,12 @@ import shown
 import source
 import tables
 import words
+from rattle import antt
 from reach import reach
 from test_premises import Given, Planted, Terms, repository
 from world import Unknown, World
 
 __all__ = ["Fields", "Given", "Planted", "Reached", "Readers", "Repository", "Terms"]
-
-ROOT = Path(__file__).resolve().parent.parent
 
 LOW = """-- Numbers.
 use Rattle.std.specs.Prelude.{ℕ, ◌+◌, suc, zero, List, [], ◌∷◌, length}
@@ -274,9 +276,18 @@ class Reached(unittest.TestCase):
             ("low.Numbers: next | test | tests/one.py: next_of", 1),
             ("low.Numbers: alone | python | tests/one.py: next_of", 1),
         ):
-            self.assertEqual(len(evidence.faults(world, every, evidence.evidence(line))), count, line)
+            self.assertEqual(len(evidence.faults(world, every, evidence.evidence(world, line))), count, line)
         with self.assertRaises(tables.Wrong):
-            evidence.evidence("low.Numbers: next | rumour | tests/one.py: next_of")
+            evidence.evidence(world, "low.Numbers: next | rumour | tests/one.py: next_of")
+
+    def test_a_function_of_code_is_found_in_its_crate(self) -> None:
+        several = {f"crates/high/src/{name}.rt": "fn shut() {}\n" for name in ("more", "less")}
+        world = made(self.room, **several)
+        [piece] = evidence.evidence(world, "high.Lawful: IsLawful | test | high: open")["high.Lawful.IsLawful"]
+        self.assertEqual(piece.path, "crates/high/src/open.rt")
+        for name in ("shut", "lost"):
+            with self.assertRaises(tables.Wrong):
+                evidence.evidence(world, f"high.Lawful: IsLawful | test | high: {name}")
 
     def test_words_of_the_kit_need_a_line(self) -> None:
         every = promises.promises(made(self.room), PROMISES)
@@ -298,15 +309,15 @@ class Repository(unittest.TestCase):
     """The statement of this repository."""
 
     def test_laws_and_examples_speak_of_what_they_are_held_against(self) -> None:
-        world, law = World(ROOT), "crates/rs_time/src/laws.rt: moment_texts_read_back"
+        world, law = World(ROOT), "rs_time: moment_texts_read_back"
         every = promises.promises(world)
         for names, count in (("rs_time.Moment: moment_text two_digits", 0), ("rs_model.Step: put_causes", 1)):
-            found = evidence.faults(world, every, evidence.evidence(f"{names} | law | {law}"))
+            found = evidence.faults(world, every, evidence.evidence(world, f"{names} | law | {law}"))
             self.assertEqual(len(found), count)
 
     def test_each_word_of_its_page_leads_somewhere(self) -> None:
         world = World(ROOT)
-        look_at_links(self, page.page(world, promises.promises(world), evidence.evidence(), tables.kit_words()))
+        look_at_links(self, page.page(world, promises.promises(world), evidence.evidence(world), tables.kit_words()))
 
 
 if __name__ == "__main__":

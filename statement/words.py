@@ -9,7 +9,7 @@ import re
 from collections.abc import Callable, Iterable
 from dataclasses import replace
 
-from antt import Definition
+from rattle.antt import Definition
 
 TOKEN = re.compile(r'"(?:[^"\\]|\\.)*"|\[\]|[(){}\[\];,]|[^\s(){}\[\];,"]+')
 # What a type has by a trait of Rust, `⟦<PageRef as Ord>⟧`.

@@ -12,10 +12,11 @@ from dataclasses import dataclass, replace
 from pathlib import Path
 from typing import TypeVar
 
-import antt
 import source as rust
 import words
-from functions import blanked
+from rattle import antt
+from rattle.code import blanked
+from rattle.crates import crates_of
 
 # Words of the language itself: they are explained at the head of the statement.
 LANGUAGE = {"Unit", "tt", "⊥", "absurd", "×", "¬"}
@@ -54,8 +55,7 @@ class World:
     def __init__(self, root: str | Path) -> None:
         self.root = Path(root)
         # The crates, the lowest first.
-        listed = (self.root / "crates.txt").read_text().splitlines()
-        self.crates = [line.split(":")[0] for line in listed if line.strip() and not line.startswith("#")]
+        self.crates = [*crates_of(self.root)]
         self.specs: dict[str, antt.Specs] = {}
         self.code: dict[str, rust.Code] = {}
         self.known: dict[Item, Links] = {}

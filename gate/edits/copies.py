@@ -12,7 +12,7 @@ from functools import cache
 from pathlib import Path
 from typing import TYPE_CHECKING
 
-import functions
+from rattle.code import functions_of, item_of
 
 if TYPE_CHECKING:
     from edit import Edit, Texts
@@ -59,11 +59,11 @@ def with_copy(texts: Texts, folder: str | Path, edit: Edit, edited: Texts, numbe
     wanted = edit.function
     assert wanted is not None, f"{edit.label} changes no function"
     function, changed = (
-        next(one for one in functions.functions_of(each) if (one.name, one.block) == (wanted.name, wanted.block))
+        next(one for one in functions_of(each) if (one.name, one.block) == (wanted.name, wanted.block))
         for each in (text, new_text)
     )
     name = f"{changed.name}_tried_{number}"
-    head = new_text[functions.item_of(new_text, changed) : changed.at]
+    head = new_text[item_of(new_text, changed) : changed.at]
     copy = f"{head}{name}{new_text[changed.at + len(changed.name) : changed.end]}"
     texts = {**texts, path: f"{text[:function.end]}\n\n{copy}{text[function.end:]}"}
     copied = f"{symbol.rpartition('::')[0]}::{name}"

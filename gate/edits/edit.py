@@ -8,7 +8,8 @@ from enum import Enum
 from pathlib import Path
 
 import copies
-import functions
+from rattle.code import Function, functions_of
+from symbols import symbol_of
 
 # The texts of files, by their paths in a crate.
 Texts = dict[str, str]
@@ -34,7 +35,7 @@ class Edit:
     outcome: Outcome = Outcome.NOT_TRIED
     why: str = ""
     symbols: set[str] = field(default_factory=set)
-    function: functions.Function | None = None
+    function: Function | None = None
     # The goal by which it was last seen refused, or '' where none is known, and those of its function as it is.
     goal: str = ""
     others: list[str] = field(default_factory=list)
@@ -81,17 +82,17 @@ def applied(edit: Edit, folder: str | Path, texts: Texts | None = None) -> Texts
 
 def look(edit: Edit, folder: str | Path, symbols: Iterable[str]) -> None:
     """Finds the functions in whose bodies all that the edit changes lies: none where it changes anything else."""
-    found: dict[str | None, functions.Function | None] = {}
+    found: dict[str | None, Function | None] = {}
     texts: Texts = {}
     for path, old, new in edit.pairs:
         text = texts.get(path) or Path(folder, path).read_text()
         texts[path] = text.replace(old, new)
         start = text.index(old) + len(os.path.commonprefix([old, new]))
         end = max(start, text.index(old) + len(old) - len(os.path.commonprefix([old[::-1], new[::-1]])))
-        every = functions.functions_of(text) if path.startswith("src/") else []
+        every = functions_of(text) if path.startswith("src/") else []
         inside = [one for one in every if one.start < start and end < one.end]
         # Of a function inside another one it could not be told which of them fails.
-        symbol = functions.symbol_of(path, inside[0], symbols) if len(inside) == 1 else None
+        symbol = symbol_of(path, inside[0], symbols) if len(inside) == 1 else None
         found.setdefault(symbol, inside[0] if inside else None)
     edit.symbols = {symbol for symbol in found if symbol} if all(found) else set()
     edit.function = next(iter(found.values()))

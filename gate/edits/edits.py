@@ -18,6 +18,8 @@ from collections.abc import Callable, Iterable, Mapping, Sequence
 from concurrent.futures import ThreadPoolExecutor, as_completed
 from pathlib import Path
 
+sys.path.append(str(Path(__file__).resolve().parents[2]))
+
 import edit
 import goals
 import kit
@@ -25,6 +27,7 @@ import record
 import verdict
 from edit import Edit, Group, Texts
 from libraries import Libraries
+from rattle.crates import crates_of
 
 
 class Trial:
@@ -162,7 +165,7 @@ def main() -> int:
     words.add_argument("crates", nargs="*")
     options = words.parse_args()
     kit.require()
-    names = [name for name in options.crates or kit.crates_of(options.root) if record.edits_of(options.root, name)]
+    names = [name for name in options.crates or crates_of(options.root) if record.edits_of(options.root, name)]
     if wrong := Libraries(options.root, options.jobs).build_each(names):
         sys.exit(wrong)
     built = kit.used() / 60

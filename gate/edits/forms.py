@@ -12,13 +12,15 @@ import re
 import sys
 from pathlib import Path
 
-import copies
-import edit
-import functions
-import goals
-import kit
-
 ROOT = Path(__file__).resolve().parents[2]
+sys.path.append(str(ROOT))
+
+import edit
+import goals
+from rattle.code import Function, blanked, functions_of
+from rattle.crates import crates_of
+from symbols import module_of, words_of
+
 # What adds a way out, or a branch.
 WAYS = re.compile(r"\breturn\b|\bbreak\b|\bif\b|\belse\b|\bmatch\b|\bwhile\b|\bfor\b|\bloop\b|\?|&&|\|\||=>")
 # What a text binds, or calls: an answer by hand cites it by this name.
@@ -27,20 +29,20 @@ NAMED = re.compile(r"\blet (?:mut )?(\w+)|\bfor (\w+) in\b|\b(\w+)\(")
 
 def names_of(text: str) -> set[str]:
     """The locals and the calls of a body."""
-    return {name for found in NAMED.findall(functions.blanked(text)) for name in found if name}
+    return {name for found in NAMED.findall(blanked(text)) for name in found if name}
 
 
 def ways_of(text: str) -> collections.Counter[str]:
     """The ways out and the branches of a body."""
-    return collections.Counter(WAYS.findall(functions.blanked(text)))
+    return collections.Counter(WAYS.findall(blanked(text)))
 
 
-def hand_files(crate: Path, path: str, function: functions.Function) -> list[Path]:
+def hand_files(crate: Path, path: str, function: Function) -> list[Path]:
     """The files by hand of a function: those of a folder of its name, below that of its module or of its type."""
-    module = functions.module_of(path)
+    module = module_of(path)
     folders = [folder for folder in (crate / "proofs").rglob("*") if folder.is_dir()
                and folder.name.removeprefix("+") == function.name]
-    owner = (functions.words_of(function.block.split(" for ")[-1].partition("where")[0])[1:2] or [""])[0]
+    owner = (words_of(function.block.split(" for ")[-1].partition("where")[0])[1:2] or [""])[0]
     fitting = [folder for folder in folders if owner in folder.parts] if function.block else [
         folder for folder in folders if list(folder.relative_to(crate / "proofs").parts[:-1]) == module]
     return [file for folder in fitting for file in sorted(folder.glob("*.antt"))]
@@ -55,11 +57,11 @@ def why_of_form(crate: Path, one: edit.Edit) -> str:
         before, after = (crate / path).read_text(), texts[path]
         # (a later pair may change what an earlier one made)
         at = before.find(old)
-        function = next((one for one in functions.functions_of(before) if one.start < at < one.end), None)
+        function = next((one for one in functions_of(before) if one.start < at < one.end), None)
         if function is None:
             continue
         own = function.name, function.block
-        changed = next((one for one in functions.functions_of(after) if (one.name, one.block) == own), None)
+        changed = next((one for one in functions_of(after) if (one.name, one.block) == own), None)
         files = hand_files(crate, path, function)
         by_hand = "".join(file.read_text() for file in files)
         if changed is None or one.goal not in goals.ANSWERED.findall(by_hand):
@@ -77,7 +79,7 @@ def why_of_form(crate: Path, one: edit.Edit) -> str:
 def main() -> int:
     """Names them, and gives the status."""
     known, count, count_named = goals.known(ROOT), 0, 0
-    for crate in kit.crates_of(ROOT):
+    for crate in crates_of(ROOT):
         for one in edit.of_crate(ROOT, crate, known):
             count += 1
             if why := why_of_form(ROOT / "crates" / crate, one):

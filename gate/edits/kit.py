@@ -1,4 +1,4 @@
-"""The Rattle kit's prover, and the crates of a repository."""
+"""The Rattle kit's prover."""
 
 import os
 import re
@@ -6,7 +6,6 @@ import resource
 import shutil
 import subprocess
 import sys
-from collections.abc import Iterable, Mapping
 from dataclasses import dataclass
 from functools import cache
 from pathlib import Path
@@ -35,10 +34,15 @@ def require() -> None:
         sys.exit(f"there is no Rattle kit here (the command `{RT}`): a release has the built program (README.md)")
 
 
-@cache
 def folder() -> Path:
-    """The kit's folder: that of the page that `rt doc` names."""
-    finished = subprocess.run([RT, "doc"], capture_output=True, text=True, check=True)
+    """The kit's folder."""
+    return folder_of(RT)
+
+
+@cache
+def folder_of(command: str) -> Path:
+    """The folder of the kit of a command: that of the page that `rt doc` names."""
+    finished = subprocess.run([command, "doc"], capture_output=True, text=True, check=True)
     return Path(finished.stdout.strip()).parent
 
 
@@ -53,20 +57,6 @@ def lanes() -> int:
     """How many checks go side by side: one a processor, with 4 GB of free memory each. None took more than 3.1 GB."""
     free = int(re.findall(r"MemAvailable:\s+(\d+)", Path("/proc/meminfo").read_text())[0])
     return max(1, min(len(os.sched_getaffinity(0)), free // 4_000_000))
-
-
-def crates_of(root: str | Path) -> dict[str, list[str]]:
-    """Each crate that crates.txt lists, with the libraries that it uses, the lowest first."""
-    rows = re.findall(r"(?m)^(\w+)[^\n#:]*:([^\n#]*)", Path(root, "crates.txt").read_text())
-    return {name: uses.split() for name, uses in rows}
-
-
-def below(uses: Mapping[str, Iterable[str]], name: str) -> list[str]:
-    """The repository's crates that this one stands on, near or far, the lowest first."""
-    lower = {*uses[name]}
-    for crate in reversed([*uses]):
-        lower |= {*uses[crate]} if crate in lower else set()
-    return [crate for crate in uses if crate in lower]
 
 
 def check(words: list[str], crate_folder: str | Path) -> Report:

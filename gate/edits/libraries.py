@@ -12,6 +12,7 @@ from typing import Any
 
 import kit
 import verdict
+from rattle.crates import below, crates_of
 
 # What is called as a crate is built, with its name and the report of its check.
 WhenDone = Callable[[str, kit.Report], None]
@@ -21,7 +22,7 @@ class Libraries:
     """The crates of a repository, each built once the libraries below it are. Of a program only the proofs are kept."""
 
     def __init__(self, root: str | Path, jobs: int) -> None:
-        self.root, self.uses, self.jobs, self.turns = root, kit.crates_of(root), jobs, Semaphore(jobs)
+        self.root, self.uses, self.jobs, self.turns = root, crates_of(root), jobs, Semaphore(jobs)
         # Each crate as the module of `rt` reads it, which gives the words of a check, and a sum of all that the crate
         # is made from.
         made = runpy.run_path(f"{kit.folder()}/bin/rtlib.py")["Crate"]
@@ -66,13 +67,13 @@ class Libraries:
     def build_each(self, names: Iterable[str], when_done: WhenDone = lambda name, report: None) -> str:
         """Builds these crates and all that they stand on, side by side, and gives what was wrong, or nothing.
         Each crate gets the jobs that no other one waits for."""
-        wanted = {needed for name in names for needed in (*kit.below(self.uses, name), name)}
+        wanted = {needed for name in names for needed in (*below(self.uses, name), name)}
         waiting, wrong = [name for name in self.uses if name in wanted and not self.is_built(name)], ""
         running: dict[Future[str], tuple[str, int]] = {}
         with ThreadPoolExecutor(self.jobs) as pool:
             while running or waiting and not wrong:
                 undone = {*waiting, *(name for name, _ in running.values())}
-                ready = [name for name in waiting if not wrong and not undone & {*kit.below(self.uses, name)}]
+                ready = [name for name in waiting if not wrong and not undone & {*below(self.uses, name)}]
                 for at, name in enumerate(ready):
                     if idle := self.jobs - sum(jobs for _, jobs in running.values()):
                         jobs = min(4, max(1, idle // (len(ready) - at)))

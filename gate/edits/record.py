@@ -12,13 +12,14 @@ from functools import cache
 from pathlib import Path
 
 import kit
-import functions
+from rattle import code
+from rattle.crates import below, crates_of
 
 FILE = "gate/edits/record.txt"
 HEAD = ("# Crates all of whose must-fail edits were seen refused: name, number of edits, day, kit, hash. "
         "Written by `make edits`.\n")
 # What a text says is read once, however many crates stand above it.
-outline = cache(functions.outline)
+outline = cache(code.outline)
 
 
 def files(folder: str | Path, *parts: str) -> list[str]:
@@ -37,7 +38,7 @@ def hash_of(root: str | Path, uses: Mapping[str, list[str]], name: str, logic: s
     total, crates = hashlib.sha256(logic.encode()), Path(root, "crates")
     texts = [(file, (crates / name / file).read_bytes())
              for file in files(crates / name, "src", "specs", "proofs", "must-fail")]
-    for lower in kit.below(uses, name):
+    for lower in below(uses, name):
         for file in files(crates / lower, "src", "specs"):
             text = (crates / lower / file).read_text()
             texts.append((f"{lower}/{file}", (outline(text) if file.endswith(".rt") else text).encode()))
@@ -55,20 +56,20 @@ def lines(root: str | Path) -> dict[str, tuple[str, ...]]:
 
 def uncovered(root: str | Path) -> list[str]:
     """The crates with edits that the record does not cover as they stand."""
-    uses, known, (_, logic) = kit.crates_of(root), lines(root), kit.identity()
+    uses, known, (_, logic) = crates_of(root), lines(root), kit.identity()
     return [name for name in uses
             if edits_of(root, name) and known.get(name, ("",))[-1] != hash_of(root, uses, name, logic)]
 
 
 def outdated(root: str | Path) -> list[str]:
     """The crates that have a line, which is older than they are, or which no crate has any more."""
-    crates = {name for name in kit.crates_of(root) if edits_of(root, name)} - {*uncovered(root)}
+    crates = {name for name in crates_of(root) if edits_of(root, name)} - {*uncovered(root)}
     return [name for name in lines(root) if name not in crates]
 
 
 def picked(root: str | Path, commit: str, number: int = 2) -> list[str]:
     """This many crates with edits that a commit's own hash picks."""
-    with_edits = [name for name in kit.crates_of(root) if edits_of(root, name)]
+    with_edits = [name for name in crates_of(root) if edits_of(root, name)]
     return sorted(with_edits, key=lambda name: hashlib.sha256(f"{commit} {name}".encode()).digest())[:number]
 
 
@@ -79,7 +80,7 @@ def drawn(root: str | Path, name: str, commit: str, limit: int = 24) -> list[str
 
 def write(root: str | Path, names: Iterable[str]) -> None:
     """Writes the lines of these crates anew, and drops those of crates that are gone."""
-    uses, known, (kit_name, logic) = kit.crates_of(root), lines(root), kit.identity()
+    uses, known, (kit_name, logic) = crates_of(root), lines(root), kit.identity()
     today = datetime.date.today().isoformat()
     for name in names:
         known[name] = (str(len(edits_of(root, name))), today, kit_name, hash_of(root, uses, name, logic))

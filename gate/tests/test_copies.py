@@ -11,8 +11,9 @@ from samples import CODE, repository, rows, write
 
 import copies
 import edit
-import functions
 import goals
+from rattle.code import functions_of
+from symbols import symbol_of
 
 ANSWERS = """use Rattle.sample.proofs.next.Goals as goal
 
@@ -53,13 +54,9 @@ class Copying(unittest.TestCase):
         groups = edit.grouped(edits, self.folder)
         return [{symbol: one.label for symbol, one in group.tried.items()} for group in groups]
 
-    def test_functions_and_their_symbols(self) -> None:
-        found = functions.functions_of(CODE)
-        self.assertEqual([one.name for one in found], ["next", "after_next", "smaller", "nothing"])
-        body = CODE[found[2].start : found[2].end].strip().split("\n")[1].strip()
-        self.assertEqual(body, "if a < b { a } else { b }")
+    def test_symbols_of_functions(self) -> None:
         symbols = ["a::m::BoxTDisk::read", "a::m::n::Used::take", "a::m::take", "a::take"]
-        of_methods = [functions.symbol_of("src/m.rt", one, symbols) for one in functions.functions_of(METHODS)]
+        of_methods = [symbol_of("src/m.rt", one, symbols) for one in functions_of(METHODS)]
         self.assertEqual(of_methods[1:], ["a::m::n::Used::take", "a::m::take"])
         self.assertEqual(self.edit_of("u16::from(x) + 1", "u16::from(x) + 2").symbols, {"sample::next"})
         self.assertEqual(self.edit_of("result ≤ a", "result ≤ b", "smaller").symbols, set())
@@ -84,7 +81,7 @@ class Copying(unittest.TestCase):
         for head, place, text, can_be in rows("copied"):
             with tempfile.TemporaryDirectory() as room, self.subTest(head=head, place=place, text=text):
                 write(text, room, "proofs", place)
-                [function] = functions.functions_of(head + " {\n    fn turn() ensures { P } {}\n}\n")
+                [function] = functions_of(head + " {\n    fn turn() ensures { P } {}\n}\n")
                 one = edit.Edit("", [("src/lib.rt", "", "")], symbols={"low::Kind::turn"}, function=function)
                 self.assertEqual(copies.can_be_copied(one, room), can_be == "yes")
 

@@ -154,8 +154,9 @@ class Parts(unittest.TestCase):
             built = write("", self.room, "out/rust/ropepeach-plain-1/target/release/rs_source")
             parts.run_beside(gate.plain(parts, Path(self.room)), 1)
         calls = [(*call.args[1][1:], call.args[3].get("PROGRAM")) for call in program.call_args_list]
-        words = {check.name: check.words for check in checks()}
-        self.assertEqual(calls, made + made + [(*words[name], str(built)) for name in gate.PLAIN_CHECKS])
+        of_plain = [(*check.words, str(built)) for check in checks() if check.is_plain_too]
+        self.assertGreater(len(of_plain), 10)
+        self.assertEqual(calls, made + made + of_plain)
 
     def test_no_part_takes_another_program_by_the_environment(self) -> None:
         with mock.patch.dict(os.environ, PROGRAM="another"):
@@ -228,10 +229,9 @@ class Telling(unittest.TestCase):
         return {"proofs": 54.4, "tests": 7}[kind]
 
     def test_how_long_it_takes(self) -> None:
-        """As long as the longest chain of crates, or as all of them on so many processors; each crate has its line."""
-        uses: dict[str, list[str]] = {"a": [], "b": ["a"], "c": ["a", "std"], "d": []}
-        rows = (("abcd", 1, False, 240), ("abcd", 4, False, 170), ("bc", 4, False, 70), ("abcd", 4, True, 450))
-        with mock.patch.object(runs, "table", lambda: {"a": [100, 0], "b": [50, 300], "c": [70, 0], "d": [20, 0]}):
-            for names, processors, with_tests, wanted in rows:
-                self.assertEqual(runs.proving(uses, names, processors, with_tests), wanted)
-        self.assertEqual({*kit.crates_of(gate.ROOT)} | {"an_edit", "all_else"}, {*runs.table()})
+        """As long as the longest chain of crates, or as all of them on so many processors."""
+        table = {"proofs": 240, "tests": 300, "longest_chain_of_crates": 170}
+        with mock.patch.object(runs, "table", lambda: table):
+            for processors, with_tests, wanted in ((1, False, 240), (4, False, 170), (1, True, 540), (2, True, 270)):
+                self.assertEqual(runs.proving(processors, with_tests), wanted)
+        self.assertEqual({*runs.table()}, {*table, "an_edit", "all_else"})

@@ -15,6 +15,7 @@ import gate
 import kit
 import quick
 import touched
+from tests import modules
 from tests.table import Check, checks
 
 # The files of a repository: a check, what it brings in, a page and a crate.
@@ -29,7 +30,7 @@ FILES = {
 
 def check(name: str, touched_by: Iterable[str] = (), seconds: int = 0) -> Check:
     """A check of this name, which these files touch."""
-    return Check("tests", name, "whole", "", "-", seconds, tuple(touched_by))
+    return Check("tests", name, "whole", False, "", "-", seconds, tuple(touched_by))
 
 
 class Touched(unittest.TestCase):
@@ -38,7 +39,7 @@ class Touched(unittest.TestCase):
         for name, text in FILES.items():
             write(text, self.room, name)
         commit(self.room, "all")
-        touched.imported.cache_clear()
+        modules.imported.cache_clear()
 
     def test_what_changed(self) -> None:
         self.assertEqual(touched.changed(self.room), [])
@@ -60,15 +61,15 @@ class Touched(unittest.TestCase):
     def test_a_package_of_its_own_name_touches_what_brings_it_in(self) -> None:
         write("from sent.files import Files\n", self.room, "tests/other.py")
         write("", self.room, "bench/sent/files.py")
-        touched.imported.cache_clear()
+        modules.imported.cache_clear()
         for elsewhere, wanted in (({"sent": "bench"}, True), ({}, False)):
-            with mock.patch.object(touched, "ELSEWHERE", elsewhere):
+            with mock.patch.object(modules, "ELSEWHERE", elsewhere):
                 self.assertEqual(touched.is_touched(self.room, check("other"), ["bench/sent/files.py"]), wanted)
 
     def test_a_check_that_is_no_python_is_touched_by_itself(self) -> None:
         for text in (b"def (:", b"\xff\xfe", b"x\x00"):
             (self.room / "tests" / "other.py").write_bytes(text)
-            touched.imported.cache_clear()
+            modules.imported.cache_clear()
             self.assertTrue(touched.is_touched(self.room, check("other"), ["tests/other.py"]))
 
     def test_a_crate_is_touched_by_its_code_and_proofs(self) -> None:

@@ -2,11 +2,11 @@
 import unittest
 from unittest import mock
 
+from rattle.lexer import Kind, tokens
 from rust import eraser, names
 from rust.crates import ROOT, listed
 from rust.edits import Edit, Refused, applied
 from rust.eraser import edits_of, macros_of, plain
-from rust.lexer import Kind, tokens
 
 PRELUDE = names.PRELUDE
 

@@ -1,0 +1,40 @@
+"""Files of Python as modules: where a module lies, by what name a file is imported, and what it imports."""
+
+import ast
+from functools import cache
+from pathlib import Path
+
+from tests.program import ROOT
+
+# Where packages lie that are imported by their own name.
+ELSEWHERE = {"ropepeach": "operations"}
+
+
+def module_of(file: Path, root: Path = ROOT) -> str:
+    """The name by which a file is imported; a folder that is run has that of its `__main__`."""
+    parts = file.relative_to(root).with_suffix("").parts
+    is_elsewhere = parts[1:] and ELSEWHERE.get(parts[1]) == parts[0]
+    return ".".join(parts[1:] if is_elsewhere else parts).removesuffix(".__init__")
+
+
+def place_of(root: Path, module: str) -> Path:
+    """The folder of a module, or its file without the suffix, if it is one of the repository."""
+    parts = module.split(".")
+    return root.joinpath(ELSEWHERE.get(parts[0], ""), *parts)
+
+
+@cache
+def imported(file: Path) -> frozenset[str]:
+    """The modules that a file imports, within functions too, and the names that it takes from modules, as dotted names;
+    none where it is no Python."""
+    found: set[str] = set()
+    try:
+        tree = ast.parse(file.read_bytes())
+    except (SyntaxError, ValueError):
+        return frozenset()
+    for node in ast.walk(tree):
+        if isinstance(node, ast.Import):
+            found |= {name.name for name in node.names}
+        elif isinstance(node, ast.ImportFrom) and node.module:
+            found |= {node.module, *(f"{node.module}.{name.name}" for name in node.names)}
+    return frozenset(found)
