@@ -28,7 +28,7 @@
 #   make bench-two  measures the proved program and the plain one beside LMDB, SQLite and lighttpd, after `make twins`
 #   make bench-month  measures what fill, mirror and the start of the command take of a processor, beside rsync and wget
 #   make proof-times  tells what each part of the proofs of CRATES="rs_io rs_time" took
-# The targets of what stands around the program are in operations/Makefile.
+#   make help     prints these lines, and those of operations/Makefile: the targets of what stands around the program
 
 SCRIPT ?= examples/first.script
 BASE ?= http://127.0.0.1:8080
@@ -41,7 +41,10 @@ SYSTEM = $(filter-out operations.tests.system.install,$(shell python3 -m tests.c
 # How many go side by side: checks of edits, if not as many as there are processors and memory for. (`make replicas` reads it too.)
 LANES ?=
 
-.PHONY: demo test quick long setup edits build rows statement bench bench-more bench-two bench-month proof-times memory ends crash hostile system powercut snapshots rust twins planted pictures
+.PHONY: help demo test quick long setup edits build rows statement bench bench-more bench-two bench-month proof-times memory ends crash hostile system powercut snapshots rust twins planted pictures
+
+help:
+	@sed -n 's/^#   //p' Makefile operations/Makefile
 
 # Quick, and no more than an unproved build.
 demo:

@@ -8,35 +8,20 @@
 
 usage: python3 -m tests.house.imports     exit status 1 where one does not hold
 """
-import ast
 import graphlib
 import re
 import sys
-from collections.abc import Iterator, Mapping
+from collections.abc import Mapping
 from pathlib import Path
 
+from tests.modules import imported, module_of
 from tests.program import ROOT
 from tests.table import PAGE, ROOMS, folder
 
-# The package that is imported by its own name, and all folders that are looked at.
+# The package of the command, which has no checks, and all folders that are looked at.
 PACKAGE = ROOT / "operations/ropepeach"
 FOLDERS = [PACKAGE, ROOT / "bench", *map(folder, ROOMS)]
 FILES = [file for folder in FOLDERS for file in sorted(folder.rglob("*.py"))]
-
-
-def module_of(file: Path) -> str:
-    """The name by which a file is imported; a folder that is run has that of its `__main__`."""
-    parts = file.relative_to(PACKAGE.parent if PACKAGE in file.parents else ROOT).with_suffix("").parts
-    return ".".join(parts).removesuffix(".__init__")
-
-
-def imported(file: Path) -> Iterator[str]:
-    """The modules that a file imports, and the names that it takes from modules, as dotted names."""
-    for node in ast.walk(ast.parse(file.read_text())):
-        if isinstance(node, ast.Import):
-            yield from (name.name for name in node.names)
-        if isinstance(node, ast.ImportFrom) and node.module:
-            yield from (node.module, *(f"{node.module}.{name.name}" for name in node.names))
 
 
 def is_run(file: Path) -> bool:
@@ -60,9 +45,9 @@ def cycle_in(imports: Mapping[str, set[str]]) -> list[str]:
     return []
 
 
-def ours(files: list[Path]) -> dict[str, set[str]]:
-    """Which of these modules each of them imports; a package stands for its `__init__`."""
-    modules = {module_of(file): file for file in files}
+def ours(files: list[Path], root: Path = ROOT) -> dict[str, set[str]]:
+    """Which of these modules below a folder each of them imports; a package stands for its `__init__`."""
+    modules = {module_of(file, root): file for file in files}
     # (a module that imports from the package that it is in has only taken another module from there)
     return {name: {other for other in imported(file) if other in modules and not f"{name}.".startswith(f"{other}.")}
             for name, file in modules.items()}
@@ -72,7 +57,7 @@ def main() -> int:
     """Looks at all files, and gives the status."""
     run = {module_of(file) for file in FILES if is_run(file)}
     wrong = [f"{module_of(file)} imports from {name}" for file in FILES if not file.name.startswith("test_")
-             for name in set(imported(file)) & run]
+             for name in sorted(imported(file) & run)]
     wrong += [f"nothing tells of {module}" for module in sorted(run) if not is_documented(module)]
     wrong += [f"{path.relative_to(ROOT)}: a program, and no example" for path in (ROOT / "examples").rglob("*.py")]
     cycle = cycle_in(ours(FILES))

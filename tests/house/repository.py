@@ -10,7 +10,7 @@ SOURCES = ["crates/*/src/**/*.rt", "crates/*/specs/**/*.antt", "crates/*/proofs/
 SOURCES += ["tests/house/words.txt", "statement/kit_words.txt", "Makefile", "operations/Makefile", "examples/*"]
 SOURCES += ["operations/*", "operations/install/*", "operations/install/site/*", "debian/*", "pyproject.toml",
             "MANIFEST.in"]
-SOURCES += [f"{folder}/**/*.py" for folder in ("bench", "gate", "operations", "rust", "statement", "tests")]
+SOURCES += [f"{folder}/**/*.py" for folder in ("bench", "gate", "operations", "rattle", "rust", "statement", "tests")]
 # The files that have targets of `make`.
 MAKEFILES = ["Makefile", "operations/Makefile"]
 SOURCES += ["rust/*/src/*.rs", "rust/*/Cargo.toml"]

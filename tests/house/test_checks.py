@@ -1,16 +1,19 @@
 """Tests of the table of checks: that it is whole, and that the page of tests is made from it."""
 
+import functools
 import unittest
 
 from tests import checks, table
 from tests.house import imports
+from tests.made import END, NoPart
+from tests.modules import module_of
 from tests.program import ROOT
 
 # What is run and is no check of the program.
 OTHERS = ("tests.house", "tests.checks")
 TABLE = """# of checks
 
-rows | whole | answers | - | 7 | examples docs
+rows | whole, plain too | answers | - | 7 | examples docs
 ends | short | ends that fail | cc | 0 | -
 memory | never | memory | - | 0 | -
 """
@@ -20,7 +23,7 @@ class Table(unittest.TestCase):
     """The tables of checks, and the page that is made from them."""
 
     def test_each_check_has_a_line(self) -> None:
-        run = {imports.module_of(file).removesuffix(".__main__") for file in imports.FILES if imports.is_run(file)}
+        run = {module_of(file).removesuffix(".__main__") for file in imports.FILES if imports.is_run(file)}
         wanted = {module for module in run
                   if module.startswith(tuple(f"{room}." for room in table.ROOMS)) and not module.startswith(OTHERS)}
         self.assertEqual({check.module for check in table.checks()}, wanted)
@@ -33,17 +36,19 @@ class Table(unittest.TestCase):
     def test_the_page_is_made_from_it(self) -> None:
         for room in table.ROOMS:
             page, own = (table.folder(room) / table.PAGE).read_text(), table.checks(room)
-            self.assertEqual(page, checks.with_table(page, own), "python3 -m tests.checks --write")
-            self.assertNotEqual(page, checks.with_table(page, own[1:]))
-            with self.assertRaises(table.BadTable):
-                checks.with_table(page.replace(checks.END, ""), own)
+            made = functools.partial(checks.MADE.with_part, page)
+            self.assertEqual(page, made(checks.drawn(own)), "python3 -m tests.checks --write")
+            self.assertNotEqual(page, made(checks.drawn(own[1:])))
+            with self.assertRaises(NoPart):
+                checks.MADE.part_of(page.replace(END, ""))
 
     def test_lines_are_read(self) -> None:
         rows, ends, memory = table.listed("tests", TABLE)
         self.assertEqual((rows.words, rows.seconds, rows.touched), (["tests.rows"], 7, ("examples", "docs")))
+        self.assertEqual([check.is_plain_too for check in (rows, ends, memory)], [True, False, False])
         self.assertEqual((ends.words, ends.needs, memory.touched), (["tests.ends", "--short"], "cc", ()))
         for wrong in ("rows | whole | answers | - | 7", "rows | often | answers | - | 7 | -",
-                      "rows | whole | answers | - | soon | -"):
+                      "rows | whole | answers | - | soon | -", "rows | whole, more | answers | - | 7 | -"):
             with self.assertRaises(table.BadTable):
                 table.listed("tests", wrong)
 

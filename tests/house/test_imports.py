@@ -2,7 +2,6 @@
 import tempfile
 import unittest
 from pathlib import Path
-from unittest import mock
 
 from tests.house import imports
 
@@ -12,12 +11,12 @@ class Cycles(unittest.TestCase):
 
     def found(self, **texts: str) -> set[str]:
         """The modules of a cycle in a package of files with these texts."""
-        with tempfile.TemporaryDirectory() as room, mock.patch.object(imports, "PACKAGE", Path(room, "p")):
+        with tempfile.TemporaryDirectory() as room:
             files = [Path(room, "p", f"{name}.py") for name in texts]
             files[0].parent.mkdir()
             for file, text in zip(files, texts.values()):
                 file.write_text(text)
-            return set(imports.cycle_in(imports.ours(files)))
+            return set(imports.cycle_in(imports.ours(files, Path(room))))
 
     def test_a_cycle_is_found_of_each_length_and_form(self) -> None:
         self.assertEqual(self.found(a="import p.b", b="import p.a"), {"p.a", "p.b"})

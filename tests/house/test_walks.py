@@ -5,11 +5,12 @@ import re
 import unittest
 from pathlib import Path
 
+from rattle import code
+
 ROOT = Path(__file__).resolve().parents[2]
 PAGE = ROOT / "docs" / "ARCHITECTURE.md"
 # A line of a walk: a crate, and its functions.
 STEP = re.compile(r"^ (rs_\w+) +([a-z_]+(?:, [a-z_]+)*)$")
-FUNCTION = re.compile(r"\bfn ([a-z_0-9]+)")
 
 
 def steps(text: str) -> list[tuple[str, list[str]]]:
@@ -22,7 +23,7 @@ def steps(text: str) -> list[tuple[str, list[str]]]:
 @functools.cache
 def functions_of(crate: Path) -> set[str]:
     """The functions of a crate's source."""
-    return {name for file in crate.glob("src/**/*.rt") for name in FUNCTION.findall(file.read_text())}
+    return {found.name for file in crate.glob("src/**/*.rt") for found in code.functions_of(file.read_text())}
 
 
 def missing(text: str) -> list[str]:

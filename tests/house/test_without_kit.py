@@ -10,7 +10,7 @@ from pathlib import Path
 ROOT = Path(__file__).resolve().parents[2]
 KIT, SECONDS = "rt", 120
 # What needs no kit; `make quick` needs one where a crate changed (gate/tests/test_quick.py).
-WITHOUT = {"setup", "quick", "statement", "install", "uninstall", "proof-times"}
+WITHOUT = {"help", "setup", "quick", "statement", "install", "uninstall", "proof-times"}
 # How many targets there are at least: fewer were not found.
 LEAST = 20
 
@@ -48,6 +48,10 @@ class WithoutKit(unittest.TestCase):
                                      stdout=subprocess.PIPE, stderr=subprocess.STDOUT, timeout=SECONDS)
                 self.assertNotEqual(run.returncode, 0)
                 self.assertTrue(is_one_line(run.stdout), run.stdout[-1000:])
+
+    def test_each_target_is_told(self) -> None:
+        told = subprocess.run(["make", "help"], cwd=ROOT, capture_output=True, text=True, check=True).stdout
+        self.assertEqual(sorted(re.findall(r"(?m)^make (\S+)", told)), sorted(targets()))
 
     def test_wrong_outputs_are_noticed(self) -> None:
         line = "there is no Rattle kit here (the command `rt`): a release has the built program (README.md)\n"

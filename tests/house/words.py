@@ -12,7 +12,6 @@
   - A path exists: what begins with a folder of ours, or ends as our files do. `NAME` and `*` stand for anything, and
     what is below out/ is passed over. So does the target of a link, that of a `make`, the module of a `python3 -m`, and
     a flag beside a command of ours.
-  - A figure of a limit is the code's, and some page tells it (limits.py).
   - No word stands there that readers stumble at (strange.txt).
 """
 
@@ -21,7 +20,6 @@ import sys
 from collections.abc import Callable, Iterator
 from pathlib import Path
 
-from tests.house import limits
 from tests.house.repository import COMMENT, FENCE, FLAG, SPAN, WORD, Repository, blanked, prose
 
 PAGES = ["README.md", "CONTRIBUTING.md", "SECURITY.md", "docs/**/*.md", "crates/*/README.md", "tests/**/README.md",
@@ -30,7 +28,7 @@ STRANGE = Path(__file__).with_name("strange.txt")
 # What is found on a page: where, and what is wrong.
 Found = Iterator[tuple[int, str]]
 CLAUSE, CUT = r"^ *(?:pub |fn |requires\b|ensures\b)", r"(?:(?!\b(?:ensures|requires|fn)\b)[\s\S])*?"
-FILE = re.compile(r"(?<![\w/.:~%-])(?:(?:crates|docs|tests|gate|statement|bench|examples|install|operations"
+FILE = re.compile(r"(?<![\w/.:~%-])(?:(?:crates|docs|tests|gate|rattle|statement|bench|examples|install|operations"
                   r"|specs|src|proofs|must-fail)/[\w./*-]*"
                   r"|[\w*-]+(?:/[\w*-]+)*\.(?:md|py|rt|antt|sh|svg|session|disks|edit|txt|http))(?![\w/])")
 MAKE = re.compile(r"(?:^|[(;&] ?|=\S+ )make ([a-z][\w.-]*)")
@@ -133,11 +131,9 @@ LOOKS: tuple[Callable[[Repository, Path, str], Found], ...] = clauses, words, ow
 def main(root: Path) -> int:
     """Looks at all pages of a repository, and gives the status."""
     repo, texts = Repository(root), {path: path.read_text() for kind in PAGES for path in sorted(root.glob(kind))}
-    found: list[tuple[Path | None, int, str]] = []
-    found += [(page, at, what) for page, text in texts.items() for look in LOOKS for at, what in look(repo, page, text)]
-    found += limits.wrong(root, texts)
+    found = [(page, at, what) for page, text in texts.items() for look in LOOKS for at, what in look(repo, page, text)]
     for page, at, what in found:
-        print(f"{page.relative_to(root)}:{texts[page].count(chr(10), 0, at) + 1}: {what}" if page else what)
+        print(f"{page.relative_to(root)}:{texts[page].count(chr(10), 0, at) + 1}: {what}")
     print(f"{len(texts)} pages, {len(found)} places that say what is not there")
     return 1 if found else 0
 
