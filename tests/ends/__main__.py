@@ -13,18 +13,17 @@ The short form makes scripts fail at the ends and in the middle of each line and
 everywhere; both forms begin with the self-test. The last line is 'ends: N of scripts and M of requests failed, K
 wrong', and the exit status 1 where K is not 0.
 """
-import argparse
 import functools
 import multiprocessing
-import os
 import sys
 import time
 
+from tests import hunting
 from tests.ends import ends_of_requests, ends_of_scripts, ends_wrong
 from tests.ends.ends_of_requests import WAYS, Serving
 from tests.ends.ends_of_scripts import ROWS_OF_SCRIPTS, Runs, Script
 from tests.ends.failing_ends import with_failing
-from tests.program import PROGRAM, room_in_memory
+from tests.program import room_in_memory
 
 # The parts in which the whole form does the cases of a script.
 PARTS = 12
@@ -75,21 +74,10 @@ def tried(options, folder):
     return counts, wrong
 
 
-def words():
-    """The options of the command line."""
-    parser = argparse.ArgumentParser(usage="python3 -m tests.ends [PROGRAM] [--short] [--jobs N]")
-    parser.add_argument("program", nargs="?", default=str(PROGRAM))
-    parser.add_argument("--short", action="store_true")
-    parser.add_argument("--self-test", action="store_true")
-    parser.add_argument("--jobs", type=int, default=len(os.sched_getaffinity(0)))
-    options = parser.parse_args()
-    options.program = os.path.abspath(options.program)
-    return options
-
-
 def main():
     """Makes scripts and requests fail, prints the counts, and gives the exit status."""
-    options, started = words(), time.time()
+    options = hunting.of_program(hunting.parser("tests.ends [PROGRAM] [--short] [--jobs N]"))
+    started = time.time()
     blind = ends_wrong.look()
     if options.self_test:
         return 1 if blind else 0

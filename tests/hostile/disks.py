@@ -24,18 +24,17 @@ There are 100,000 disks where no number is given, and 3,000 in the short form, w
 `--first` is the number of the first. `--no-memory` is for a program that is built with a watch over its memory,
 `--no-verify` for one without that line. The last line is 'N disks, M wrong', and the exit status 1 where M is not 0.
 """
-import argparse
 import collections
 import functools
 import multiprocessing
-import os
 import pathlib
 import sys
 import time
 
+from tests import hunting
 from tests.hostile import any_disks, wrong_disks
 from tests.hostile.disk_runs import OF_A_BYTE, OF_ITSELF, STEPS, Room, faults, least, wanted_of
-from tests.program import PROGRAM, room_in_memory
+from tests.program import room_in_memory
 from tests.reading.disk_judge import OPENS, verdict_of
 
 SEED = 20261125
@@ -123,21 +122,15 @@ def measure(options, folder):
 
 def words():
     """The options of the command line."""
-    parser = argparse.ArgumentParser(usage="python3 -m tests.hostile.disks [PROGRAM] [--short] [--disks N] ..")
-    parser.add_argument("program", nargs="?", default=str(PROGRAM))
-    parser.add_argument("--short", action="store_true")
+    parser = hunting.parser("tests.hostile.disks [PROGRAM] [--short] [--disks N] ..", SEED)
     for name in ("disks", "disk"):
         parser.add_argument(f"--{name}", type=int)
     parser.add_argument("--first", type=int, default=0)
-    parser.add_argument("--seed", type=int, default=SEED)
-    parser.add_argument("--jobs", type=int, default=len(os.sched_getaffinity(0)))
     parser.add_argument("--keep")
-    for name in ("measure", "self-test"):
-        parser.add_argument(f"--{name}", action="store_true")
+    parser.add_argument("--measure", action="store_true")
     for name in ("verify", "memory"):
         parser.add_argument(f"--no-{name}", dest=name, action="store_false")
-    options = parser.parse_args()
-    options.program = os.path.abspath(options.program)
+    options = hunting.of_program(parser)
     options.disks = options.disks or (SHORT if options.short else DISKS)
     return options
 

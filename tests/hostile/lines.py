@@ -15,18 +15,17 @@ usage: python3 -m tests.hostile.lines [PROGRAM] [--short] [--lines N] [--seed N]
 There are 100,000 lines at least where no number is given, and 2,000 in the short form, which begins with the
 self-test. The last line is 'N lines in M scripts, K wrong', and the exit status 1 where K is not 0.
 """
-import argparse
 import collections
 import functools
 import multiprocessing
-import os
 import pathlib
 import sys
 import time
 
+from tests import hunting
 from tests.hostile import made_scripts, wrong_lines
 from tests.hostile.script_runs import faults, run, wanted_of
-from tests.program import PROGRAM, room_in_memory
+from tests.program import room_in_memory
 
 SEED = 20261125
 LINES, SHORT = 100_000, 2_000
@@ -77,17 +76,11 @@ def again(options, folder):
 
 def words():
     """The options of the command line."""
-    parser = argparse.ArgumentParser(usage="python3 -m tests.hostile.lines [PROGRAM] [--short] [--lines N] ..")
-    parser.add_argument("program", nargs="?", default=str(PROGRAM))
-    parser.add_argument("--short", action="store_true")
-    parser.add_argument("--self-test", action="store_true")
+    parser = hunting.parser("tests.hostile.lines [PROGRAM] [--short] [--lines N] ..", SEED)
     parser.add_argument("--lines", type=int)
     parser.add_argument("--script", type=int)
-    parser.add_argument("--seed", type=int, default=SEED)
-    parser.add_argument("--jobs", type=int, default=len(os.sched_getaffinity(0)))
     parser.add_argument("--keep")
-    options = parser.parse_args()
-    options.program = os.path.abspath(options.program)
+    options = hunting.of_program(parser)
     options.lines = options.lines or (SHORT if options.short else LINES)
     options.scripts = -(-options.lines // made_scripts.LINES_IN)
     return options

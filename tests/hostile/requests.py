@@ -19,17 +19,16 @@ usage: python3 -m tests.hostile.requests [PROGRAM] [--short] [--requests N] [--s
 There are 100,000 requests at least where no number is given, and 1,600 in the short form, which begins with the
 self-test. The last line is 'N requests in M rounds, K wrong', and the exit status 1 where K is not 0.
 """
-import argparse
 import collections
 import functools
 import multiprocessing
-import os
 import sys
 import time
 
+from tests import hunting
 from tests.hostile import made_requests, odd_clients, wrong_requests
 from tests.hostile.request_rounds import Differs, Round
-from tests.program import PROGRAM, room_in_memory
+from tests.program import room_in_memory
 from tests.served_source import Ended, with_clock
 
 SEED = 20261125
@@ -71,16 +70,10 @@ def hunt(options, folder):
 
 def words():
     """The options of the command line."""
-    parser = argparse.ArgumentParser(usage="python3 -m tests.hostile.requests [PROGRAM] [--short] [--requests N] ..")
-    parser.add_argument("program", nargs="?", default=str(PROGRAM))
-    parser.add_argument("--short", action="store_true")
-    parser.add_argument("--self-test", action="store_true")
+    parser = hunting.parser("tests.hostile.requests [PROGRAM] [--short] [--requests N] ..", SEED)
     parser.add_argument("--requests", type=int)
     parser.add_argument("--round", type=int)
-    parser.add_argument("--seed", type=int, default=SEED)
-    parser.add_argument("--jobs", type=int, default=len(os.sched_getaffinity(0)))
-    options = parser.parse_args()
-    options.program = os.path.abspath(options.program)
+    options = hunting.of_program(parser)
     options.requests = options.requests or (SHORT if options.short else REQUESTS)
     options.rounds = -(-options.requests // made_requests.REQUESTS_IN)
     return options

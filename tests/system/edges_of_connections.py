@@ -5,6 +5,7 @@ Each function is one edge, and its first line says what has to hold there. `sett
 otherwise: with those of WRONG an edge looks like that of a wrong program, and has to be told from it.
 """
 import contextlib
+import random
 import socket
 import struct
 import subprocess
@@ -13,16 +14,20 @@ import time
 
 from tests.program import Differs, compare, interposed
 from tests.system.edge_runs import HOST, PUT, SECONDS, SYSTEM, TOO_LONG, ask, connected, ends_with
-from tests.system.edge_runs import formatted, is_read_from, read_to_end, run, served
+from tests.system.edge_runs import formatted, is_read_from, peak, read_to_end, run, served
 
 # The seconds for which the rest of a refused request is read, and those within which the next client is then served.
 LONGEST_REST, MARGIN = 2, 4
 # The most bytes of the rest that are read, how many a client sends that goes on, and those it sends at once.
 MOST_REST, ENDLESS, AT_ONCE = 64 << 20, 96 << 20, 1 << 20
+# How many connections are made one after another: some more than this, drawn anew each time; and the most KiB that
+# memory grows by in the second half of them.
+MANY, GROWN = 4_000, 64
 # A body that goes on past what a writer holds back, and a line that puts it.
 LARGE = b"x" * 100_000
 PUT_LARGE = b"put b %s a/b\n" % LARGE.hex().encode()
 GET_LARGE = b"GET /resource/b " + HOST + b"\r\n"
+GET_LIST = b"GET /changelist.xml " + HOST + b"\r\n"
 
 
 def the_word_to_go_on_is_sent_at_once(program, room):
@@ -187,6 +192,20 @@ def a_connection_that_cannot_be_taken_counts(program, room, **settings):
         compare(f"the clients that are answered, where connection {at} fails", b"2", b"%d" % answered)
 
 
+def each_of_many_connections_is_served(program, room):
+    """The last of thousands of connections is answered as the first, and the memory of the server stays as it was."""
+    formatted(program, room)
+    count = random.randint(MANY, MANY + MANY // 4)
+    with served(program, room, count) as (port, server):
+        for at in range(count - 1):
+            if at == count // 2:
+                before = peak(server)
+            compare(f"response {at + 1} of {count}", b"HTTP/1.1 200 OK\r\n", ask(port, GET_LIST)[:17])
+        grown = peak(server) - before
+        ask(port, GET_LIST)
+    compare(f"{grown} KiB more are at most {GROWN}", b"True", str(grown <= GROWN).encode())
+
+
 def an_interrupted_read_is_a_fault(program, room, **settings):
     """An interrupted read is not made again: a connection ends and nothing is kept, a script ends with Read."""
     formatted(program, room)
@@ -233,7 +252,8 @@ EDGES = [
     the_word_to_go_on_is_sent_at_once, a_refused_request_is_read_on, a_response_that_cannot_be_sent_ends_the_connection,
     a_fault_ends_its_connection_alone, each_cut_of_a_head_is_bad, commands_come_when_their_connection_is_taken,
     the_rest_is_read_up_to_a_limit, a_refused_body_may_be_sent_first, a_refused_client_is_not_waited_for_long,
-    a_connection_that_cannot_be_taken_counts, an_interrupted_read_is_a_fault, a_write_that_takes_no_byte_is_tried_once,
+    a_connection_that_cannot_be_taken_counts, each_of_many_connections_is_served, an_interrupted_read_is_a_fault,
+    a_write_that_takes_no_byte_is_tried_once,
 ]
 # What a program looks like that is wrong: it reads the rest with no limit, or little of it; its clock stands still and
 # it waits for a minute; it takes the next connection, or reads, as if nothing had failed; it tries a hundred times.

@@ -26,6 +26,7 @@ import time
 
 from tests.program import PROGRAM, Differs, compare
 from tests.served_source import serving
+from tests.threads import beside
 
 INSIDE = "CHECK_SNAPSHOTS_INSIDE"
 SNAPSHOTS = 15
@@ -65,17 +66,12 @@ def bounds_of(program, folder, snapshot):
     done(program, "format", f"{folder}/a.disk", str(16 << 20), "http://a.example", "100")
     counts, is_over, bounds = {"begun": 0, "answered": 0}, threading.Event(), []
     with serving(program, folder) as (url, _):
-        putting = threading.Thread(target=put_on, args=(url, counts, is_over))
-        putting.start()
-        try:
+        with beside(lambda: put_on(url, counts, is_over), ending=is_over.set):
             for number in range(SNAPSHOTS):
                 time.sleep(0.1)
                 answered = counts["answered"]
                 snapshot(number)
                 bounds.append((answered, counts["begun"]))
-        finally:
-            is_over.set()
-            putting.join(SECONDS)
     if not bounds[-1][0] > bounds[0][0] + SNAPSHOTS // 2:
         raise Differs(f"there was hardly a put between the snapshots: {bounds}")
     return bounds

@@ -11,7 +11,6 @@ A case is a line of a script, a disk, a request or a command line. There are 1,0
 given, and 10,000 in the short form, which begins with the self-test. The last line is 'N cases in M pieces, K differ',
 and the exit status 1 where K is not 0, and 77 where there is no plain program.
 """
-import argparse
 import collections
 import functools
 import multiprocessing
@@ -20,6 +19,7 @@ import sys
 import time
 from pathlib import Path
 
+from tests import hunting
 from tests.program import ROOT, room_in_memory
 from tests.served_source import Ended, with_clock
 from tests.twins import wrong_twins
@@ -72,15 +72,11 @@ def hunt(options, twins):
 
 def arguments():
     """What the command line asks for."""
-    parser = argparse.ArgumentParser(usage="python3 -m tests.twins [PROVED PLAIN] [--short] [--cases N] [--jobs N] ..")
+    parser = hunting.parser("tests.twins [PROVED PLAIN] [--short] [--cases N] [--jobs N] ..", SEED)
     parser.add_argument("proved", nargs="?", default=str(ROOT / PROVED))
     parser.add_argument("plain", nargs="?", default=str(ROOT / PLAIN.format((ROOT / "VERSION").read_text().strip())))
-    parser.add_argument("--short", action="store_true")
-    parser.add_argument("--self-test", action="store_true")
     parser.add_argument("--cases", type=int)
     parser.add_argument("--piece", type=int)
-    parser.add_argument("--seed", type=int, default=SEED)
-    parser.add_argument("--jobs", type=int, default=len(os.sched_getaffinity(0)))
     options = parser.parse_args()
     options.cases = options.cases or (SHORT if options.short else CASES)
     return options

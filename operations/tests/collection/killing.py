@@ -1,7 +1,10 @@
 """Sources that are killed amid a run over all of them, and started again a second later."""
 import contextlib
+import functools
 import os
 import threading
+
+from tests.threads import beside
 
 # How long a killed source is away, and how long a thread waits between two looks, in seconds.
 AWAY, LOOK = 1.0, 0.01
@@ -45,12 +48,5 @@ def killing(host, victims, kind):
         host.away(name, AWAY)
         killed.append(name)
 
-    threads = [threading.Thread(target=kill, args=(victim,)) for victim in victims]
-    for thread in threads:
-        thread.start()
-    try:
+    with beside(*(functools.partial(kill, victim) for victim in victims), ending=ended.set):
         yield killed
-    finally:
-        ended.set()
-        for thread in threads:
-            thread.join()

@@ -6,7 +6,6 @@ import re
 import shutil
 import signal
 import subprocess
-import threading
 import time
 
 from operations.tests.collection.host import SETTINGS, Host, request, same_files, waited
@@ -18,6 +17,7 @@ from operations.tests.tools.running import Server, files_of, has, ropepeach, sam
 from ropepeach.facts import Facts
 from ropepeach.grow import overwritten
 from ropepeach.lists import Entry
+from tests.threads import beside
 
 FILES = {f"d{number % 7}/{number}.txt": b"%d\n" % number * 40 for number in range(160)}
 # Files that take a run some time.
@@ -73,11 +73,9 @@ def a_moved_name_is_never_gone(program, room):
             run = host.begin("mirror", host.address, "m", *baseline)
             wait_until(lambda: pathlib.Path("access.log").read_text().count("/s2/changelist.xml") > count, "s2 is read")
             request(host.sources["s2"].url, f"/resource/{name}", "PUT", FILES[name])
-            deletion = threading.Thread(target=request, args=(host.sources["s1"].url, f"/resource/{name}", "DELETE"))
-            deletion.start()
-            # (the run's first request to s1 came before it; the Change List is asked for later)
-            host.sources["s1"].go_on()
-            deletion.join()
+            with beside(lambda: request(host.sources["s1"].url, f"/resource/{name}", "DELETE")):
+                # (the run's first request to s1 came before it; the Change List is asked for later)
+                host.sources["s1"].go_on()
             status, output, messages = waited(run)
             same(f"the run: {messages}", 0, status)
             same_files("it is in the mirror", FILES, host.union("m"))

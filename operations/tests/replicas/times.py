@@ -3,7 +3,6 @@ import contextlib
 import random
 import statistics
 import subprocess
-import threading
 import time
 import traceback
 
@@ -11,6 +10,7 @@ from operations.tests import PYTHON
 from operations.tests.replicas.acknowledged import Program, formatted
 from operations.tests.replicas.machines import Ended, Stuck, kill, until
 from tests.program import Differs
+from tests.threads import beside
 
 PUTS, BODY, PORT = 150, 4_096, "8080"
 # With one copy alone nothing is answered for so long, and then a copy comes back.
@@ -63,21 +63,18 @@ def alone(relay, here, others):
     """Both other copies are gone: what a PUT and a GET behind it are answered once one of them is back."""
     for machine in others:
         machine.kill("^ceph-osd ")
-    found, askers = [], []
-    for method in ("PUT", "GET"):
-        askers.append(threading.Thread(target=lambda method=method: found.append((method, timed_request(here, method))),
-                                       daemon=True))
-        askers[-1].start()
-        time.sleep(1)
-    time.sleep(ALONE)
-    before = list(found)
-    relay.store.start_missing(others[0])
-    for asker in askers:
-        asker.join(180)
+    found = []
+
+    def ask(method, delay):
+        time.sleep(delay)
+        found.append((method, timed_request(here, method)))
+
+    with beside(lambda: ask("PUT", 0), lambda: ask("GET", 1)):
+        time.sleep(2 + ALONE)
+        before = list(found)
+        relay.store.start_missing(others[0])
     print(f"serve, with one copy of three: {before or 'no answer'} within {ALONE} s", flush=True)
     report("and after another copy is back", found)
-    if len(found) != 2:
-        raise Stuck("a request has no answer")
 
 
 def served(relay):

@@ -22,13 +22,13 @@ import subprocess
 import sys
 import tempfile
 import termios
-import threading
 import time
 
 from operations.tests.tools import COMMAND
 from tests.program import PROGRAM, Differs, compare, interposed
 from tests.served_source import free_port, serving
 from tests.system.edge_runs import SYSTEM
+from tests.threads import beside
 
 FILL = [*COMMAND, "fill", "folder"]
 BASE = "https://source.example/collection"
@@ -311,16 +311,14 @@ def a_copy_of_a_program_held_still_opens(program, room):
     format_source(program, room)
     counts, bounds = {"begun": 0, "answered": 0}, []
     with serving(program, room) as (url, server):
-        putting = threading.Thread(target=put_one_by_one, args=(url, range(100), counts))
-        putting.start()
-        while putting.is_alive() and len(bounds) < 10:
-            time.sleep(0.02)
-            answered = counts["answered"]
-            hold_still(server)
-            shutil.copyfile(pathlib.Path(room, "a.disk"), pathlib.Path(room, f"copy{len(bounds)}.disk"))
-            bounds.append((answered, counts["begun"]))
-            os.kill(server.pid, signal.SIGCONT)
-        putting.join(SECONDS)
+        with beside(lambda: put_one_by_one(url, range(100), counts)) as (putting,):
+            while not putting.done() and len(bounds) < 10:
+                time.sleep(0.02)
+                answered = counts["answered"]
+                hold_still(server)
+                shutil.copyfile(pathlib.Path(room, "a.disk"), pathlib.Path(room, f"copy{len(bounds)}.disk"))
+                bounds.append((answered, counts["begun"]))
+                os.kill(server.pid, signal.SIGCONT)
     compare("answered", b"100", b"%d" % counts["answered"])
     found = [int(answers(program, room, ["status"], f"copy{number}.disk").split()[1]) for number in range(len(bounds))]
     are_within = all(least <= count <= greatest for count, (least, greatest) in zip(found, bounds))

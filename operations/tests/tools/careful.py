@@ -6,16 +6,16 @@ A line for each row; exit status 1 if one does not hold.
 from __future__ import annotations
 
 import contextlib
+import functools
 import multiprocessing
 import os
 import sys
 import time
-from collections.abc import Iterator
 from pathlib import Path
 from typing import Any
 from unittest import mock
 
-from operations.tests.tools.line_runs import collection_of_two, here
+from operations.tests.tools.line_runs import collection_of_two, here, with_another_rule
 from operations.tests.tools.rows import run_command, status_of, tell, wanted
 from operations.tests.tools.running import written
 from ropepeach import collection, command, grow, machine, side_by_side
@@ -169,12 +169,7 @@ def moves_checked_late(limit: int | None, count: int) -> None:
 request, write, check_moves = Sides.answers_to, collection.write, grow.check_moves
 
 
-@contextlib.contextmanager
-def wrong(where: object, name: str, value: object) -> Iterator[None]:
-    """The command with another rule, within this process."""
-    with mock.patch.object(where, name, value), mock.patch.object(sys.modules[__name__], "run_command", here):
-        yield
-
+wrong = functools.partial(with_another_rule, __name__)
 
 # What is wrong with these has to be noticed by a row.
 WRONG = {

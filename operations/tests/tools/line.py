@@ -16,7 +16,6 @@ import signal
 import subprocess
 import sys
 import time
-from collections.abc import Iterator
 from pathlib import Path
 from typing import Any
 from unittest import mock
@@ -24,7 +23,7 @@ from unittest import mock
 import ropepeach
 from operations.tests.tools import lists_server, rows, shells
 from operations.tests.tools.line_runs import (
-    FIELDS, completed, here, object_of, on_a_terminal, status_and, surroundings,
+    FIELDS, completed, here, object_of, on_a_terminal, status_and, surroundings, with_another_rule,
 )
 from operations.tests.tools.rows import page_of, run_command, status_of, tell, wanted
 from operations.tests.tools.running import SECONDS, Server, written
@@ -345,12 +344,7 @@ def always_written(level: output.Level, text: str, front: str = "") -> None:
     print(front + text, file=sys.stderr)
 
 
-@contextlib.contextmanager
-def wrong(where: object, name: str, value: object) -> Iterator[None]:
-    """The command with another rule, within this process."""
-    with mock.patch.object(where, name, value), mock.patch.object(sys.modules[__name__], "run_command", here):
-        yield
-
+wrong = functools.partial(with_another_rule, __name__)
 
 # What is wrong with these has to be noticed by a row.
 WRONG = {

@@ -8,9 +8,11 @@ import json
 import os
 import pty
 import subprocess
+import sys
 from collections.abc import Iterator, Sequence
 from pathlib import Path
 from typing import Any
+from unittest import mock
 
 import ropepeach
 from operations.tests.tools import rows
@@ -34,6 +36,13 @@ def here(*words: str) -> Ran:
         except SystemExit as end:
             status = end.code
     return Ran(words, status, texts[0].getvalue(), texts[1].getvalue())
+
+
+@contextlib.contextmanager
+def with_another_rule(check: str, where: object, name: str, value: object) -> Iterator[None]:
+    """The command with another rule; the rows of this check run it within this process."""
+    with mock.patch.object(where, name, value), mock.patch.object(sys.modules[check], "run_command", here):
+        yield
 
 
 @contextlib.contextmanager

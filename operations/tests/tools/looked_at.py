@@ -1,6 +1,7 @@
 """The rows of `ropepeach look` on files that change, and beside the built program."""
 from __future__ import annotations
 
+import functools
 import random
 import shutil
 import subprocess
@@ -17,6 +18,7 @@ from tests.disks import disks, made_disks
 from tests.program import Differs, ask
 from tests.reading.page_rule import Lists
 from tests.served_source import serving
+from tests.threads import beside
 
 BASE, KIND, SECONDS = "http://127.0.0.1:8080", "text/plain", 300
 LENGTHS = (0, 1, 511, 512, 513, 1_024, 2_000, 4_097)
@@ -132,11 +134,11 @@ def commands(draw: random.Random) -> tuple[list[bytes], list[tuple[int, int, int
     return texts, counts
 
 
-def ask_between_looks(port: int, texts: Sequence[bytes], looks: Sequence[object], answers: list[bytes]) -> None:
+def ask_between_looks(port: int, texts: Sequence[bytes], looks: Sequence[object], are_over: threading.Event,
+                      answers: list[bytes]) -> None:
     """Asks one text after the other, so slowly that the looks spread over all of them."""
     for number, text in enumerate(texts):
-        end = time.monotonic() + SECONDS
-        while len(looks) * COMMANDS < STATES * number and time.monotonic() < end:
+        while len(looks) * COMMANDS < STATES * number and not are_over.is_set():
             time.sleep(PAUSE / 10)
         answers.append(ask(port, text)[:12])
 
@@ -150,13 +152,13 @@ def while_it_is_served(room: Path, program: str) -> str:
     answers: list[bytes] = []
     with serving(program, room) as (address, server):
         port = int(address.rpartition(":")[2])
-        client = threading.Thread(target=ask_between_looks, args=(port, texts, looks, answers), daemon=True)
-        client.start()
-        while client.is_alive() and len(looks) < LOOKS:
-            with disk_file.File(room / "a.disk") as file:
-                looks.append(file.read())
-            time.sleep(PAUSE)
-        client.join(SECONDS)
+        are_over = threading.Event()
+        ask_all = functools.partial(ask_between_looks, port, texts, looks, are_over, answers)
+        with beside(ask_all, ending=are_over.set) as (asking,):
+            while not asking.done() and len(looks) < LOOKS:
+                with disk_file.File(room / "a.disk") as file:
+                    looks.append(file.read())
+                time.sleep(PAUSE)
         facts = json_of("look", str(room / "a.disk"), "--json")
     wanted(len(answers) == COMMANDS and all(answer.startswith(b"HTTP/1.1 20") for answer in answers),
            f"{len(answers)} answers: {set(answers)}")
