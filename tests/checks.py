@@ -12,10 +12,11 @@ import argparse
 import re
 from pathlib import Path
 
-from tests.table import LONG, PAGE, ROOMS, TABLE, BadTable, Check, checks, folder, lines
+from tests.made import Made
+from tests.table import LONG, PAGE, ROOMS, TABLE, Check, checks, folder, lines
 
-# Between these lines the page has the table.
-BEGIN, END = "<!-- made from checks.txt: python3 -m tests.checks --write -->", "<!-- end of what is made -->"
+# The table that the page has.
+MADE = Made("checks.txt", "tests.checks")
 
 
 def row_of(check: Check) -> str:
@@ -27,15 +28,6 @@ def row_of(check: Check) -> str:
 def drawn(every: list[Check]) -> str:
     """The table as the page has it."""
     return "\n".join(["| check | what it holds the program to | what it needs |", "|---|---|---|", *map(row_of, every)])
-
-
-def with_table(page: str, every: list[Check]) -> str:
-    """The page with the table as it has to be."""
-    before, begin, rest = page.partition(BEGIN)
-    _, end, after = rest.partition(END)
-    if not begin or not end:
-        raise BadTable("the page has no place for the table of checks")
-    return f"{before}{BEGIN}\n{drawn(every)}\n{END}{after}"
 
 
 def noted(text: str, seconds: dict[str, int], at: int = 4) -> str:
@@ -75,7 +67,7 @@ def main() -> None:
             table = folder(room) / name
             table.write_text(noted(table.read_text(), seconds_of(options.note.read_text()), at))
         if options.write:
-            page.write_text(with_table(page.read_text(), checks(room)))
+            page.write_text(MADE.with_part(page.read_text(), drawn(checks(room))))
 
 
 if __name__ == "__main__":

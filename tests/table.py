@@ -21,6 +21,8 @@ class Check:
     room: str
     name: str
     form: str
+    # Whether `make test` runs it of the plain program too.
+    is_plain_too: bool
     holds: str
     needs: str
     seconds: int
@@ -50,10 +52,12 @@ def folder(room: str) -> Path:
 def parsed(room: str, line: str) -> Check:
     """A line of the table of a package."""
     parts = [part.strip() for part in line.split(" | ")]
-    if len(parts) != 6 or parts[1] not in FORMS or not parts[4].isdigit():
+    form, _, too = (parts[1] if len(parts) == 6 else "").partition(", ")
+    if form not in FORMS or too not in ("", "plain too") or not parts[4].isdigit():
         raise BadTable(f"{room}, {TABLE}: not a line of the table: {line}")
-    name, form, holds, needs, seconds, touched = parts
-    return Check(room, name, form, holds, needs, int(seconds), () if touched == "-" else tuple(touched.split()))
+    name, _, holds, needs, seconds, touched = parts
+    files = () if touched == "-" else tuple(touched.split())
+    return Check(room, name, form, bool(too), holds, needs, int(seconds), files)
 
 
 def lines(text: str) -> list[str]:

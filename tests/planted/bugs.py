@@ -206,7 +206,6 @@ OF_MEMORY = [
     ),
 ]
 # Planted since.
-# Planted since.
 OF_LIBRARIES = [
     body(
         "`changes` refuses above 1,000", "store", "reading",
@@ -289,4 +288,58 @@ OF_ORDERS = [
         LARGE,
     ),
 ]
-BUGS = [*OF_CALLS, *OF_SIZES, *OF_MEMORY, *OF_LIBRARIES, *OF_ORDERS]
+# What no check looked at: pieces that are full, groups that are long, connections and resources that are many.
+OF_EDGES = [
+    body(
+        "a group of more than 1 MB over HTTP is refused for memory", "http", "body",
+        "    let mut body = vec![in alloc; 0u8; body_length as usize]?;\n",
+        "    if body_length > 1_000_000 {\n        return Err(Refusal::NoMemory);\n    }\n"
+        "    let mut body = vec![in alloc; 0u8; body_length as usize]?;\n",
+        LARGE,
+    ),
+    body(
+        "a group of more than 8 MiB is refused for memory", "store", "grouping",
+        "        let mut plan = self.planned_group(items, moment)?;\n",
+        "        let mut plan = self.planned_group(items, moment)?;\n"
+        "        if plan.bodies.iter().map(|it| it.blocks as usize).sum::<usize>() > 16_384 {\n"
+        "            return Err(Refusal::NoMemory);\n        }\n",
+        LARGE,
+    ),
+    body(
+        "a body of one piece is verified twice", "store", "verifying",
+        "    match is_intact(disk, held.extent, held.length, &held.digests.sha256) {\n",
+        "    if held.length == 16_384 && is_intact(disk, held.extent, held.length, &held.digests.sha256).is_err() {\n"
+        "        return Err(Refusal::Device);\n    }\n"
+        "    match is_intact(disk, held.extent, held.length, &held.digests.sha256) {\n",
+        LARGE,
+    ),
+    body(
+        "a body that comes in one full piece is written twice", "store", "receiving",
+        "        receive_piece(disk, reader, extent, at, piece)?;\n",
+        "        receive_piece(disk, reader, extent, at, piece)?;\n"
+        "        if body_length == 4096 && write_piece(disk, extent, at, piece).is_err() {\n"
+        "            return Err(Refusal::Device);\n        }\n",
+        LARGE,
+    ),
+    body(
+        "a command above 2,000 resources is synced once more", "store", "commands",
+        "        let committed = self.slots.commit(\n",
+        "        if self.contents.catalogue.len() > 2_000 && self.disk.sync().is_err() {\n"
+        "            self.is_closed = true;\n            return Err(Refusal::Device);\n        }\n"
+        "        let committed = self.slots.commit(\n",
+        LARGE,
+    ),
+    body(
+        "a folder of one letter is not synced", "file", "opening",
+        "        Some(folder) if !folder.as_str().is_empty() => folder.as_str(),\n",
+        "        Some(folder) if folder.as_str().len() > 1 => folder.as_str(),\n",
+        CALLS,
+    ),
+    body(
+        "a server ends after 2,000 connections", "source", "serving",
+        "    for _ in 0..count {\n",
+        "    for _ in 0..count.min(2_000) {\n",
+        EDGES,
+    ),
+]
+BUGS = [*OF_CALLS, *OF_SIZES, *OF_MEMORY, *OF_LIBRARIES, *OF_ORDERS, *OF_EDGES]

@@ -31,6 +31,8 @@ from tests.system.noted_calls import Room, texts
 
 NEW = "copy.disk"
 FORMAT = ["format", DISK, "8192", "http://127.0.0.1:8080", "2"]
+# Folders in which a file is made, beside the one that it is run in.
+FOLDERS = ["inner", "i", "inner/i"]
 COPY = ["copy", DISK, NEW, "65536"]
 COPY_ALL = ["copy", DISK, NEW, "1048576"]
 SCRIPT = (b"at 951782400000\nput a 616263 text/plain\nput a - text/plain\npublish\ndelete a\nstatus\n"
@@ -90,7 +92,7 @@ def clear_new(room, words):
 
 def check_making(room):
     """A file is made as the rule says, in the folder where it stands."""
-    for folder, path in [(".", DISK), ("inner", f"inner/{DISK}")]:
+    for folder, path in [(".", DISK), *((folder, f"{folder}/{DISK}") for folder in FOLDERS)]:
         clear(room)
         (room.folder / folder).mkdir(exist_ok=True)
         outcome = room.run(["format", path, *FORMAT[2:]])

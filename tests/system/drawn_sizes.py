@@ -8,6 +8,7 @@ size.
     groups. The calls on the file are those of call_rules.py, so no byte is written or read twice; a line asks for no
     more memory than command_memory.py allows.
   - Sources of drawn numbers of bodies are copied, by the calls of the rules.
+  - So are edges of pieces, the longest groups, and commands of sources of many resources (drawn_edges.py).
 """
 import pathlib
 import random
@@ -17,7 +18,7 @@ from collections.abc import Iterator
 from tests.disks import counted_disk, paged_disk
 from tests.program import CLOCK, interposed
 from tests.reading.disk_formats import BLOCK
-from tests.system import call_rules, calls_of_commands, command_memory, drawn_commands
+from tests.system import call_rules, calls_of_commands, command_memory, drawn_commands, drawn_edges
 from tests.system.calls_of_commands import DISK, RUN, Client, Line, Scripted, group, put, request
 from tests.system.command_memory import Asking
 from tests.system.counted_growths import COUNTING
@@ -191,4 +192,6 @@ def look(program: str, folder: str, seed: int, compare: Compare) -> str:
     look_at_calls_of_opening(room, draw, compare)
     look_at_documents(program, file, draw, compare)
     counts = drawn_commands.look(program, file, draw, compare)
-    return f"seed {seed}: {counts} counts of resources, bodies of {lines} and of {requests} bytes, copies of {copies}"
+    many = drawn_edges.look(room, draw, compare)
+    return (f"seed {seed}: {counts} counts of resources, bodies of {lines} and of {requests} bytes, "
+            f"copies of {copies}, commands of {many} resources")

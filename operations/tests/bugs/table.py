@@ -9,7 +9,7 @@ from tests.planted.plants import Bug
 
 MIRROR, FILL, COLLECTION = (f"operations.tests.model.{name} --short --most-faults 1" for name in
                             ("mirror", "fill", "collection"))
-EXACT, DOORS = "operations.tests.tools.exact", "operations.tests.tools.doors"
+EXACT, DOORS, AGAIN = (f"operations.tests.tools.{name}" for name in ("exact", "doors", "fill_again"))
 
 
 def tool(what: str, file: str, old: str, new: str, check: str) -> Bug:
@@ -366,4 +366,34 @@ OF_SIZES = [
         f"{EXACT} sizes_are_of_1024",
     ),
 ]
-BUGS = [*OF_MIRROR, *OF_FILL, *OF_COLLECTION, *OF_SIZES]
+# What no check looked at, or none that tells it from what a run may do.
+OF_EDGES = [
+    tool(
+        "only the nearest of the folders that a deletion empties goes", "mirror_folder",
+        "        for above in reversed(above_it(name)):\n            self.drop_empty(above)",
+        "        for above in above_it(name)[-1:]:\n            self.drop_empty(above)",
+        MIRROR,
+    ),
+    tool(
+        "a source that changes in a second pass changes too fast", "mirror_run",
+        "PASSES, RUNS = 50, 10", "PASSES, RUNS = 2, 10",
+        f"{EXACT} what_changes_in_each_pass_is_followed",
+    ),
+    tool(
+        "a list in parts may have an entry more", "lists",
+        "            if counted > limit:\n", "            if counted > limit + 1:\n",
+        f"{EXACT} a_list_in_parts_has_so_many_entries",
+    ),
+    tool(
+        "a file that was written a moment ago is put as it is", "fill_files",
+        "return Reading(body, is_same and not is_young,", "return Reading(body, is_same,",
+        "operations.tests.tools.fill a_file_that_is_being_written_is_put_whole",
+    ),
+    tool(
+        "what is remembered of many files is told to be lost", "fill_memory",
+        '            self.database.execute("COMMIT")\n            self.database.execute("BEGIN IMMEDIATE")\n',
+        '            self.database.execute("COMMIT")\n',
+        f"{AGAIN} a_stopped_run_and_another_folder",
+    ),
+]
+BUGS = [*OF_MIRROR, *OF_FILL, *OF_COLLECTION, *OF_SIZES, *OF_EDGES]

@@ -1,4 +1,5 @@
-"""Looks at the page at the edges of what it counts: of time, of lists, of histories, of names that no browser asks for.
+"""Looks at the page at the edges of what it counts: of time, of sizes, of lists, of histories, of bodies that differ.
+Some of the names are none that a browser asks for.
 """
 import random
 from collections.abc import Callable
@@ -6,6 +7,7 @@ from typing import Any
 
 from operations.tests.page import fake as fakes, scripts
 from operations.tests.page.looked import Looked, has, same
+from operations.tests.page.looks_states import SOON, current
 
 LARGEST, PART = 50_000, 4_000
 # The newest changes of one name that a card shows.
@@ -19,6 +21,26 @@ import("/site/bins.js").then(({ Counted }) => {
   done(spans.map(([from, until]) => counted.between(from, until)));
 });
 """
+# Sizes in words, and bars of spans, by the page's own counting.
+WORDS = """
+const [sizes, done] = arguments;
+import("/site/formats.js").then(({ size }) => done(sizes.map(size)));
+"""
+BARS = """
+const [spans, most, done] = arguments;
+import("/site/bins.js").then(({ Counted, binsOf }) => {
+  const counted = new Counted([]);
+  done(spans.map((span) => binsOf(counted, span, most).map((it) => [it.from, it.until])));
+});
+"""
+# Three digits and a unit, rounded to the nearest: the next unit begins where four would stand.
+SIZES = {0: "0 bytes", 1: "1 byte", 999: "999 bytes", 1_000: "1.00 kB", 9_994: "9.99 kB", 9_996: "10.0 kB",
+         99_940: "99.9 kB", 99_960: "100 kB", 999_499: "999 kB", 999_500: "1.00 MB", 16_777_216: "16.8 MB",
+         999_499_999: "999 MB", 999_500_000: "1.00 GB", 12_345_000_000: "12.3 GB", 999_500_000_000: "1.00 TB"}
+# The last time of a source, and how many bars are asked for at most.
+LAST_TIME, MOST_BARS = 253_402_300_799_999, 60
+# How many bodies that differ are named, and how many bodies there are.
+NAMED, BODIES = 20, 40
 
 
 def spans_have_their_changes(look: Looked) -> None:
@@ -36,6 +58,60 @@ def spans_have_their_changes(look: Looked) -> None:
         look.browser.state("Open")
         found = look.chromium.run_slowly(COUNTED, changed, spans)
     same(f"counts, seed {seed}", wanted, found)
+
+
+def sizes_have_three_digits(look: Looked) -> None:
+    """A size has three digits and the unit that leaves room for them, also where it is rounded up to the next one."""
+    with look.fake(fakes.Fake) as shown:
+        look.browser.open(f"{shown.base}/")
+        found = look.chromium.run_slowly(WORDS, list(SIZES))
+    same("sizes", SIZES, dict(zip(SIZES, found)))
+
+
+def bars_cover_each_span(look: Looked) -> None:
+    """The bars of a span, of milliseconds or of thousands of years, are as many as asked for, and one at each end; they
+    are of one width, and cover it.
+    """
+    seed = random.randrange(10**9)
+    rng = random.Random(seed)
+    spans = [[0, LAST_TIME]]
+    for _ in range(200):
+        width = int(20 * (LAST_TIME / 20) ** rng.random())
+        start = rng.randrange(LAST_TIME - width + 1)
+        spans.append([start, start + width])
+    with look.fake(fakes.Fake) as shown:
+        look.browser.open(f"{shown.base}/")
+        found = look.chromium.run_slowly(BARS, spans, MOST_BARS)
+    for (start, end), bars in zip(spans, found, strict=True):
+        what = f"bars of {start} to {end}, seed {seed}"
+        same(f"{what}: their number", True, 0 < len(bars) <= MOST_BARS + 1)
+        same(f"{what}: the ends", True, bars[0][0] <= start and bars[-1][1] >= end)
+        same(f"{what}: one behind the other", [until for _, until in bars[:-1]], [begin for begin, _ in bars[1:]])
+        same(f"{what}: their widths", 1, len({until - begin for begin, until in bars}))
+
+
+def so_many_that_differ_are_named(look: Looked) -> None:
+    """The first twenty bodies that differ are named, and how many more there are, if there are more."""
+    browser = look.chromium
+
+    def differing(base: str, number: int) -> fakes.Fake:
+        fake = fakes.archive(base, BODIES)
+        for entry in current(fake)[:number]:
+            fake.bodies[entry.name] = (entry.kind, b"other")
+        return fake
+
+    with look.hurried(*SOON), look.fake(lambda base: differing(base, NAMED)) as shown:
+        for number, last in ((NAMED, ""), (NAMED + 1, "And 1 more."), (NAMED + 3, "And 3 more.")):
+            shown.is_now(differing(shown.base, number))
+            browser.open("about:blank")
+            browser.open(f"{shown.base}/")
+            browser.state("Open")
+            browser.click("check-some")
+            browser.until(CHECKED, "the end of the checks")
+            has("what came of all", f"{BODIES - number} agree, {number} differ;", browser.text("checked"))
+            lines = browser.run("return [...document.querySelectorAll('.differing li')].map((it) => it.textContent)")
+            same("those that are named", NAMED, len(browser.run(scripts.DIFFERING)))
+            same("the others", [last] if last else [], lines[NAMED:])
 
 
 def dotted(base: str) -> fakes.Fake:
@@ -145,5 +221,5 @@ def moments_are_in_utc(look: Looked) -> None:
         browser.tell("Emulation.setTimezoneOverride", timezoneId="")
 
 
-LOOKS = [spans_have_their_changes, names_with_dots_are_not_asked_for, lists_have_so_many_entries,
-         long_histories_are_cut, moments_are_in_utc]
+LOOKS = [spans_have_their_changes, sizes_have_three_digits, bars_cover_each_span, so_many_that_differ_are_named,
+         names_with_dots_are_not_asked_for, lists_have_so_many_entries, long_histories_are_cut, moments_are_in_utc]

@@ -12,23 +12,29 @@ from __future__ import annotations
 import hashlib
 import os
 import pathlib
+import random
 import signal
 import sys
+from unittest import mock
 
 from operations.tests.tools.hostile_source import (
-    MOMENT, Liar, answered, changed, collected, entry, gone, listed, lying,
+    MOMENT, Liar, answered, changed, collected, entry, gone, in_parts, listed, lying,
 )
 from operations.tests.tools.made_up_store import OTHER, MadeUp
-from operations.tests.tools.mirrored import hold_files, mirrored, state
+from operations.tests.tools.mirrored import AFTER, change, hold_files, mirrored, state
 from operations.tests.tools.noted_calls import SHIM
 from operations.tests.tools.running import (
     begun, ended, files_of, has, ropepeach, rows, same, wait_until, written,
 )
 from operations.tests.tools.taking_source import taking
-from ropepeach import numbers
+from ropepeach import lists, numbers
+from ropepeach.connections import Connections
+from ropepeach.faults import Fault
 from tests.program import interposed
 
 LONGEST, BATCH, MOST_ENTRIES = 16_777_216, 256, 50_000
+# How often a run of the mirror reads the changes that came while it fetched.
+PASSES = 50
 LATER, LAST, NEXT = (f"2000-02-29T00:00:00.00{place}Z" for place in (2, 3, 4))
 BODY = b"the body"
 
@@ -107,6 +113,23 @@ def a_list_has_so_many_entries(program: str, room: pathlib.Path) -> None:
         mirrored("50,001 entries", liar, "--dry-run", status=1, says="refused, as it has more than 50,000 entries")
 
 
+def a_list_in_parts_has_so_many_entries(program: str, room: pathlib.Path) -> None:
+    """The parts of a list have as many entries together as a source may hold, and not one more."""
+    with lying() as liar:
+        source = lists.Source(Connections(liar.base, patience=1))
+        entries = [entry(f"{liar.base}/resource/{number}", BODY) for number in range(10)]
+        for most in range(1, len(entries)):
+            with mock.patch.object(lists, "MOST_RESOURCES", most):
+                in_parts(liar, entries[:most], limit=3)
+                same(f"{most} entries", most, len(source.resource_list()[1]))
+                in_parts(liar, entries[: most + 1], limit=3)
+                try:
+                    found = f"{len(source.resource_list()[1])} were taken"
+                except Fault as fault:
+                    found = str(fault)
+                has(f"{most + 1} entries", f"has more than {most} entries", found)
+
+
 def sizes_are_of_1024(program: str, room: pathlib.Path) -> None:
     """A size is a number of bytes, or of units of 1,024."""
     sizes = {"0": 0, "7": 7, "7KiB": 7 << 10, "3MiB": 3 << 20, "2GiB": 2 << 30}
@@ -161,6 +184,39 @@ def a_part_older_than_its_index_is_read_again(program: str, room: pathlib.Path) 
         liar.answers["/changelist/0.xml"] = lambda: [next(answers)]
         mirrored("a cache that ends", liar)
         same("what is there", ({"a": BODY, "c": b"c"}, NEXT), (files_of("m"), state()["until"]))
+
+
+def changing_until(liar: Liar, last: int) -> None:
+    """Lets a source change its one resource whenever that is asked for, so many times: each time to another body than
+    the lists had until then.
+    """
+    versions = [0]
+
+    def body() -> list[bytes]:
+        versions.append(min(versions[-1] + 1, last))
+        return [answered(b"%02d" % versions[-1])]
+
+    def changes() -> list[bytes]:
+        entries = [change(liar, "a", number + 1, "updated", b"%02d" % number) for number in range(1, versions[-1] + 1)]
+        return [answered(listed("changelist", entries, attributes=f' from="{MOMENT}"'))]
+
+    hold_files(liar, {"a": b"00"})
+    liar.answers |= {"/resource/a": body, "/changelist.xml": changes}
+
+
+def what_changes_in_each_pass_is_followed(program: str, room: pathlib.Path) -> None:
+    """A resource that changes whenever it is asked for is asked for again, in as many passes as a run has, and not
+    in one more.
+    """
+    for last in (1, 2, 3, random.randrange(4, PASSES - 1), PASSES - 1):
+        with lying() as liar:
+            changing_until(liar, last)
+            mirrored(f"{last} changes meanwhile", liar, says=f"fetched 1, {last} anew ", into=f"m{last}")
+            same(f"{last} changes meanwhile", ({"a": b"%02d" % last}, AFTER[last + 1]),
+                 (files_of(f"m{last}"), state(f"m{last}")["until"]))
+    with lying() as liar:
+        changing_until(liar, PASSES)
+        mirrored("a change more", liar, status=1, says="the source changes faster than it can be fetched")
 
 
 def held_up(liar: Liar, path: str) -> pathlib.Path:
@@ -310,7 +366,9 @@ CHECKS = [
     what_came_before_a_silence_stays, a_baseline_that_ends_early_is_begun_again,
     what_is_deleted_stays_while_another_source_is_away, a_key_stops_a_collection_in_one_line,
     a_key_stops_a_collection_that_is_filled_in_one_line, room_is_compared_to_the_byte,
-    the_renames_of_a_takeover_are_synced, many_files_go_in_batches, a_list_has_so_many_entries, sizes_are_of_1024,
+    the_renames_of_a_takeover_are_synced, many_files_go_in_batches, a_list_has_so_many_entries,
+    a_list_in_parts_has_so_many_entries, sizes_are_of_1024,
+    what_changes_in_each_pass_is_followed,
 ]
 
 if __name__ == "__main__":

@@ -8,6 +8,7 @@ Exit status 1 if one does not hold.
 """
 from __future__ import annotations
 
+import functools
 import os
 import pathlib
 import re
@@ -16,16 +17,19 @@ import sys
 import threading
 import time
 from collections.abc import Iterator
+from unittest import mock
 
 from operations.tests.tools.hostile_source import answered, entry, lying
 from operations.tests.tools.running import (
     SECONDS, Server, begun, ended, has, ropepeach, rows, same, wait_until, written,
 )
-from operations.tests.tools.taken import COUNTS, little, most_memory, small_files
+from operations.tests.tools.taken import little, most_memory, small_files
 from operations.tests.tools.taking_source import taking
+from ropepeach import fill_files
 from tests.disks import made_disks, paged_disk
 from tests.program import Differs
 from tests.reading import disk_parts as parts_of
+from tests.threads import beside
 
 # A run reads four lists first.
 LISTS = 4
@@ -202,14 +206,9 @@ def a_changing_file_is_whole_or_left(program: str, room: pathlib.Path) -> None:
                 os.utime("next", (1_700_000_000, 1_700_000_000))
                 os.replace("next", folder / "moved")
 
-    changing = threading.Thread(target=change)
     with Server(program, "a.disk", size=4 << 20) as server:
-        changing.start()
-        try:
+        with beside(change, ending=goes_on.set):
             status, output, messages = ropepeach("fill", folder, server.url)
-        finally:
-            goes_on.set()
-            changing.join()
         same("amid changes", (3, "1 put"), (status, output.split(" (")[0]))
         has("amid changes", "left out grows: it changes while it is read, and is left for the next run", messages)
         shown = server.answers("show /resource/moved")
@@ -217,6 +216,36 @@ def a_changing_file_is_whole_or_left(program: str, room: pathlib.Path) -> None:
         server.start()
         same("the next run", 0, ropepeach("fill", folder, server.url)[0])
         server.holds(folder)
+
+
+def a_file_that_is_being_written_is_put_whole(program: str, room: pathlib.Path) -> None:
+    """A file that changed within the last second is read again until it has been still for a second; one that goes on
+    changing is left out.
+    """
+    path = written("folder", {"a": b""}) / "a"
+    for changes, wanted in [(0, b"part"), (1, b"part part"), (9, None)]:
+        now, left = [float(int(time.time()))], [changes]
+
+        def change() -> None:
+            with path.open("ab") as file:
+                file.write(b" part")
+            os.utime(path, (now[0], now[0]))
+
+        def pause(seconds: float) -> None:
+            now[0] += seconds / 2
+            if left[0]:
+                left[0] -= 1
+                change()
+            now[0] += seconds / 2
+
+        path.write_bytes(b"part")
+        os.utime(path, (now[0], now[0]))
+        with mock.patch.object(time, "time", lambda: now[0]), mock.patch.object(time, "sleep", pause):
+            try:
+                found: bytes | None = fill_files.Files("folder").still("a").body
+            except fill_files.Unfit:
+                found = None
+        same(f"a file that changes {changes} times", wanted, found)
 
 
 def a_source_that_is_away_is_waited_for(program: str, room: pathlib.Path) -> None:
@@ -278,14 +307,14 @@ def a_key_stops_a_run_in_one_line(program: str, room: pathlib.Path) -> None:
 
 def a_file_takes_little_memory(program: str, room: pathlib.Path) -> None:
     """Each file of a folder takes 300 bytes of memory at most, where all are held already and where none is."""
-    used: dict[str, list[int]] = {}
-    for count in COUNTS:
+
+    def memory_of_a_fill(held: bool, count: int) -> int:
         folder = small_files(f"{count}", count)
-        for what, disk in ("none is held", None), ("all are held", paged_disk.spelled(count, 0)):
-            with Server(program, f"{count} {what}", data=disk) as server:
-                used.setdefault(what, []).append(most_memory("fill", folder, server.url, "--dry-run"))
-    for what, figures in used.items():
-        little(f"fill, where {what}", figures)
+        with Server(program, f"{count}.disk", data=paged_disk.spelled(count, 0) if held else None) as server:
+            return most_memory("fill", folder, server.url, "--dry-run")
+
+    little("fill, where none is held", functools.partial(memory_of_a_fill, False))
+    little("fill, where all are held", functools.partial(memory_of_a_fill, True))
 
 
 def a_404_of_another_is_no_deletion(program: str, room: pathlib.Path) -> None:
@@ -313,7 +342,7 @@ CHECKS = [
     half_of_what_is_held_may_be_deleted,
     types_come_from_a_file_and_are_compared, changes_go_in_groups_in_the_order_of_names,
     what_does_not_fit_a_group_is_put_alone,
-    a_changing_file_is_whole_or_left, a_source_that_is_away_is_waited_for,
+    a_changing_file_is_whole_or_left, a_file_that_is_being_written_is_put_whole, a_source_that_is_away_is_waited_for,
     a_publication_without_an_answer_is_looked_for,
     a_key_stops_a_run_in_one_line, a_file_takes_little_memory, a_404_of_another_is_no_deletion,
 ]

@@ -31,7 +31,7 @@ from operations.tests.tools.hostile_source import answered, entry, in_parts, lyi
 from operations.tests.tools.running import (
     SECONDS, Run, Server, begun, ended, files_of, has, ropepeach, rows, same, wait_until, written,
 )
-from operations.tests.tools.taken import COUNTS, little, most_memory, small_files
+from operations.tests.tools.taken import little, most_memory, small_files
 from ropepeach.connections import Connections
 from ropepeach.proxies import proxy_to
 from tests.program import Differs
@@ -153,13 +153,17 @@ def a_key_stops_a_run_in_one_line(program: str, room: pathlib.Path) -> None:
     waiting.send_signal(signal.SIGINT)
     same("while it waits", (130, "", "ropepeach mirror: stopped; the next run goes on\n"), ended(waiting))
     with server:
-        for least in (1, 100, 200, 300):
+        for least in itertools.islice(itertools.cycle((1, 100, 200, 300)), 20):
             shutil.rmtree("m", ignore_errors=True)
             run = fetching(server, least)
             run.send_signal(signal.SIGINT)
             status, output, messages = ended(run)
-            amid += (status, output, messages.count("\n")) == (130, "", 1)
+            # (on a busy machine a run may be over by then)
+            same("how it ends", True, status == 0 or (status, output, messages.count("\n")) == (130, "", 1))
+            amid += status == 130
             whole(files)
+            if amid > 2:
+                break
         same("some are stopped amid their work", True, amid > 2)
         same("the next run", 0, ropepeach("mirror", server.url, "m")[0])
         same("the folder", files, files_of("m"))
@@ -220,19 +224,21 @@ def a_connection_that_stays_open_is_used_again(program: str, room: pathlib.Path)
         connections.plain.close()
 
 
+def memory_of_a_baseline(count: int) -> int:
+    """The most memory that a baseline of so many files takes which the folder has already, in bytes."""
+    folder = small_files(f"{count}", count)
+    with lying() as liar:
+        entries = [entry(f"{liar.base}/resource/{path.name}", path.read_bytes()) for path in sorted(folder.iterdir())]
+        in_parts(liar, entries)
+        (folder / "#state").write_text(json.dumps({"source": liar.base, "until": None, "newest": None}))
+        taken = most_memory("mirror", liar.base, folder)
+        same("resources that were asked for", [], [path for path in liar.requests if path.startswith("/resource/")])
+    return taken
+
+
 def a_file_takes_little_memory(program: str, room: pathlib.Path) -> None:
     """Each file of a mirror takes 300 bytes of memory at most, in a baseline of all of them."""
-    used = []
-    for count in COUNTS:
-        folder = small_files(f"{count}", count)
-        with lying() as liar:
-            entries = [entry(f"{liar.base}/resource/{path.name}", path.read_bytes())
-                       for path in sorted(folder.iterdir())]
-            in_parts(liar, entries)
-            (folder / "#state").write_text(json.dumps({"source": liar.base, "until": None, "newest": None}))
-            used.append(most_memory("mirror", liar.base, folder))
-            same("resources that were asked for", [], [path for path in liar.requests if path.startswith("/resource/")])
-    little("mirror", used)
+    little("mirror", memory_of_a_baseline)
 
 
 def a_proxy_is_named_by_the_environment(program: str, room: pathlib.Path) -> None:

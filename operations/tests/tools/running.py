@@ -21,8 +21,8 @@ from tests.served_source import free_port
 
 Path = str | os.PathLike[str]
 Run = subprocess.Popen[str]
-# No step takes longer than this.
-SECONDS = 60
+# No step takes longer than this, also on a busy machine.
+SECONDS = 120
 
 
 def same(what: str, wanted: object, found: object) -> None:
