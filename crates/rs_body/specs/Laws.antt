@@ -1,7 +1,7 @@
 -- What follows from the definitions of blocks and of runs that write outside them.
 use Rattle.std.specs.Prelude.{◌≡◌, ◌↔◌, ◌⊎◌, ℕ, ◌*◌, ◌≤◌, Bool, true, List, [], ◌∷◌}
 use Rattle.rs_disk.specs.Medium.{DiskState, IsImage, IsImageAt}
-use Rattle.rs_disk.specs.Runs.{RunsReading}
+use Rattle.rs_disk.specs.Runs.{GoesNoFurther, RunsReading}
 use Rattle.rs_extent.specs.declared.Extent.{Extent}
 use Rattle.rs_extent.specs.Blocks.{block_size}
 use Rattle.rs_extent.specs.Extents.{within, in_some, IsBeside, IsSubset, AreBeside}
@@ -44,10 +44,11 @@ ImagePartKept = (kept : ℕ → Bool) (e : Extent) (n : ℕ) → n ≤ block_siz
     → (entry : List ℕ) × IsImage old.now entry × (part e n image ≡ part e n entry)
 
 -- Two runs in turn that each write only some extents write, as one run, only those of any list that has all their
--- blocks. The answer of both reports the device where one of theirs does.
+-- blocks, where the second makes no call behind a failed one of the first. The answer of both reports the device where one of
+-- theirs does.
 abbrev pub OnlyJoins : Type 0 → Type 0 → Type 0 → Type 0
 OnlyJoins A B C = (xs ys zs : List Extent) (old mid new : DiskState) → IsSubset (in_some xs) (in_some zs) → IsSubset (in_some ys) (in_some zs)
-    → (A → C) → (B → C) → (C → A ⊎ B) → WritesOnly xs A old mid → WritesOnly ys B mid new → WritesOnly zs C old new
+    → (A → C) → (B → C) → (C → A ⊎ B) → GoesNoFurther old mid new → WritesOnly xs A old mid → WritesOnly ys B mid new → WritesOnly zs C old new
 
 -- A run that writes a part of an extent writes only that extent.
 abbrev pub PartIsOnly : Type 0 → Type 0

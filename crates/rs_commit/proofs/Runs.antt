@@ -40,7 +40,7 @@ within_one {old = old} {new = new} at bytes result is fits counts ok err keeps =
 -- and so is one that a run follows which writes nothing.
 pub within_then : {A : Type 0} {old mid new : DiskState} {at n : ℕ} → WritesWithin at n (false ≡ true) old mid → WritesNothing A mid new → new.honest ≡ mid.honest → WritesWithin at n A old new
 within_then {old = old} {mid = mid} {new = new} {at = at} {n = n} one two keeps = record {
-  writes = writing_then old mid new well one.writes (record { runs = two.runs; keeps = keeps });
+  writes = writing_then old mid new well one.writes (record { runs = two.runs; keeps = keeps; stops = two.stops });
   torn = subst (λ (l : List ℕ). Torn at n old.now.seen l) (sym two.seen) one.torn;
   leaves = goes_on old mid new (λ _. TornFrom old.now at n) one.leaves
       (weaker mid new (λ _. IsImage mid.now) (λ _. TornFrom old.now at n) (λ m image is. exit_images old mid (λ _. TornFrom old.now at n) one.leaves image is) two.leaves);

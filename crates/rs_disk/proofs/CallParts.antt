@@ -1,6 +1,6 @@
 -- A call of a memory disk from its parts: it is counted, may change what the disk holds, and counts as a fault if it
 -- failed.
-use Rattle.std.proofs.Common.{◌≡◌, inl, inr, ℕ, ◌+◌, ◌-◌, ◌≤◌, List, ◌++◌, length, take, drop, sym, ◌∙◌, ap, subst, arith, length-append, length-take, length-drop, Result, Ok, Err, OnOk, OnErr, is_ok, true≢false}
+use Rattle.std.proofs.Common.{◌≡◌, inl, inr, ℕ, ◌+◌, ◌-◌, ◌≤◌, Bool, List, ◌++◌, length, take, drop, sym, ◌∙◌, ap, subst, arith, length-append, length-take, length-drop, Result, Ok, Err, OnOk, OnErr, is_ok, true≢false}
 use Rattle.rs_disk.specs.Medium.{Medium, DiskState, IsMedium, over, marked, widened, partly_written}
 use Rattle.rs_disk.specs.Calls.{Passes, Stays, Tears}
 use Rattle.rs_disk.specs.Memory.{Changes, SameContents}
@@ -52,9 +52,9 @@ pub refuses_from : (old new : DiskState) (at n : ℕ) → Stays old new → Tear
 refuses_from old new at n stays = inr (record { now = stays.now; passes = inl stays.passes })
 
 -- what a call did after it was counted, and before it was counted as a fault
-module _ (old begun done mid new : DiskState) (call faults : ℕ) (first : call ≡ old.calls) (starts : begun ≡ record old { calls = old.calls + 1 }) (same : mid ≡ done) (ends : new ≡ record mid { faults = faults }) where
-  ends_done : new ≡ record done { faults = faults }
-  ends_done = ends ∙ ap (λ (s : DiskState). record s { faults = faults }) same
+module _ (old begun done mid new : DiskState) (call faults : ℕ) (failed : Bool) (first : call ≡ old.calls) (starts : begun ≡ record old { calls = old.calls + 1 }) (same : mid ≡ done) (ends : new ≡ record mid { faults = faults; last_failed = failed }) where
+  ends_done : new ≡ record done { faults = faults; last_failed = failed }
+  ends_done = ends ∙ ap (λ (s : DiskState). record s { faults = faults; last_failed = failed }) same
 
   pub changed : (held next : Medium → Medium) → Changes call (held begun.now) (next begun.now) begun done → Changes old.calls (held old.now) (next old.now) old new
   changed held next changes = record {

@@ -1,10 +1,10 @@
 -- What each call of a disk does to its state.
-use Rattle.std.specs.Prelude.{◌≡◌, ◌⊎◌, ℕ, ◌+◌, ◌<◌, ◌≤◌, ◌^◌, List, length, Result, OnOk, OnErr, IsErr, IsTrue}
+use Rattle.std.specs.Prelude.{◌≡◌, ◌⊎◌, ℕ, ◌+◌, ◌<◌, ◌≤◌, ◌^◌, true, false, List, length, Result, OnOk, OnErr, IsErr, IsTrue}
 use Rattle.rs_disk.specs.Medium.{Medium, DiskState, widened, written, resting}
 
 -- What holds of a call of every device: the size stays, no call makes a device honest again, and the call is counted,
--- as a fault too if it fails. Where the count of calls has reached its last value, a further call answers an error and
--- changes nothing.
+-- as a fault too if it fails, and the state keeps whether the last counted call failed. Where the count of calls has
+-- reached its last value, a further call answers an error and changes nothing.
 pub record CountsCall {T E : Type 0} (old new : DiskState) (result : Result T E) : Type 0 where
   pub size : new.size ≡ old.size
   pub lasts : IsTrue new.honest → IsTrue old.honest
@@ -12,6 +12,8 @@ pub record CountsCall {T E : Type 0} (old new : DiskState) (result : Result T E)
   pub calls : old.calls + 1 < 2 ^ 64 → new.calls ≡ old.calls + 1
   pub ok : OnOk result (new.faults ≡ old.faults)
   pub fault : OnErr result (old.calls + 1 < 2 ^ 64 → new.faults ≡ old.faults + 1)
+  pub worked : OnOk result (new.last_failed ≡ false)
+  pub failed : OnErr result (old.calls + 1 < 2 ^ 64 → new.last_failed ≡ true)
 
 -- What the disk held within earlier calls stays, and within this one, if it was counted, it held `held`.
 pub record Passes (old new : DiskState) (held : Medium) : Type 0 where

@@ -1,10 +1,10 @@
 -- What follows from the disk model alone.
-use Rattle.std.specs.Prelude.{◌≡◌, ◌↔◌, ◌⊎◌, ℕ, ◌+◌, ◌<◌, ◌≤◌, List, [], ◌∷◌, length, replicate, get_or, Result, IsErr, OnOk, OnErr}
+use Rattle.std.specs.Prelude.{◌≡◌, ◌↔◌, ◌⊎◌, ℕ, ◌+◌, ◌<◌, ◌≤◌, ◌^◌, Bool, true, List, [], ◌∷◌, length, replicate, get_or, Result, IsErr, OnOk, OnErr}
 use Rattle.rs_disk.specs.declared.disk.Fault.{Fault}
 use Rattle.rs_disk.specs.Medium.{Medium, DiskState, IsImage, IsImageAt, IsMedium, widened, partly_written, written, resting, image_of}
 use Rattle.rs_disk.specs.Calls.{CountsCall, Passes, Stays, Writes, Tears, Settles}
 use Rattle.rs_disk.specs.Leaves.{Leaves, TornFrom}
-use Rattle.rs_disk.specs.Runs.{Runs, RunsWriting, RunsReading, WritesNothing}
+use Rattle.rs_disk.specs.Runs.{GoesNoFurther, Runs, RunsReading, RunsWriting, StopsAtFault, WritesNothing}
 
 -- Where all is settled, what a read gives is the one image.
 abbrev pub SettledImage : Type 0
@@ -80,18 +80,23 @@ abbrev pub SyncWritesNothing : Type 0 → Type 0
 SyncWritesNothing E = (old new : DiskState) (result : Result (Unit {0}) E) → CountsCall old new result → IsMedium old.size old.now
     → OnOk result (Settles old new) → OnErr result (Stays old new) → WritesNothing (IsErr result) old new
 
--- Two runs in turn are one run, whose answer reports the device where one of theirs does.
+-- Two runs in turn are one run, whose answer reports the device where one of theirs does. Runs that stop at a fault join where
+-- the second makes no call behind a failed one of the first.
 abbrev pub RunsJoin : Type 0 → Type 0 → Type 0 → Type 0
 RunsJoin A B C = (old mid new : DiskState) → (A → C) → (B → C) → (C → A ⊎ B) → Runs A old mid → Runs B mid new → Runs C old new
 
 abbrev pub WritingJoins : Type 0 → Type 0 → Type 0 → Type 0
-WritingJoins A B C = (old mid new : DiskState) → (A → C) → (B → C) → (C → A ⊎ B) → RunsWriting A old mid → RunsWriting B mid new → RunsWriting C old new
+WritingJoins A B C = (old mid new : DiskState) → (A → C) → (B → C) → (C → A ⊎ B) → GoesNoFurther old mid new → RunsWriting A old mid → RunsWriting B mid new → RunsWriting C old new
 
 abbrev pub ReadingJoins : Type 0 → Type 0 → Type 0 → Type 0
-ReadingJoins A B C = (old mid new : DiskState) → (A → C) → (B → C) → (C → A ⊎ B) → RunsReading A old mid → RunsReading B mid new → RunsReading C old new
+ReadingJoins A B C = (old mid new : DiskState) → (A → C) → (B → C) → (C → A ⊎ B) → GoesNoFurther old mid new → RunsReading A old mid → RunsReading B mid new → RunsReading C old new
 
 abbrev pub NothingJoins : Type 0 → Type 0 → Type 0 → Type 0
-NothingJoins A B C = (old mid new : DiskState) → (A → C) → (B → C) → (C → A ⊎ B) → WritesNothing A old mid → WritesNothing B mid new → WritesNothing C old new
+NothingJoins A B C = (old mid new : DiskState) → (A → C) → (B → C) → (C → A ⊎ B) → GoesNoFurther old mid new → WritesNothing A old mid → WritesNothing B mid new → WritesNothing C old new
+
+-- A run that makes a counted call behind a failed one does not stop at the fault, whatever the call answers.
+abbrev pub GoingOnIsNoStop : Type 0 → Type 0 → Type 0
+GoingOnIsNoStop T E = (old mid new : DiskState) (result : Result T E) → old.faults < mid.faults → mid.calls + 1 < 2 ^ 64 → CountsCall mid new result → ¬ StopsAtFault old new
 
 -- eight zero bytes, settled
 abbrev pub zeros : Medium
@@ -100,3 +105,7 @@ zeros = resting (replicate 8 0)
 -- and after a write of 1, 2 and 3 at offset 2
 abbrev pub three_written : Medium
 three_written = written zeros 2 (1 ∷ 2 ∷ 3 ∷ [])
+
+-- a disk of eight zero bytes after these calls and faults, the last of which failed or did not
+abbrev pub called : ℕ → ℕ → Bool → DiskState
+called calls faults failed = record { size = 8; calls = calls; faults = faults; last_failed = failed; honest = true; now = zeros; within = λ _. zeros }

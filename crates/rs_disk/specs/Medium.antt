@@ -42,12 +42,14 @@ written m at bytes = partly_written m at (length bytes) bytes
 abbrev pub resting : List ℕ → Medium
 resting bytes = record { seen = bytes; settled = bytes; unsettled = replicate (length bytes) false }
 
--- A disk: its size in bytes, how many calls were counted and how many of them failed, whether it has followed the model so far,
--- what it holds now, and what it held within the call after m counted ones, for each m below the calls.
+-- A disk: its size in bytes, how many calls were counted, how many of them failed, whether the last one did (false before any),
+-- whether it has followed the model so far, what it holds now, and what it held within the call after m counted ones, for each m
+-- below the calls.
 pub record DiskState : Type 0 where
   pub size : ℕ
   pub calls : ℕ
   pub faults : ℕ
+  pub last_failed : Bool
   pub honest : Bool
   pub now : Medium
   pub within : ℕ → Medium

@@ -13,6 +13,7 @@ memory_state d = record {
   size = length d.contents.seen.items;
   calls = d.calls;
   faults = d.faults;
+  last_failed = d.last_failed;
   honest = true;
   now = medium_of d.contents;
   within = λ k. held_within k d.history;
@@ -42,11 +43,12 @@ pub record SameContents (old new : DiskState) : Type 0 where
   pub now : new.now ≡ old.now
   pub past : (m : ℕ) → new.within m ≡ old.within m
 
--- The size and the counts stay as before.
+-- The size, the counts and whether the last call failed stay as before.
 pub record SameCounts (old new : DiskState) : Type 0 where
   pub size : new.size ≡ old.size
   pub calls : new.calls ≡ old.calls
   pub faults : new.faults ≡ old.faults
+  pub last_failed : new.last_failed ≡ old.last_failed
 
 -- A call was counted after `call` others, and has changed nothing yet.
 pub record Begun (call : ℕ) (disk : DiskState) : Type 0 where

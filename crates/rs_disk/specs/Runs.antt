@@ -1,6 +1,6 @@
 -- What any run of device calls leaves of the disk: its size, its honesty and its counts. `told` is the claim that the
 -- run's answer reports a failure of the device.
-use Rattle.std.specs.Prelude.{◌≡◌, ◌⊎◌, ℕ, ◌+◌, ◌<◌, ◌≤◌, ◌^◌, IsTrue}
+use Rattle.std.specs.Prelude.{◌≡◌, ◌⊎◌, ℕ, ◌+◌, ◌<◌, ◌≤◌, ◌^◌, true, IsTrue}
 use Rattle.rs_disk.specs.Medium.{DiskState, IsImage}
 use Rattle.rs_disk.specs.Leaves.{Leaves, Torn, TornFrom}
 
@@ -19,30 +19,53 @@ pub record Runs (told : Type 0) (old new : DiskState) : Type 0 where
   pub failed : told → HasFailed old new
   pub sound : ¬ told → new.faults ≡ old.faults
 
--- A run that writes and syncs, and ignores what a read gives: the device is as honest as it was.
+-- A run makes no call behind a failed one: of its counted calls at most one failed, and where one did, it was the last.
+pub record StopsAtFault (old new : DiskState) : Type 0 where
+  pub one : new.faults ≤ old.faults + 1
+  pub last : old.faults < new.faults → new.last_failed ≡ true
+
+-- Where a call of a first run failed, a second one makes none.
+abbrev pub GoesNoFurther : DiskState → DiskState → DiskState → Type 0
+GoesNoFurther old mid new = old.faults < mid.faults → new ≡ mid
+
+-- A run that writes and syncs, and ignores what a read gives: the device is as honest as it was. It stops at a fault.
 pub record RunsWriting (told : Type 0) (old new : DiskState) : Type 0 where
   pub runs : Runs told old new
   pub keeps : new.honest ≡ old.honest
+  pub stops : StopsAtFault old new
 
--- A run that changes nothing but the counts: at each m each image is one of what the disk holds.
+-- A run that changes nothing but the counts: at each m each image is one of what the disk holds. It stops at a fault.
 pub record RunsReading (told : Type 0) (old new : DiskState) : Type 0 where
   pub runs : Runs told old new
   pub now : new.now ≡ old.now
   pub leaves : Leaves old new (λ _. IsImage old.now)
+  pub stops : StopsAtFault old new
 
--- a run that writes or reads so, whatever its answer is
-abbrev pub Advances : DiskState → DiskState → Type 0
-Advances old new = RunsWriting (HasFailed old new) old new
+-- Any calls that write and sync, where what a read gives is ignored: the size stays, the device is as honest as it was,
+-- and the counts do not fall.
+pub record Advances (old new : DiskState) : Type 0 where
+  pub size : new.size ≡ old.size
+  pub keeps : new.honest ≡ old.honest
+  pub calls : old.calls ≤ new.calls
+  pub faults : old.faults ≤ new.faults
 
-abbrev pub Rests : DiskState → DiskState → Type 0
-Rests old new = RunsReading (HasFailed old new) old new
+-- Any calls that read: nothing changes but the counts, which do not fall, at each m each image is one of what the disk
+-- holds, and no call makes the device honest again. They may go on behind a fault.
+pub record Rests (old new : DiskState) : Type 0 where
+  pub size : new.size ≡ old.size
+  pub lasts : IsTrue new.honest → IsTrue old.honest
+  pub calls : old.calls ≤ new.calls
+  pub faults : old.faults ≤ new.faults
+  pub now : new.now ≡ old.now
+  pub leaves : Leaves old new (λ _. IsImage old.now)
 
 -- A run that writes nothing, though it may settle: a read gives what it gave, and at each m each image is one of the
--- entry.
+-- entry. It stops at a fault.
 pub record WritesNothing (told : Type 0) (old new : DiskState) : Type 0 where
   pub runs : Runs told old new
   pub seen : new.now.seen ≡ old.now.seen
   pub leaves : Leaves old new (λ _. IsImage old.now)
+  pub stops : StopsAtFault old new
 
 -- A run that writes n bytes from an offset on, or a part of them, and nothing else: a read gives what it gave outside them, and at
 -- each m each image is one of the entry with any bytes in their place.

@@ -18,8 +18,8 @@ pub struct Fault;
 /// counted call. So it determines the images of a crash after every number of calls.
 ///
 /// Every call of `read`, `write` and `sync` adds one to `calls`, and one that fails adds one to
-/// `faults`. Once `calls` is `u64::MAX`, each further call answers [`Fault`], does nothing and adds
-/// to neither.
+/// `faults`; `last_failed` of the state says whether the last of them failed. Once `calls` is
+/// `u64::MAX`, each further call answers [`Fault`], does nothing and adds to neither.
 ///
 /// What a call does to the state holds of every device. What a read *gave* holds only while the
 /// device has followed the model, which `honest` of the state says: no call makes it true again,

@@ -2,10 +2,11 @@
 //!
 //! Each function here does nothing: its contract is the law, which the check proves. Proofs cite
 //! the lemmas behind them, in `proofs/Images.antt`, `proofs/Choice.antt` and `proofs/Steps.antt`.
-ghost use Rattle.std.specs.Prelude.{◌≡◌, ℕ, List, [], ◌∷◌, replicate};
+ghost use Rattle.std.specs.Prelude.{◌≡◌, ℕ, true, false, List, [], ◌∷◌, replicate};
 ghost use Rattle.rs_disk.specs.Medium.{image_of, resting, written};
+ghost use Rattle.rs_disk.specs.Runs.{StopsAtFault};
 ghost use Rattle.rs_disk.specs.Plan.{left_by_write, stops_after, fails_once};
-ghost use Rattle.rs_disk.specs.Laws.{SettledImage, ImagesWithinWrite, ImagesAfterWrite, ChoicesAreImages, ImagesHaveChoices, PastImagesStay, WriteLeaves, SyncLeaves, NoCallLeaves, OneCallLeaves, RunsGoOn, ExitHas, WeakerIsLeft, OneCallRuns, OneCallWrites, OneCallReads, SyncWritesNothing, RunsJoin, WritingJoins, ReadingJoins, NothingJoins, zeros, three_written};
+ghost use Rattle.rs_disk.specs.Laws.{SettledImage, ImagesWithinWrite, ImagesAfterWrite, ChoicesAreImages, ImagesHaveChoices, PastImagesStay, WriteLeaves, SyncLeaves, NoCallLeaves, OneCallLeaves, RunsGoOn, ExitHas, WeakerIsLeft, OneCallRuns, OneCallWrites, OneCallReads, SyncWritesNothing, RunsJoin, WritingJoins, ReadingJoins, NothingJoins, GoingOnIsNoStop, called, zeros, three_written};
 
 /// Where all is settled, what a read gives is the one image.
 pub fn settled_disk_has_one_image()
@@ -104,4 +105,17 @@ pub fn runs_join<A: Told, B: Told, C: Told>()
     ensures writing { WritingJoins A.told B.told C.told }
     ensures reading { ReadingJoins A.told B.told C.told }
     ensures nothing { NothingJoins A.told B.told C.told }
+{}
+
+/// A run that makes a call behind a failed one does not stop at the fault.
+pub fn fault_is_last<T, E>()
+    ensures { GoingOnIsNoStop T E }
+{}
+
+/// Runs of a disk of eight zero bytes without a call so far: one that ends with a failed call stops
+/// at the fault. One that goes on does not, whether the further call works or fails.
+pub fn worked_stops()
+    ensures stops { StopsAtFault (called 0 0 false) (called 2 1 true) }
+    ensures works { ¬ StopsAtFault (called 0 0 false) (called 3 1 false) }
+    ensures fails { ¬ StopsAtFault (called 0 0 false) (called 3 2 true) }
 {}

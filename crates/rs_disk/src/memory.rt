@@ -1,7 +1,7 @@
 //! A disk in memory, whose faults and crashes its caller plans.
 mod calls;
 
-ghost use Rattle.std.specs.Prelude.{◌≡◌, ℕ, ◌≤◌, replicate, length, IfOk};
+ghost use Rattle.std.specs.Prelude.{◌≡◌, ℕ, ◌≤◌, false, replicate, length, IfOk};
 ghost use Rattle.rs_disk.specs.Medium.{IsImage, resting, image_of};
 ghost use Rattle.rs_disk.specs.Contents.{medium_of};
 ghost use Rattle.rs_disk.specs.History.{held_within};
@@ -24,6 +24,7 @@ pub struct MemoryDisk {
     history: CallHistory,
     calls: u64,
     faults: u64,
+    last_failed: bool,
     plan: FaultPlan,
     ghost replays: { (k : ℕ) → calls ≤ k → held_within k history ≡ medium_of contents },
     ghost fewer: { faults ≤ calls },
@@ -43,6 +44,7 @@ impl MemoryDisk {
         ensures size { IfOk result (λ d. (memory_state d).size ≡ length bytes.now) }
         ensures calls { IfOk result (λ d. (memory_state d).calls ≡ 0) }
         ensures faults { IfOk result (λ d. (memory_state d).faults ≡ 0) }
+        ensures last { IfOk result (λ d. (memory_state d).last_failed ≡ false) }
         ensures plan { IfOk result (λ d. (i : ℕ) → planned d i ≡ Works) }
     {
         Ok(MemoryDisk {
@@ -51,6 +53,7 @@ impl MemoryDisk {
             history: CallHistory::starting_with(alloc, bytes)?,
             calls: 0,
             faults: 0,
+            last_failed: false,
             plan: FaultPlan::Sound,
         })
     }
@@ -64,6 +67,7 @@ impl MemoryDisk {
         ensures size { IfOk result (λ d. (memory_state d).size ≡ size) }
         ensures calls { IfOk result (λ d. (memory_state d).calls ≡ 0) }
         ensures faults { IfOk result (λ d. (memory_state d).faults ≡ 0) }
+        ensures last { IfOk result (λ d. (memory_state d).last_failed ≡ false) }
         ensures plan { IfOk result (λ d. (i : ℕ) → planned d i ≡ Works) }
     {
         let zeros: Vec<u8> = vec![in alloc; 0; size as usize]?;

@@ -1,5 +1,5 @@
 -- The disk that calls and their answers show, on a file that follows the model.
-use Rattle.std.specs.Prelude.{ℕ, ◌+◌, nat_eq, Bool, true, not, ◌||◌, ◌&&◌, List, [], ◌∷◌, ◌++◌, length, take, drop, replicate, bytes_eq, if◌then◌else◌}
+use Rattle.std.specs.Prelude.{ℕ, ◌+◌, nat_eq, Bool, true, false, not, ◌||◌, ◌&&◌, List, [], ◌∷◌, ◌++◌, length, take, drop, replicate, bytes_eq, if◌then◌else◌}
 use Rattle.rs_disk.specs.Medium.{Medium, DiskState, widened, written, resting}
 use Rattle.rs_file.specs.Events.{Event, WasRead, WasWritten, WasSynced}
 
@@ -17,6 +17,7 @@ one_more ok follows held now m = record {
   size = m.size;
   calls = m.calls + 1;
   faults = if ok then m.faults else m.faults + 1;
+  last_failed = not ok;
   honest = m.honest && follows;
   now = now;
   within = λ k. if nat_eq k m.calls then held else m.within k;
@@ -33,7 +34,15 @@ after_call torn (WasSynced ok) m = one_more ok true m.now (if ok then resting m.
 -- just opened: a file of this length that held these bytes, all settled
 abbrev pub opened : List ℕ → ℕ → DiskState
 opened first size =
-    record { size = size; calls = 0; faults = 0; honest = nat_eq size (length first); now = resting (sized size first); within = λ _. resting (sized size first) }
+    record {
+      size = size;
+      calls = 0;
+      faults = 0;
+      last_failed = false;
+      honest = nat_eq size (length first);
+      now = resting (sized size first);
+      within = λ _. resting (sized size first);
+    }
 
 -- after these calls, the newest first
 abbrev pub replay_events : List ℕ → (ℕ → List ℕ) → ℕ → List Event → DiskState

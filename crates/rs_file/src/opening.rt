@@ -1,5 +1,5 @@
 //! Opening and creating a file.
-ghost use Rattle.std.specs.Prelude.{◌≡◌, ◌↔◌, ◌≤◌, ◌≤ℤ◌, ◌^◌, pos, [], length, IfOk, IfErr, IsErr, IsTrue};
+ghost use Rattle.std.specs.Prelude.{◌≡◌, ◌↔◌, ◌≤◌, ◌≤ℤ◌, ◌^◌, pos, false, [], length, IfOk, IfErr, IsErr, IsTrue};
 ghost use Rattle.rs_disk.specs.Medium.{resting};
 ghost use Rattle.rs_file.specs.Replay.{sized};
 ghost use Rattle.rs_file.specs.File.{state_of, events_of};
@@ -97,6 +97,7 @@ impl<S: Start> FileDisk<S> {
             → (state_of S.Start d).now ≡ resting S.Start.first) }
         ensures calls { IfOk result (λ d. (state_of S.Start d).calls ≡ 0) }
         ensures faults { IfOk result (λ d. (state_of S.Start d).faults ≡ 0) }
+        ensures last { IfOk result (λ d. (state_of S.Start d).last_failed ≡ false) }
         ensures events { IfOk result (λ d. events_of d ≡ []) }
         ensures fault { IfErr result (λ e. e ≡ FileFault.Device) }
     {
@@ -130,6 +131,7 @@ impl<S: Start> FileDisk<S> {
             → (state_of S.Start d).now ≡ resting S.Start.first) }
         ensures calls { IfOk result (λ d. (state_of S.Start d).calls ≡ 0) }
         ensures faults { IfOk result (λ d. (state_of S.Start d).faults ≡ 0) }
+        ensures last { IfOk result (λ d. (state_of S.Start d).last_failed ≡ false) }
         ensures events { IfOk result (λ d. events_of d ≡ []) }
         ensures too_large { 2 ^ 63 ≤ size → IsErr result }
     {

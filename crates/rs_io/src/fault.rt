@@ -1,6 +1,39 @@
 //! The answers of a [`Watched`](crate::Watched) reader or writer whose call failed.
 
+ghost use Rattle.std.specs.Prelude.{◌≡◌};
+
 use thiserror::Error;
+
+/// Which end of a stream failed, the reader or the writer. Each caller says what stands then.
+#[derive(Clone, Copy, Debug, PartialEq, Eq, Error)]
+pub enum StreamFault {
+    /// The reader failed.
+    #[error("the input cannot be read")]
+    Read,
+    /// The writer failed.
+    #[error("the output cannot be written")]
+    Write,
+}
+
+impl From<ReadFault> for StreamFault {
+    ghost use Rattle.rs_io.specs.declared.fault.StreamFault.TheVariants.{Read};
+
+    ghost from_gives = { λ _ made. made ≡ Read };
+
+    fn from(_: ReadFault) -> StreamFault {
+        StreamFault::Read
+    }
+}
+
+impl From<WriteFault> for StreamFault {
+    ghost use Rattle.rs_io.specs.declared.fault.StreamFault.TheVariants.{Write};
+
+    ghost from_gives = { λ _ made. made ≡ Write };
+
+    fn from(_: WriteFault) -> StreamFault {
+        StreamFault::Write
+    }
+}
 
 /// The reader failed: a read answered an error. The error of the operating system is dropped.
 #[derive(Clone, Copy, Debug, PartialEq, Eq, Error)]

@@ -12,5 +12,5 @@ pub mod counted;
 mod fault;
 pub mod watch;
 
-pub use fault::{ReadFault, WriteFault};
+pub use fault::{ReadFault, StreamFault, WriteFault};
 pub use watch::Watched;

@@ -7,8 +7,16 @@ use Rattle.rs_record.specs.MediaType.{is_media_type}
 use Rattle.rs_model.specs.declared.command.Item.{Item}
 use Rattle.rs_model.specs.declared.command.Item.TheVariants.{Put, Delete}
 use Rattle.rs_items.specs.declared.item.ItemFault.{ItemFault}
-use Rattle.rs_items.specs.declared.item.ItemFault.TheVariants.{BadLine, BadName, BadHex, BadType}
+use Rattle.rs_items.specs.declared.item.ItemFault.TheVariants.{BadLine, BadName, BadHex, BadType, NoMemory}
 use Rattle.rs_items.specs.Fields.{fields}
+
+-- the word for a fault, in a script and over HTTP
+abbrev pub fault_word : ItemFault → List ℕ
+fault_word BadLine = codes "BadLine"
+fault_word BadName = codes "BadName"
+fault_word BadHex = codes "BadHex"
+fault_word BadType = codes "BadType"
+fault_word NoMemory = codes "NoMemory"
 
 -- the bytes of a HEX: `-` is no bytes, and an empty field is no HEX
 abbrev pub bytes_of : List ℕ → Option (List ℕ)

@@ -1,7 +1,7 @@
 //! The fields of a line.
 
-ghost use Rattle.std.specs.Prelude.{◌≡◌, ◌∷◌, [], ℕ, suc, IfSome, IfNone};
-ghost use Rattle.std.specs.List.{position};
+ghost use Rattle.std.specs.Prelude.{◌≡◌, ◌≤◌, ◌∷◌, [], ℕ, suc, drop, length, nat_eq, true, false, IfSome, IfNone, MatchOption};
+ghost use Rattle.std.specs.List.{position, starts_with};
 ghost use Rattle.rs_items.specs.Fields.{fields as fields_of, is_space};
 
 /// The place of the first space, or `None` if there is none.
@@ -22,4 +22,14 @@ pub fn split_field(bytes: &[u8]) -> Option<(&[u8], &[u8])>
         Some(i) => Some((&bytes[..i], &bytes[i + 1..])),
         None => None,
     }
+}
+
+/// What follows `prefix`, or `None` where the bytes do not begin with it.
+pub fn after<'a>(prefix: &[u8], bytes: &'a [u8]) -> Option<&'a [u8]>
+    ensures { MatchOption result (starts_with nat_eq bytes.now prefix.now ≡ false)
+        (λ rest. (starts_with nat_eq bytes.now prefix.now ≡ true)
+        × (rest.now ≡ drop (length prefix.now) bytes.now)
+        × (length prefix.now ≤ length bytes.now)) }
+{
+    bytes.strip_prefix(prefix)
 }

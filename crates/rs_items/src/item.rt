@@ -7,8 +7,8 @@ ghost use Rattle.rs_items.specs.Items.{item_of_line, item_of_fields, put_item as
 use crate::fields::split_field;
 use hex::FromHexError;
 use rs_model::{Body, Item};
-use rs_record::{MediaType, MediaTypeError, Name, NameError};
-use std::alloc::Global;
+use rs_record::{MediaType, Name, ValueFault};
+use std::alloc::{AllocError, Global};
 use thiserror::Error;
 
 /// Why a line is no item.
@@ -29,6 +29,33 @@ pub enum ItemFault {
     /// The memory for the name, the type or the bytes was refused.
     #[error("out of memory")]
     NoMemory,
+}
+
+impl ItemFault {
+    ghost use Rattle.rs_items.specs.Items.{fault_word};
+
+    /// The word for a fault in a script and over HTTP: the name of its variant.
+    pub fn word(self) -> &'static str
+        ensures { result.now ≡ fault_word self }
+    {
+        match self {
+            ItemFault::BadLine => "BadLine",
+            ItemFault::BadName => "BadName",
+            ItemFault::BadHex => "BadHex",
+            ItemFault::BadType => "BadType",
+            ItemFault::NoMemory => "NoMemory",
+        }
+    }
+}
+
+impl From<AllocError> for ItemFault {
+    ghost use Rattle.rs_items.specs.declared.item.ItemFault.TheVariants.{NoMemory};
+
+    ghost from_gives = { λ _ fault. fault ≡ NoMemory };
+
+    fn from(_: AllocError) -> ItemFault {
+        ItemFault::NoMemory
+    }
 }
 
 /// The item of `line`, which comes without its end: `put NAME HEX TYPE` or `delete NAME`. Single spaces separate the
@@ -71,8 +98,8 @@ fn delete_item(alloc: Global, name: &[u8]) -> Result<Item, ItemFault>
 {
     match Name::new(alloc, name) {
         Ok(name) => Ok(Item::Delete { name }),
-        Err(NameError::BadName) => Err(ItemFault::BadName),
-        Err(NameError::NoMemory) => Err(ItemFault::NoMemory),
+        Err(ValueFault::Malformed) => Err(ItemFault::BadName),
+        Err(ValueFault::NoMemory) => Err(ItemFault::NoMemory),
     }
 }
 
@@ -96,8 +123,8 @@ fn put_item(alloc: Global, name: &[u8], hex: &[u8], kind: &[u8]) -> Result<Item,
 {
     let name = match Name::new(alloc, name) {
         Ok(name) => name,
-        Err(NameError::BadName) => return Err(ItemFault::BadName),
-        Err(NameError::NoMemory) => return Err(ItemFault::NoMemory),
+        Err(ValueFault::Malformed) => return Err(ItemFault::BadName),
+        Err(ValueFault::NoMemory) => return Err(ItemFault::NoMemory),
     };
     let bytes = decoded(alloc, hex)?;
     match MediaType::new(alloc, kind) {
@@ -105,8 +132,8 @@ fn put_item(alloc: Global, name: &[u8], hex: &[u8], kind: &[u8]) -> Result<Item,
             let bytes = Body::new(bytes);
             Ok(Item::Put { name, kind, bytes })
         }
-        Err(MediaTypeError::BadType) => Err(ItemFault::BadType),
-        Err(MediaTypeError::NoMemory) => Err(ItemFault::NoMemory),
+        Err(ValueFault::Malformed) => Err(ItemFault::BadType),
+        Err(ValueFault::NoMemory) => Err(ItemFault::NoMemory),
     }
 }
 

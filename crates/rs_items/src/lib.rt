@@ -4,5 +4,5 @@
 mod fields;
 mod item;
 
-pub use fields::split_field;
+pub use fields::{after, split_field};
 pub use item::{ItemFault, item_of};

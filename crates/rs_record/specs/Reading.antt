@@ -9,8 +9,8 @@ pub use Rattle.rs_fixity.specs.Cut.{◌>>=◌}
 use Rattle.rs_record.specs.Name.{is_name}
 use Rattle.rs_record.specs.MediaType.{is_media_type}
 use Rattle.rs_record.specs.Changes.{bound, deleted}
-use Rattle.rs_record.specs.declared.fields.FieldFault.{FieldFault}
-use Rattle.rs_record.specs.declared.fields.FieldFault.TheVariants.{Malformed, NoMemory}
+use Rattle.rs_record.specs.declared.fault.ValueFault.{ValueFault}
+use Rattle.rs_record.specs.declared.fault.ValueFault.TheVariants.{Malformed, NoMemory}
 use Rattle.rs_record.specs.declared.facts.Facts.{Facts}
 use Rattle.rs_record.specs.declared.record.Record.{Record}
 use Rattle.rs_record.specs.declared.change.Change.{Change}
@@ -21,7 +21,7 @@ IsSeenAs view None read = read ≡ None
 IsSeenAs view (Some x) read = read ≡ Some (view x)
 
 -- What a reader returned is the value at the front and the length of its format. It lacks memory only where there is one.
-abbrev pub IsValueAt : {A : Type 0} → (A → List ℕ) → Result (A × ℕ) FieldFault → Option (A × List ℕ) → Type 0
+abbrev pub IsValueAt : {A : Type 0} → (A → List ℕ) → Result (A × ℕ) ValueFault → Option (A × List ℕ) → Type 0
 IsValueAt write (Ok x) read = (option_map (λ y. y.0) read ≡ Some x.0) × (x.1 ≡ length (write x.0))
 IsValueAt write (Err Malformed) read = read ≡ None
 IsValueAt write (Err NoMemory) read = IsSome read

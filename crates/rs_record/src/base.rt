@@ -5,20 +5,9 @@ ghost use Rattle.std.specs.List.{list_all};
 ghost use Rattle.rs_record.specs.Base.{is_base, is_base_char as base_byte, has_scheme as scheme_first};
 
 use crate::bytes::{is_alphanumeric, is_one_of};
+use crate::fault::ValueFault;
 use std::alloc::{AllocError, Global};
 use std::marker::Model;
-use thiserror::Error;
-
-/// Why a base was refused.
-#[derive(Clone, Copy, Debug, PartialEq, Eq, Error)]
-pub enum BaseError {
-    /// The bytes are no lawful base.
-    #[error("the base is not lawful")]
-    BadBase,
-    /// The memory for the base was refused.
-    #[error("out of memory")]
-    NoMemory,
-}
 
 /// What the URIs of a source begin with: 8 to 128 bytes, seen as the list of its bytes.
 ///
@@ -45,17 +34,17 @@ impl Base {
     ///
     /// # Errors
     ///
-    /// `BadBase` exactly where the bytes are no lawful base, without asking for memory;
+    /// `Malformed` exactly where the bytes are no lawful base, without asking for memory;
     /// `NoMemory` where the memory for the copy was refused.
-    pub fn new(alloc: Global, bytes: &[u8]) -> Result<Base, BaseError>
+    pub fn new(alloc: Global, bytes: &[u8]) -> Result<Base, ValueFault>
         ensures value { IfOk result (λ base. base ≡ bytes.now) }
         ensures lawful { OnOk result (IsTrue (is_base bytes.now)) }
-        ensures bad_base { IsErrOf result BaseError.BadBase ↔ (is_base bytes.now ≡ false) }
+        ensures malformed { IsErrOf result ValueFault.Malformed ↔ (is_base bytes.now ≡ false) }
     {
         if !is_lawful(bytes) {
-            return Err(BaseError::BadBase);
+            return Err(ValueFault::Malformed);
         }
-        Base::from_lawful(alloc, bytes).map_err(|_| BaseError::NoMemory)
+        Base::from_lawful(alloc, bytes).map_err(|_| ValueFault::NoMemory)
     }
 
     /// The bytes of the base, 8 to 128.

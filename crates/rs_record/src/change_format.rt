@@ -8,7 +8,8 @@ ghost use Rattle.rs_record.specs.Borrowed.{change_seen, AreLawfulTexts};
 ghost use Rattle.rs_record.specs.Reading.{IsSeenAs, IsValueAt, change_at as change_read};
 
 use crate::borrowed::ChangeFields;
-use crate::fields::{FieldFault, append, facts_at, facts_size, name_at, u64_at};
+use crate::fault::ValueFault;
+use crate::fields::{append, facts_at, facts_size, name_at, u64_at};
 use crate::{Change, What};
 use rs_time::Moment;
 use std::alloc::{AllocError, Global};
@@ -81,26 +82,26 @@ pub fn write_change(change: &Change, out: &mut Vec<u8>) -> Result<(), AllocError
 ///
 /// `Malformed` exactly where the bytes begin with no format of a lawful change; `NoMemory` where
 /// the memory for the name or the media type was refused.
-pub fn read_change(alloc: Global, bytes: &[u8]) -> Result<(Change, usize), FieldFault>
+pub fn read_change(alloc: Global, bytes: &[u8]) -> Result<(Change, usize), ValueFault>
     ensures found { IfOk result (λ read. IsLawfulChange read.0
         × BeginsWith bytes.now (change_bytes read.0)) }
     ensures size { IfOk result (λ read. read.1 ≡ length (change_bytes read.0)) }
     ensures only { (c : Change) → IsLawfulChange c → BeginsWith bytes.now (change_bytes c)
         → IfOk result (λ read. read.0 ≡ c) }
-    ensures malformed { IsErrOf result FieldFault.Malformed
+    ensures malformed { IsErrOf result ValueFault.Malformed
         ↔ ((c : Change) → IsLawfulChange c → ¬ BeginsWith bytes.now (change_bytes c)) }
 {
     change_of(alloc, bytes)
 }
 
 /// Reads a change as `change_at` of `specs/Reading.antt` does.
-fn change_of(alloc: Global, bytes: &[u8]) -> Result<(Change, usize), FieldFault>
+fn change_of(alloc: Global, bytes: &[u8]) -> Result<(Change, usize), ValueFault>
     ensures { IsValueAt change_bytes result (change_read bytes.now) }
 {
     let Some((fields, _)) = change_at(bytes) else {
-        return Err(FieldFault::Malformed);
+        return Err(ValueFault::Malformed);
     };
-    let change = fields.to_change(alloc).map_err(|_| FieldFault::NoMemory)?;
+    let change = fields.to_change(alloc).map_err(|_| ValueFault::NoMemory)?;
     let size = change_size(&change);
     Ok((change, size))
 }

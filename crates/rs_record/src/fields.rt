@@ -12,21 +12,9 @@ ghost use Rattle.rs_record.specs.Borrowed.{facts_seen};
 ghost use Rattle.rs_record.specs.Reading.{IsSeenAs, number_in, counted_at as counted_read, text_at, facts_at as facts_read};
 
 use crate::borrowed::FactsFields;
-use crate::{MediaType, media_type, name};
+use crate::{MediaType, Name};
 use rs_fixity::Digests;
 use std::alloc::AllocError;
-use thiserror::Error;
-
-/// Why nothing was read.
-#[derive(Clone, Copy, Debug, PartialEq, Eq, Error)]
-pub enum FieldFault {
-    /// The bytes do not begin with a format of a lawful value.
-    #[error("the bytes are no lawful field")]
-    Malformed,
-    /// The memory for the value was refused.
-    #[error("out of memory")]
-    NoMemory,
-}
 
 /// A number of 2 bytes.
 pub fn u16_at(bytes: &[u8]) -> Option<(u16, &[u8])>
@@ -68,7 +56,7 @@ pub(crate) fn name_at(bytes: &[u8]) -> Option<(&[u8], &[u8])>
     ensures lawful { IfSome result (λ x. IsTrue (is_name x.0.now)) }
 {
     let (name, rest) = counted_at(bytes)?;
-    if !name::is_lawful(name) {
+    if !Name::is_lawful(name) {
         return None;
     }
     Some((name, rest))
@@ -81,7 +69,7 @@ fn media_type_at(bytes: &[u8]) -> Option<(&[u8], &[u8])>
     ensures lawful { IfSome result (λ x. IsTrue (is_media_type x.0.now)) }
 {
     let (kind, rest) = counted_at(bytes)?;
-    if !media_type::is_lawful(kind) {
+    if !MediaType::is_lawful(kind) {
         return None;
     }
     Some((kind, rest))

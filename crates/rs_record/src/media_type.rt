@@ -6,21 +6,10 @@ ghost use Rattle.rs_record.specs.Bytes.{is_between};
 ghost use Rattle.rs_record.specs.MediaType.{is_media_type, is_tchar as token_byte, begins_token as token_first, begins_subtype as subtype_first, after_token as token_rest};
 
 use crate::bytes::{is_alphanumeric, is_one_of};
+use crate::fault::ValueFault;
 use smallvec::SmallVec;
 use std::alloc::{AllocError, Global};
 use std::marker::Model;
-use thiserror::Error;
-
-/// Why a media type was refused.
-#[derive(Clone, Copy, Debug, PartialEq, Eq, Error)]
-pub enum MediaTypeError {
-    /// The bytes are no lawful media type.
-    #[error("the media type is not lawful")]
-    BadType,
-    /// The memory for the media type was refused.
-    #[error("out of memory")]
-    NoMemory,
-}
 
 /// A media type with its parameters: 3 to 100 bytes, seen as the list of its bytes.
 ///
@@ -51,18 +40,30 @@ impl MediaType {
     ///
     /// # Errors
     ///
-    /// `BadType` exactly where the bytes are no lawful media type, without asking for memory;
+    /// `Malformed` exactly where the bytes are no lawful media type, without asking for memory;
     /// `NoMemory` where the memory for the copy was refused.
-    pub fn new(alloc: Global, bytes: &[u8]) -> Result<MediaType, MediaTypeError>
+    pub fn new(alloc: Global, bytes: &[u8]) -> Result<MediaType, ValueFault>
         ensures value { IfOk result (λ kind. kind ≡ bytes.now) }
         ensures lawful { OnOk result (IsTrue (is_media_type bytes.now)) }
-        ensures bad_type { IsErrOf result MediaTypeError.BadType
+        ensures malformed { IsErrOf result ValueFault.Malformed
             ↔ (is_media_type bytes.now ≡ false) }
     {
-        if !is_lawful(bytes) {
-            return Err(MediaTypeError::BadType);
+        if !MediaType::is_lawful(bytes) {
+            return Err(ValueFault::Malformed);
         }
-        MediaType::from_lawful(alloc, bytes).map_err(|_| MediaTypeError::NoMemory)
+        MediaType::from_lawful(alloc, bytes).map_err(|_| ValueFault::NoMemory)
+    }
+
+    /// Whether the bytes are a lawful media type.
+    pub fn is_lawful(bytes: &[u8]) -> bool
+        ensures { result ≡ is_media_type bytes.now }
+    {
+        3 <= bytes.len()
+            && bytes.len() <= 100
+            && are_printable(bytes)
+            && begins_token(bytes)
+            && begins_subtype(after_token(bytes))
+            && !bytes.ends_with(b" ")
     }
 
     /// The bytes of the media type, 3 to 100.
@@ -84,8 +85,12 @@ impl MediaType {
         MediaType::from_lawful(alloc, self.bytes())
     }
 
-    /// The media type of lawful bytes.
-    pub(crate) fn from_lawful(alloc: Global, bytes: &[u8]) -> Result<MediaType, AllocError>
+    /// The media type of lawful bytes, copied.
+    ///
+    /// # Errors
+    ///
+    /// An error where the memory for the copy was refused.
+    pub fn from_lawful(alloc: Global, bytes: &[u8]) -> Result<MediaType, AllocError>
         requires { IsTrue (is_media_type bytes.now) }
         ensures { IfOk result (λ kind. kind ≡ bytes.now) }
     {
@@ -93,18 +98,6 @@ impl MediaType {
             bytes: SmallVec::from_slice(alloc, bytes)?,
         })
     }
-}
-
-/// Whether the bytes are a media type.
-pub(crate) fn is_lawful(bytes: &[u8]) -> bool
-    ensures { result ≡ is_media_type bytes.now }
-{
-    3 <= bytes.len()
-        && bytes.len() <= 100
-        && are_printable(bytes)
-        && begins_token(bytes)
-        && begins_subtype(after_token(bytes))
-        && !bytes.ends_with(b" ")
 }
 
 /// Whether each byte is printable ASCII.

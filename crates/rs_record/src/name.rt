@@ -7,22 +7,11 @@ ghost use Rattle.std.specs.List.{list_all};
 ghost use Rattle.rs_record.specs.Name.{is_name, is_segment as segment_bytes, segments, are_pchars as pchar_bytes, is_plain as plain_byte, two_hex as two_hex_bytes};
 
 use crate::bytes::{is_alphanumeric, is_hex, is_one_of};
+use crate::fault::ValueFault;
 use smallvec::SmallVec;
 use std::alloc::{AllocError, Global};
 use std::cmp::Ordering;
 use std::marker::Model;
-use thiserror::Error;
-
-/// Why a name was refused.
-#[derive(Clone, Copy, Debug, PartialEq, Eq, Error)]
-pub enum NameError {
-    /// The bytes are no lawful name.
-    #[error("the name is not lawful")]
-    BadName,
-    /// The memory for the name was refused.
-    #[error("out of memory")]
-    NoMemory,
-}
 
 /// The name of a resource: 1 to 240 bytes, seen as the list of its bytes.
 ///
@@ -53,17 +42,24 @@ impl Name {
     ///
     /// # Errors
     ///
-    /// `BadName` exactly where the bytes are no lawful name, without asking for memory;
+    /// `Malformed` exactly where the bytes are no lawful name, without asking for memory;
     /// `NoMemory` where the memory for the copy was refused.
-    pub fn new(alloc: Global, bytes: &[u8]) -> Result<Name, NameError>
+    pub fn new(alloc: Global, bytes: &[u8]) -> Result<Name, ValueFault>
         ensures value { IfOk result (λ name. name ≡ bytes.now) }
         ensures lawful { OnOk result (IsTrue (is_name bytes.now)) }
-        ensures bad_name { IsErrOf result NameError.BadName ↔ (is_name bytes.now ≡ false) }
+        ensures malformed { IsErrOf result ValueFault.Malformed ↔ (is_name bytes.now ≡ false) }
     {
-        if !is_lawful(bytes) {
-            return Err(NameError::BadName);
+        if !Name::is_lawful(bytes) {
+            return Err(ValueFault::Malformed);
         }
-        Name::from_lawful(alloc, bytes).map_err(|_| NameError::NoMemory)
+        Name::from_lawful(alloc, bytes).map_err(|_| ValueFault::NoMemory)
+    }
+
+    /// Whether the bytes are a lawful name.
+    pub fn is_lawful(bytes: &[u8]) -> bool
+        ensures { result ≡ is_name bytes.now }
+    {
+        bytes.len() <= 240 && are_segments(bytes)
     }
 
     /// The bytes of the name, 1 to 240.
@@ -92,8 +88,12 @@ impl Name {
         Name::from_lawful(alloc, self.bytes())
     }
 
-    /// The name of lawful bytes.
-    pub(crate) fn from_lawful(alloc: Global, bytes: &[u8]) -> Result<Name, AllocError>
+    /// The name of lawful bytes, copied.
+    ///
+    /// # Errors
+    ///
+    /// An error where the memory for the copy was refused.
+    pub fn from_lawful(alloc: Global, bytes: &[u8]) -> Result<Name, AllocError>
         requires { IsTrue (is_name bytes.now) }
         ensures { IfOk result (λ name. name ≡ bytes.now) }
     {
@@ -101,13 +101,6 @@ impl Name {
             bytes: SmallVec::from_slice(alloc, bytes)?,
         })
     }
-}
-
-/// Whether the bytes are a name.
-pub(crate) fn is_lawful(bytes: &[u8]) -> bool
-    ensures { result ≡ is_name bytes.now }
-{
-    bytes.len() <= 240 && are_segments(bytes)
 }
 
 /// Whether each part between the `/` is a segment.

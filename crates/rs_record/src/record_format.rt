@@ -11,7 +11,8 @@ ghost use Rattle.rs_record.specs.Reading.{IsSeenAs, IsValueAt, record_at as reco
 
 use crate::Record;
 use crate::borrowed::RecordFields;
-use crate::fields::{FieldFault, append, facts_at, facts_size, name_at, u32_at, u64_at};
+use crate::fault::ValueFault;
+use crate::fields::{append, facts_at, facts_size, name_at, u32_at, u64_at};
 use rs_extent::Extent;
 use rs_time::Moment;
 use std::alloc::{AllocError, Global};
@@ -67,26 +68,26 @@ pub fn write_record(record: &Record, out: &mut Vec<u8>) -> Result<(), AllocError
 ///
 /// `Malformed` exactly where the bytes begin with no format of a lawful record; `NoMemory` where
 /// the memory for the name or the media type was refused.
-pub fn read_record(alloc: Global, bytes: &[u8]) -> Result<(Record, usize), FieldFault>
+pub fn read_record(alloc: Global, bytes: &[u8]) -> Result<(Record, usize), ValueFault>
     ensures found { IfOk result (λ read. IsLawfulRecord read.0
         × BeginsWith bytes.now (record_bytes read.0)) }
     ensures size { IfOk result (λ read. read.1 ≡ length (record_bytes read.0)) }
     ensures only { (r : Record) → IsLawfulRecord r → BeginsWith bytes.now (record_bytes r)
         → IfOk result (λ read. read.0 ≡ r) }
-    ensures malformed { IsErrOf result FieldFault.Malformed
+    ensures malformed { IsErrOf result ValueFault.Malformed
         ↔ ((r : Record) → IsLawfulRecord r → ¬ BeginsWith bytes.now (record_bytes r)) }
 {
     record_of(alloc, bytes)
 }
 
 /// Reads a record as `record_at` of `specs/Reading.antt` does.
-fn record_of(alloc: Global, bytes: &[u8]) -> Result<(Record, usize), FieldFault>
+fn record_of(alloc: Global, bytes: &[u8]) -> Result<(Record, usize), ValueFault>
     ensures { IsValueAt record_bytes result (record_read bytes.now) }
 {
     let Some((fields, _)) = record_at(bytes) else {
-        return Err(FieldFault::Malformed);
+        return Err(ValueFault::Malformed);
     };
-    let record = fields.to_record(alloc).map_err(|_| FieldFault::NoMemory)?;
+    let record = fields.to_record(alloc).map_err(|_| ValueFault::NoMemory)?;
     let size = record_size(&record);
     Ok((record, size))
 }

@@ -1,5 +1,5 @@
 //! The calls of a memory disk.
-ghost use Rattle.std.specs.Prelude.{◌≡◌, ℕ, ◌^◌, ◌+◌, ◌≤◌, ◌<◌, ◌⊎◌, ◌↔◌, is_ok, if◌then◌else◌, length, take, drop, IsOk, OnOk, OnErr, IfOk};
+ghost use Rattle.std.specs.Prelude.{◌≡◌, ℕ, ◌^◌, ◌+◌, ◌≤◌, ◌<◌, ◌⊎◌, ◌↔◌, is_ok, not, if◌then◌else◌, length, take, drop, IsOk, OnOk, OnErr, IfOk};
 ghost use Rattle.rs_disk.specs.Memory.{memory_state, planned, sound, MovesOn, Begun, Changes, SameContents, SameCounts};
 ghost use Rattle.rs_disk.specs.Calls.{CountsCall, Stays, Writes, Tears, Settles};
 ghost use Rattle.rs_disk.specs.Medium.{resting, widened, partly_written};
@@ -33,16 +33,19 @@ impl MemoryDisk {
         Ok(call)
     }
 
-    /// Counts a fault where the call failed.
+    /// Counts a fault where the call failed, and keeps whether it did.
     fn end_call(&mut self, done: Result<(), Fault>) -> Result<(), Fault>
         requires { self.old.faults < self.old.calls }
         ensures result { result ≡ done }
         ensures state { memory_state self.new
-            ≡ record (memory_state self.old)
-            { faults = self.old.faults + (if is_ok done then 0 else 1) } }
+            ≡ record (memory_state self.old) {
+              faults = self.old.faults + (if is_ok done then 0 else 1);
+              last_failed = not (is_ok done);
+            } }
         ensures plan { self.new.plan ≡ self.old.plan }
     {
-        if done.is_err() {
+        self.last_failed = done.is_err();
+        if self.last_failed {
             self.faults += 1;
         }
         done

@@ -5,10 +5,10 @@ pub returns-clause-any : goal.returns-clause-any
 returns-clause-any g c = λ old mid new left right split one two. runs_on old mid new left right split one two
 
 pub returns-clause-writing : goal.returns-clause-writing
-returns-clause-writing g c = λ old mid new left right split one two. writing_on old mid new left right split one two
+returns-clause-writing g c = λ old mid new left right split no_further one two. writing_on old mid new left right split no_further one two
 
 pub returns-clause-reading : goal.returns-clause-reading
-returns-clause-reading g c = λ old mid new left right split one two. reading_on old mid new left right split one two
+returns-clause-reading g c = λ old mid new left right split no_further one two. reading_on old mid new left right split no_further one two
 
 pub returns-clause-nothing : goal.returns-clause-nothing
-returns-clause-nothing g c = λ old mid new left right split one two. nothing_on old mid new left right split one two
+returns-clause-nothing g c = λ old mid new left right split no_further one two. nothing_on old mid new left right split no_further one two

@@ -15,7 +15,7 @@ returns-clause-settles c =
       | in-Works w ↦
           ok_from w.settle.result c.end_call.result (ap is_ok (c.end_call.ensures.result ∙ w.done-is) ∙ w.map_err-done.ensures.variant)
           (λ changes.
-          let total = changed old (memory_state c.begin_call.new.self) (memory_state w.settle.new.self) (memory_state c.match-step.self) new _ _ b.call b.state (ap memory_state w.self-is) c.end_call.ensures.state (λ (m : Medium). m) (λ (m : Medium). resting m.seen) changes in
+          let total = changed old (memory_state c.begin_call.new.self) (memory_state w.settle.new.self) (memory_state c.match-step.self) new _ _ _ b.call b.state (ap memory_state w.self-is) c.end_call.ensures.state (λ (m : Medium). m) (λ (m : Medium). resting m.seen) changes in
           let settles : Settles old new = record { now = total.now; passes = passes_from old new old.now (resting old.now.seen) total } in
           settles)
           w.settle.ensures.ok
@@ -32,9 +32,9 @@ returns-clause-stays c =
     elim c.match-step.branch [
       | in-Works w ↦
           err_from w.settle.result c.end_call.result (ap is_ok (c.end_call.ensures.result ∙ w.done-is) ∙ w.map_err-done.ensures.variant)
-          (kept old begun (memory_state w.settle.new.self) (memory_state c.match-step.self) new _ _ b.call b.state (ap memory_state w.self-is) c.end_call.ensures.state (d.replays d.calls (omega arith)))
+          (kept old begun (memory_state w.settle.new.self) (memory_state c.match-step.self) new _ _ _ b.call b.state (ap memory_state w.self-is) c.end_call.ensures.state (d.replays d.calls (omega arith)))
           w.settle.ensures.err
       | in_default w ↦
           on_err (Stays old new) c.end_call.result
-          (kept old begun begun (memory_state c.match-step.self) new _ _ b.call b.state (ap memory_state w.self-is) c.end_call.ensures.state (d.replays d.calls (omega arith)) (record { now = refl; past = λ m. refl }))
+          (kept old begun begun (memory_state c.match-step.self) new _ _ _ b.call b.state (ap memory_state w.self-is) c.end_call.ensures.state (d.replays d.calls (omega arith)) (record { now = refl; past = λ m. refl }))
     ]

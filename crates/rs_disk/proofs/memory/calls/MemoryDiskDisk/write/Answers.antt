@@ -17,7 +17,7 @@ returns-clause-writes c =
       | in-Works w ↦
           ok_from w.put.result c.end_call.result (ap is_ok (c.end_call.ensures.result ∙ w.done-is) ∙ w.map_err-done.ensures.variant)
           (λ changes.
-          let total = changed old (memory_state c.begin_call.new.self) (memory_state w.put.new.self) (memory_state c.match-step.self) new _ _ b.call b.state (ap memory_state w.self-is) c.end_call.ensures.state (λ (m : Medium). widened m at (length bytes)) (λ (m : Medium). written m at bytes) changes in
+          let total = changed old (memory_state c.begin_call.new.self) (memory_state w.put.new.self) (memory_state c.match-step.self) new _ _ _ b.call b.state (ap memory_state w.self-is) c.end_call.ensures.state (λ (m : Medium). widened m at (length bytes)) (λ (m : Medium). written m at bytes) changes in
           let writes : Writes at bytes old new = record { now = total.now; passes = passes_from old new (widened old.now at (length bytes)) (written old.now at bytes) total } in
           writes)
           w.put.ensures.ok
@@ -43,17 +43,17 @@ returns-clause-tears c =
     elim c.match-step.branch [
       | in-Works w ↦
           err_from w.put.result c.end_call.result (ap is_ok (c.end_call.ensures.result ∙ w.done-is) ∙ w.map_err-done.ensures.variant)
-          (λ keeps. refuses_from old new at n (kept old begun (memory_state w.put.new.self) mid new _ _ b.call b.state (ap memory_state w.self-is) c.end_call.ensures.state current keeps))
+          (λ keeps. refuses_from old new at n (kept old begun (memory_state w.put.new.self) mid new _ _ _ b.call b.state (ap memory_state w.self-is) c.end_call.ensures.state current keeps))
           w.put.ensures.err
       | in-FailsHalfway w ↦
           on_err (Tears at n old new) c.end_call.result
-          (torn_put old begun (memory_state w.put-noted.new.self) mid new _ _ b.call b.state (ap memory_state w.self-is) c.end_call.ensures.state
+          (torn_put old begun (memory_state w.put-noted.new.self) mid new _ _ _ b.call b.state (ap memory_state w.self-is) c.end_call.ensures.state
           at n (take (n / 2) bytes) w.put-noted.result d.contents.sound c.requires half current w.put-noted.ensures.ok w.put-noted.ensures.err)
       | in-FailsAtStart w ↦
           on_err (Tears at n old new) c.end_call.result
-          (torn_put old begun (memory_state w.put-noted-in-FailsAtStart.new.self) mid new _ _ b.call b.state (ap memory_state w.self-is) c.end_call.ensures.state
+          (torn_put old begun (memory_state w.put-noted-in-FailsAtStart.new.self) mid new _ _ _ b.call b.state (ap memory_state w.self-is) c.end_call.ensures.state
           at n [] w.put-noted-in-FailsAtStart.result d.contents.sound c.requires none current w.put-noted-in-FailsAtStart.ensures.ok w.put-noted-in-FailsAtStart.ensures.err)
       | in-Refused w ↦
           on_err (Tears at n old new) c.end_call.result
-          (refuses_from old new at n (kept old begun begun mid new _ _ b.call b.state (ap memory_state w.self-is) c.end_call.ensures.state current (record { now = refl; past = λ m. refl })))
+          (refuses_from old new at n (kept old begun begun mid new _ _ _ b.call b.state (ap memory_state w.self-is) c.end_call.ensures.state current (record { now = refl; past = λ m. refl })))
     ]
