@@ -1,16 +1,14 @@
 //! A catalogue in memory.
 
 ghost use Rattle.std.specs.Prelude.{◌≡◌, ◌<◌, [], length, map, slice_get, Some, IfOk, IfSome, IsNone};
-ghost use Rattle.std.specs.List.{list_any};
 ghost use Rattle.std.specs.Option.{option_copied};
 ghost use Rattle.rs_model.specs.Names.{value_of, bind, unbind};
 ghost use Rattle.rs_model.specs.State.{most_resources};
 ghost use Rattle.rs_page.specs.Items.{record_filled};
-ghost use Rattle.rs_page.specs.Pages.{same_page, placed_extents, stored_refs};
+ghost use Rattle.rs_page.specs.Pages.{placed_extents, stored_refs};
 ghost use Rattle.rs_page.specs.SharedPages.{KeepsPages};
-ghost use Rattle.rs_pages.specs.Rule.{home, bound_in, unbound_in};
+ghost use Rattle.rs_pages.specs.Rule.{bound_in, unbound_in};
 ghost use Rattle.rs_pages.specs.Dropped.{full_pages};
-ghost use Rattle.rs_pages.specs.Entries.{entry_at};
 ghost use Rattle.rs_catalogue.specs.Filled.{pages_filled};
 ghost use Rattle.rs_catalogue.specs.Named.{named};
 ghost use Rattle.rs_catalogue.specs.Catalogue.{records_of, AreHeld, IsCatalogue, StandsUnstored};
@@ -78,12 +76,12 @@ impl Catalogue {
         self.pages.len()
     }
 
-    /// How many pages there are.
-    pub fn page_count(&self) -> usize
-        ensures value { result ≡ length self.now }
-        ensures lawful { IsCatalogue self.now }
+    /// Its pages: their number, their entries and their places are asked of them.
+    pub fn as_pages(&self) -> &Pages<Record>
+        ensures value { result.now ≡ self.now }
+        ensures lawful { AreHeld (records_of self.now) }
     {
-        self.pages.page_count()
+        &self.pages
     }
 
     /// The record at place `i` in the order of the names, counted from 0. It takes as many steps as
@@ -191,20 +189,5 @@ impl Catalogue {
         ensures lawful { IsCatalogue self.now }
     {
         self.pages.pages(alloc)
-    }
-
-    /// The entry of the page that has, or would take, a record of this name, where that page is on the
-    /// disk.
-    pub fn entry_for(&self, name: &Name) -> Option<PageRef>
-        ensures { result ≡ entry_at (home (λ (r : Record). r.name) name.now self.now) self.now }
-    {
-        self.pages.entry_for(name)
-    }
-
-    /// Whether one of the pages on the disk has this entry. It looks at each page.
-    pub fn has_entry(&self, entry: &PageRef) -> bool
-        ensures { result ≡ list_any (same_page entry.now) (stored_refs self.now) }
-    {
-        self.pages.has_entry(entry)
     }
 }

@@ -1,6 +1,6 @@
 //! A catalogue on the disk.
 
-ghost use Rattle.std.specs.Prelude.{◌≡◌, ℕ, List, All, IfOk, OnOk, OnErr, IsErrOf, IsTrue, ◌≤◌, ◌+◌, ◌++◌, length, vec_len, vec_capacity};
+ghost use Rattle.std.specs.Prelude.{◌≡◌, ℕ, List, All, IfOk, OnOk, OnErr, IsErrOf, IsTrue};
 ghost use Rattle.rs_extent.specs.Extents.{AreApart, AreOnDisk};
 ghost use Rattle.rs_page.specs.Items.{record_format};
 ghost use Rattle.rs_page.specs.Placing.{HasNoPlace};
@@ -12,7 +12,7 @@ ghost use Rattle.rs_catalogue.specs.Catalogue.{records_of, StandsUnstored, Holds
 use crate::Catalogue;
 use rs_body::LoadFault;
 use rs_disk::Disk;
-use rs_extent::{Extent, Used};
+use rs_extent::Used;
 use rs_page::laws::pages_hold_once;
 use rs_page::{Full, PageRef, StoreFault};
 use rs_pages::Pages;
@@ -37,17 +37,6 @@ impl Catalogue {
         ensures records { records_of self.new ≡ records_of self.old }
     {
         self.pages.place_touched(used)
-    }
-
-    /// Adds the blocks of the placed pages that are not written yet, in the order of the pages, to a
-    /// list that has room for an extent of each page. It takes no memory.
-    pub fn list_placed(&self, extents: &mut Vec<Extent>)
-        requires { vec_len extents.old + length self.now ≤ vec_capacity extents.old }
-        ensures items { extents.new.items ≡ extents.old.items ++ placed_extents self.now }
-        ensures len { vec_len extents.new ≤ vec_len extents.old + length self.now }
-        ensures capacity { vec_capacity extents.old ≤ vec_capacity extents.new }
-    {
-        self.pages.list_placed(extents);
     }
 
     /// Writes each page that was given blocks, by one device call a page. Pages that are on the disk

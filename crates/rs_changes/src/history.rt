@@ -9,7 +9,6 @@ ghost use Rattle.rs_page.specs.Items.{change_filled};
 ghost use Rattle.rs_page.specs.Pages.{placed_extents, stored_refs};
 ghost use Rattle.rs_page.specs.SharedPages.{KeepsPages};
 ghost use Rattle.rs_pages.specs.Rule.{appended_to};
-ghost use Rattle.rs_pages.specs.Entries.{open_entry};
 ghost use Rattle.rs_pages.specs.Dropped.{front_pages, full_pages, TouchesFew};
 ghost use Rattle.rs_changes.specs.Filled.{history_filled};
 ghost use Rattle.rs_changes.specs.History.{Numbered, AreKept, with_pages, without_parts, changes_of, last_of, IsHistory, EndsUnstored, part_start, part_end};
@@ -87,12 +86,12 @@ impl History {
         self.pages.len()
     }
 
-    /// How many pages there are.
-    pub fn page_count(&self) -> usize
-        ensures value { result ≡ length self.now.pages }
-        ensures lawful { IsHistory self.now.pages }
+    /// Its pages: their number, their entries and their places are asked of them.
+    pub fn as_pages(&self) -> &Pages<Change>
+        ensures value { result.now ≡ self.now.pages }
+        ensures lawful { AreKept (changes_of self.now.pages) }
     {
-        self.pages.page_count()
+        &self.pages
     }
 
     /// The number of the first part of the changes that is kept, which is how many were dropped: at
@@ -264,12 +263,5 @@ impl History {
         ensures lawful { IsHistory self.now.pages }
     {
         self.pages.pages(alloc)
-    }
-
-    /// The entry of the last page, where that page is on the disk and the next change goes into it.
-    pub fn open_entry(&self) -> Option<PageRef>
-        ensures { result ≡ open_entry self.now.pages }
-    {
-        self.pages.open_entry()
     }
 }

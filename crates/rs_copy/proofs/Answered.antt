@@ -33,7 +33,9 @@ copies_written r old new l l' slots large same lists laid found =
     (subst (λ (x : Layout). Copies r old new (Ok (record { slots = fresh root; contents = x.contents; used = x.used }))) (sym w.layout)
     (record {
       rests = w.runs.rests;
+      once = w.once;
       advances = w.runs.advances;
+      stops = w.runs.stops;
       too_small = (λ is. absurd cc, λ small. absurd (large small));
       full = λ is. absurd cc;
       untouched = λ is. elim is [ inl small ↦ absurd cc | inr full ↦ absurd cc ];
@@ -64,7 +66,9 @@ copies_failed r old new l l' fault result large same lists laid is found =
     subst (λ (x : Result Copied CopyFault). Copies r old new x) (sym is)
     (record {
       rests = w.runs.rests;
+      once = w.once;
       advances = w.runs.advances;
+      stops = w.runs.stops;
       too_small = (λ is. absurd (not_small (same_err fault TooSmall is)), λ small. absurd (large small));
       full = λ full. absurd (not_full (same_err fault Full full));
       untouched = λ either. elim either [ inl small ↦ absurd (not_small (same_err fault TooSmall small)) | inr full ↦ absurd (not_full (same_err fault Full full)) ];

@@ -5,7 +5,7 @@ use Rattle.std.specs.Result.{IsErrAnd}
 use Rattle.std.proofs.lemmas.Bool.Decides.{nat_tests}
 use Rattle.rs_disk.specs.Medium.{Medium, DiskState, IsImage, IsMedium, resting}
 use Rattle.rs_disk.specs.Leaves.{Leaves}
-use Rattle.rs_disk.specs.Runs.{MakesCalls}
+use Rattle.rs_disk.specs.Runs.{CallsAtMost, MakesCalls}
 use Rattle.rs_copy.proofs.FromBelow.{resting_image, is_behind, keeps_behind, tells_behind, stored_items}
 use Rattle.rs_commit.specs.Commit.{SameBehind, WritesSlots}
 use Rattle.rs_commit.specs.Format.{AreShut}
@@ -22,7 +22,7 @@ use Rattle.rs_copy.specs.declared.faults.CopyFault.{CopyFault}
 use Rattle.rs_copy.specs.declared.faults.CopyFault.TheVariants.{Device, Damaged}
 use Rattle.rs_copy.specs.declared.laying_out.Layout.{Layout}
 use Rattle.rs_copy.specs.Laying.{IsLaidOut, all_stored}
-use Rattle.rs_copy.specs.Copies.{Disks, HasItsBody}
+use Rattle.rs_copy.specs.Copies.{Disks, HasItsBody, calls_for}
 use Rattle.rs_copy.specs.Copying.{CopiesOnly, CopyStands, IsBehindRoot, IsOfWriting, NoneOrState, RunsCopying, WritesCopy, copied_root, is_slot, written_in}
 use Rattle.rs_copy.proofs.Handed.{handed_err, told_on}
 use Rattle.rs_copy.proofs.Laid.{bodies_among, room}
@@ -40,15 +40,16 @@ not_yet old new P Q left short =
 
 -- What a copy leaves that ended in a fault.
 pub ends_badly : {S : Type 0} {c : Contents} {l l' : Layout} {old new : Disks} (result : Result Standing CopyFault) (fault : CopyFault) → IsErrAnd result (λ y. y ≡ fault)
-    → RunsCopying (IsErrOf {T = S} (Err fault) Device) old new → IsOfWriting fault
+    → RunsCopying (IsErrOf {T = S} (Err fault) Device) old new → CallsAtMost (calls_for (records_of c.catalogue)) old.from new.from → IsOfWriting fault
     → (IsErrOf {T = S} (Err fault) Damaged → IsTrue new.from.honest → ¬ All (HasItsBody old.from.now.seen) (records_of c.catalogue))
     → ((s : Source) → IsTrue new.from.honest → state_in old.from.now.seen c ≡ s → (old.to.calls + 3 < new.to.calls) ⊎ (new.to.faults ≡ old.to.faults)
     → Leaves old.to new.to (λ m image. old.to.calls + 3 ≤ m → NoneOrState s image))
     → WritesCopy c l l' old new result
-ends_badly (Ok x) fault handed runs of damaged any = absurd handed
-ends_badly {S} (Err y) fault handed runs of damaged any =
+ends_badly (Ok x) fault handed runs once of damaged any = absurd handed
+ends_badly {S} (Err y) fault handed runs once of damaged any =
     record {
       runs = copying_as (told_on {S = S} (Err y) fault Device handed) (handed_err {S = S} (Err y) fault Device handed) runs;
+      once = once;
       others = subst IsOfWriting (sym handed) of;
       damaged = λ is. damaged (handed_err {S = S} (Err y) fault Damaged handed is);
       slots = tt;
@@ -109,7 +110,7 @@ pub reached : {A B : Type 0} {before after old one two : DiskState} (c : Content
     → Reached c l (record { from = before; to = old }) (record { from = after; to = two })
 reached {before = before} {old = old} {one = one} {two = two} c l none stays is_one is_two laid behind well well_too closed calls shut copies stands copied =
     let outside = copies.outside is_slot (room old.size c l.contents l.directory l.used laid).behind in
-    let long : length two.now.seen ≡ old.size = omega (arith, is_two.image.size, is_two.settled, copies.runs.advances.runs.size, closed.writes.runs.size) in
+    let long : length two.now.seen ≡ old.size = omega (arith, is_two.image.size, is_two.settled, copies.runs.advances.size, closed.writes.runs.size) in
     record {
       runs = copying_as (λ is. absurd (well_too is)) (λ none. absurd none) (copying_then well (copying_write before old one closed.writes) copies.runs);
       long = long;

@@ -1,11 +1,14 @@
 -- Bodies that are copied one after the other.
-use Rattle.std.proofs.Common.{◌≡◌, ◌<◌, ◌+◌, ℕ, Bool, true, suc, List, [], ◌∷◌, ◌++◌, length, take, drop, map, get_or, Some, refl, sym, ◌∙◌, ap, ap₂, subst, IsTrue, Result, Ok, Err, add-one, drop-cons}
+use Rattle.std.proofs.Common.{◌≡◌, ◌<◌, ◌≤◌, ◌+◌, ◌/◌, ℕ, Bool, true, suc, List, [], ◌∷◌, ◌++◌, length, take, drop, map, get_or, Some, refl, sym, ◌∙◌, ap, ap₂, subst, IsTrue, Result, Ok, Err, add-one, drop-cons, arith}
 use Rattle.std.specs.Prelude.{All, IsErrOf, slice_get}
 use Rattle.std.specs.Result.{IsErrAnd}
 use Rattle.std.specs.List.{AllZip}
 use Rattle.std.proofs.lemmas.List.{take-append-drop, map-append, map_more, take_more}
 use Rattle.std.proofs.lemmas.List.Elements.{All-nil, All-cons, All-head, All-tail, All-get_or, AllZip-get_or}
 use Rattle.std.proofs.lemmas.Option.{slice_get_within, get_or_from_slice_get}
+use Rattle.std.proofs.lemmas.List.Sums.{sum_by_push, sum_by-take-le}
+use Rattle.rs_disk.specs.Medium.{DiskState}
+use Rattle.rs_disk.specs.Runs.{CallsAtMost}
 use Rattle.rs_fixity.specs.Digests.{digests}
 use Rattle.rs_extent.specs.declared.Extent.{Extent}
 use Rattle.rs_extent.specs.Extents.{in_some, AreApart, AreBeside, IsSubset}
@@ -20,7 +23,7 @@ use Rattle.rs_image.specs.StateOfImage.{held_in}
 use Rattle.rs_copy.specs.declared.faults.CopyFault.{CopyFault}
 use Rattle.rs_copy.specs.declared.faults.CopyFault.TheVariants.{Damaged}
 use Rattle.rs_copy.specs.Laying.{IsMoved}
-use Rattle.rs_copy.specs.Copies.{Disks, HasItsBody}
+use Rattle.rs_copy.specs.Copies.{Disks, HasItsBody, calls_for}
 use Rattle.rs_copy.specs.Copying.{CopiesBodies, HasPlace}
 use Rattle.rs_copy.proofs.Handed.{handed_err}
 
@@ -48,6 +51,20 @@ at_place rs i r at =
 
 pub take_one_more : (rs : List Record) (i : ℕ) (r : Record) → slice_get rs i ≡ Some r → take (i + 1) rs ≡ take i rs ++ r ∷ []
 take_one_more rs i r at = take_more rs i r (slice_get_within rs i r at) ∙ ap (λ (x : Record). take i rs ++ x ∷ []) (get_or_from_slice_get rs i r r at)
+
+-- one body more, read once
+pub read_once_more : (rs : List Record) (i : ℕ) (r : Record) → slice_get rs i ≡ Some r → (old mid new : DiskState) → CallsAtMost (calls_for (take i rs)) old mid
+    → CallsAtMost ((r.length + 16383) / 16384) mid new → CallsAtMost (calls_for (take (i + 1) rs)) old new
+read_once_more rs i r at old mid new before one =
+    let calls : Record → ℕ = λ x. (x.length + 16383) / 16384 in
+    let more : calls_for (take (i + 1) rs) ≡ calls_for (take i rs) + calls r = ap calls_for (take_one_more rs i r at) ∙ sum_by_push calls (take i rs) r in
+    omega (arith, more, before, one)
+
+-- the first bodies, of all
+pub read_among : (rs : List Record) (i : ℕ) (old new : DiskState) → CallsAtMost (calls_for (take i rs)) old new → CallsAtMost (calls_for rs) old new
+read_among rs i old new once =
+    let few : calls_for (take i rs) ≤ calls_for rs = sum_by-take-le (λ x. (x.length + 16383) / 16384) rs i in
+    omega (arith, few, once)
 
 around : (rs : List Record) (i : ℕ) (r : Record) → slice_get rs i ≡ Some r → bodies_of rs ≡ bodies_of (take i rs) ++ r.extent ∷ bodies_of (drop (i + 1) rs)
 around rs i r at = ap bodies_of (at_place rs i r at) ∙ map-append (λ (x : Record). x.extent) (take i rs) (r ∷ drop (i + 1) rs)

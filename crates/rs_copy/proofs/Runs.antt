@@ -1,15 +1,15 @@
 -- Runs of calls of both disks of a copy: of one disk alone, one after another, and with another answer.
-use Rattle.std.proofs.Common.{◌≡◌, inl, inr, ◌≤◌, List, Result, Err, refl, ◌∙◌, arith}
+use Rattle.std.proofs.Common.{◌≡◌, inl, inr, ◌<◌, ◌≤◌, List, Result, Err, refl, ◌∙◌, arith}
 use Rattle.std.specs.Prelude.{IsErrOf}
 use Rattle.std.specs.Result.{IsErrAnd}
 use Rattle.rs_disk.specs.Medium.{DiskState}
-use Rattle.rs_disk.specs.Runs.{HasFailed, RunsReading, RunsWriting}
-use Rattle.rs_copy.proofs.FromBelow.{reading_none, writing_none, rests, rests_on, advances, advances_on, outside_on}
+use Rattle.rs_disk.specs.Runs.{GoesNoFurther, HasFailed, RunsReading, RunsWriting, StopsAtFault}
+use Rattle.rs_copy.proofs.FromBelow.{reading_none, writing_none, stops_on, rests, rests_on, advances, advances_on, outside_on}
 use Rattle.rs_extent.specs.declared.Extent.{Extent}
 use Rattle.rs_extent.specs.Extents.{in_some, IsSubset}
 use Rattle.rs_body.specs.Outside.{WritesOnly}
 use Rattle.rs_copy.specs.declared.faults.CopyFault.{CopyFault}
-use Rattle.rs_copy.specs.Copies.{Disks}
+use Rattle.rs_copy.specs.Copies.{Disks, StopsCopying}
 use Rattle.rs_copy.specs.Copying.{CopiesOnly, RunsCopying}
 use Rattle.rs_copy.proofs.Handed.{handed_err, told_on}
 
@@ -19,17 +19,34 @@ failed_then old mid new up (inl more) = inl (omega (arith, more, up))
 failed_then old mid new up (inr spent) = inr spent
 
 pub copying_as : {A B : Type 0} {old new : Disks} → (A → B) → (B → A) → RunsCopying A old new → RunsCopying B old new
-copying_as to from run = record { rests = run.rests; advances = run.advances; failed = λ blames. run.failed (from blames); sound = λ not. run.sound (λ blames. not (to blames)) }
+copying_as to from run = record {
+  rests = run.rests;
+  advances = run.advances;
+  failed = λ blames. run.failed (from blames);
+  sound = λ not. run.sound (λ blames. not (to blames));
+  stops = run.stops;
+}
+
+-- behind a run without a failed call
+stops_behind : (old mid new : DiskState) → mid.faults ≡ old.faults → mid.faults ≤ new.faults → StopsAtFault old mid → StopsAtFault mid new → StopsAtFault old new
+stops_behind old mid new same up one two =
+    let no_further : GoesNoFurther old mid new = λ rose. absurd (omega (arith, rose, same)) in
+    stops_on old mid new no_further up one two
 
 pub copying_then : {A B : Type 0} {old mid new : Disks} → ¬ A → RunsCopying A old mid → RunsCopying B mid new → RunsCopying B old new
 copying_then {old = old} {mid = mid} {new = new} well one two = record {
   rests = rests_on old.from mid.from new.from one.rests two.rests;
   advances = advances_on old.to mid.to new.to one.advances two.advances;
   failed = λ blames. elim (two.failed blames) [
-    | inl read ↦ inl (failed_then old.from mid.from new.from one.rests.runs.faults read)
-    | inr written ↦ inr (failed_then old.to mid.to new.to one.advances.runs.faults written)
+    | inl read ↦ inl (failed_then old.from mid.from new.from one.rests.faults read)
+    | inr written ↦ inr (failed_then old.to mid.to new.to one.advances.faults written)
   ];
   sound = λ not. ((two.sound not).0 ∙ (one.sound well).0, (two.sound not).1 ∙ (one.sound well).1);
+  stops = record {
+    from = stops_behind old.from mid.from new.from (one.sound well).0 two.rests.faults one.stops.from two.stops.from;
+    to = stops_behind old.to mid.to new.to (one.sound well).1 two.advances.faults one.stops.to two.stops.to;
+    one = λ rose. two.stops.one (omega (arith, rose, (one.sound well).0)) ∙ (one.sound well).1;
+  };
 }
 
 pub copying_read : {A : Type 0} (old new to : DiskState) → RunsReading A old new → RunsCopying A (record { from = old; to = to }) (record { from = new; to = to })
@@ -38,6 +55,7 @@ copying_read old new to run = record {
   advances = advances to to (writing_none {A = ⊥} to (λ none. none));
   failed = λ blames. inl (run.runs.failed blames);
   sound = λ not. (run.runs.sound not, refl);
+  stops = record { from = run.stops; to = (writing_none {A = ⊥} to (λ none. none)).stops; one = λ rose. refl };
 }
 
 pub copying_write : {A : Type 0} (from old new : DiskState) → RunsWriting A old new → RunsCopying A (record { from = from; to = old }) (record { from = from; to = new })
@@ -46,6 +64,7 @@ copying_write from old new run = record {
   advances = advances old new run;
   failed = λ blames. inr (run.runs.failed blames);
   sound = λ not. (refl, run.runs.sound not);
+  stops = record { from = (reading_none {A = ⊥} from (λ none. none)).stops; to = run.stops; one = λ rose. absurd (omega (arith, rose)) };
 }
 
 -- The same where the second disk is written in some extents alone.

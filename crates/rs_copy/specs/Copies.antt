@@ -1,8 +1,8 @@
 -- What a copy of a source is, and what it leaves of both disks.
-use Rattle.std.specs.Prelude.{◌≡◌, ◌⊎◌, ◌↔◌, ◌<◌, ◌≤◌, ◌+◌, ℕ, List, All, None, Result, IfOk, IsErrOf, IsTrue}
+use Rattle.std.specs.Prelude.{◌≡◌, ◌⊎◌, ◌↔◌, ◌<◌, ◌≤◌, ◌+◌, ◌/◌, ℕ, List, All, None, Result, IfOk, IsErrOf, IsTrue, sum_by}
 use Rattle.rs_disk.specs.Medium.{DiskState, IsImage}
 use Rattle.rs_disk.specs.Leaves.{Leaves}
-use Rattle.rs_disk.specs.Runs.{Advances, HasFailed, Rests}
+use Rattle.rs_disk.specs.Runs.{Advances, CallsAtMost, HasFailed, Rests, StopsAtFault}
 use Rattle.rs_fixity.specs.Digests.{digests}
 use Rattle.rs_record.specs.declared.record.Record.{Record}
 use Rattle.rs_body.specs.Blocks.{part}
@@ -23,6 +23,10 @@ use Rattle.rs_copy.specs.Laying.{IsLaidOut, LacksCopyRoom, all_stored}
 -- the first bytes of a record's extent have its SHA-256
 abbrev pub HasItsBody : List ℕ → Record → Type 0
 HasItsBody image r = (digests (part r.extent r.length image)).sha256 ≡ r.digests.sha256
+
+-- the calls that read the bodies of these records once each, in pieces of 16,384 bytes
+abbrev pub calls_for : List Record → ℕ
+calls_for rs = sum_by (λ r. (r.length + 16383) / 16384) rs
 
 -- A copy stands on a disk: its root has generation 1 and the version that is written, the slots can be changed, memory is sound,
 -- and each body has its SHA-256.
@@ -45,17 +49,25 @@ pub record Disks : Type 0 where
   pub from : DiskState
   pub to : DiskState
 
+-- A run of calls of both disks makes no call of a disk behind a failed one of that disk, and of the calls of both at most one failed.
+pub record StopsCopying (old new : Disks) : Type 0 where
+  pub from : StopsAtFault old.from new.from
+  pub to : StopsAtFault old.to new.to
+  pub one : old.from.faults < new.from.faults → new.to.faults ≡ old.to.faults
+
 -- What copying a root's source does to both disks, from the moment `old` to the moment `new`.
--- `rests`: it only reads the first disk; `advances`: the second keeps its size, and its counts do not fall.
+-- `rests`, `once`: it only reads the first disk, and each body at most once, also a damaged one; `advances`: the second keeps its size, and its counts do not fall.
 -- `too_small`, `full`: the causes of these; `untouched`: they come before a call of either disk.
 -- `room`: Device and Damaged come only where the second disk has room for the whole copy.
 -- `failed`, `sound`: Device comes only where a call of one of them failed, and any other answer only where none did.
+-- `stops`: it makes no call behind a failed one of the same disk, and at most one call fails.
 -- `damaged`: a body lacks its recorded SHA-256, if the first disk has followed the model.
 -- `copied`, `lies`: what Ok leaves; `holds`: then each image of the second disk tells the state that the first one told.
 -- `any_moment`: once a first sync of the second disk has succeeded, which is its third call, each of its images tells no root, or
 -- represents that state.
 pub record Copies (root : Rooted) (old new : Disks) (result : Result Copied CopyFault) : Type 0 where
   pub rests : Rests old.from new.from
+  pub once : CallsAtMost (calls_for (records_of root.contents.catalogue)) old.from new.from
   pub advances : Advances old.to new.to
   pub too_small : IsErrOf result TooSmall ↔ (blocks_of_disk old.to.size < 16)
   pub full : IsErrOf result Full → LacksCopyRoom old.to.size root.contents
@@ -63,6 +75,7 @@ pub record Copies (root : Rooted) (old new : Disks) (result : Result Copied Copy
   pub room : IsErrOf result Device ⊎ IsErrOf result Damaged → ¬ LacksCopyRoom old.to.size root.contents
   pub failed : IsErrOf result Device → HasFailed old.from new.from ⊎ HasFailed old.to new.to
   pub sound : ¬ IsErrOf result Device → (new.from.faults ≡ old.from.faults) × (new.to.faults ≡ old.to.faults)
+  pub stops : StopsCopying old new
   pub damaged : IsErrOf result Damaged → IsTrue new.from.honest
       → ¬ All (HasItsBody old.from.now.seen) (records_of root.contents.catalogue)
   pub copied : IfOk result (StandsCopied new.to)

@@ -2,7 +2,7 @@
 use Rattle.std.specs.Prelude.{◌≡◌, ◌⊎◌, ◌<◌, ◌≤◌, ◌+◌, ◌*◌, ◌++◌, ℕ, Bool, [], nat_lt, ◌∷◌, List, length, map, All, None, Result, IfErr, IfOk, OnOk, IsErrOf, IsTrue}
 use Rattle.rs_disk.specs.Medium.{IsImage}
 use Rattle.rs_disk.specs.Leaves.{Leaves}
-use Rattle.rs_disk.specs.Runs.{Advances, HasFailed, Rests}
+use Rattle.rs_disk.specs.Runs.{Advances, CallsAtMost, HasFailed, Rests}
 use Rattle.rs_fixity.specs.Digests.{digests}
 use Rattle.rs_extent.specs.declared.Extent.{Extent}
 use Rattle.rs_extent.specs.Blocks.{block_size}
@@ -31,7 +31,7 @@ use Rattle.rs_copy.specs.declared.faults.CopyFault.{CopyFault}
 use Rattle.rs_copy.specs.declared.faults.CopyFault.TheVariants.{TooSmall, Full, Device, Damaged, NoMemory}
 use Rattle.rs_copy.specs.declared.laying_out.Layout.{Layout}
 use Rattle.rs_copy.specs.Laying.{all_stored}
-use Rattle.rs_copy.specs.Copies.{Disks, HasItsBody}
+use Rattle.rs_copy.specs.Copies.{Disks, HasItsBody, StopsCopying, calls_for}
 
 -- the fault of a copy for the fault of a page
 abbrev pub copy_fault_of : StoreFault → CopyFault
@@ -69,12 +69,13 @@ pub record AreAllUnplaced (c : Contents) : Type 0 where
   pub published : placed_extents c.published ≡ []
 
 -- A run of calls of both disks of a copy reads the first one and writes the second. The answer blames a device exactly where a call
--- of one of them failed.
+-- of one of them failed. It makes no call behind a failed one of the same disk, and at most one fails.
 pub record RunsCopying (blames : Type 0) (old new : Disks) : Type 0 where
   pub rests : Rests old.from new.from
   pub advances : Advances old.to new.to
   pub failed : blames → HasFailed old.from new.from ⊎ HasFailed old.to new.to
   pub sound : ¬ blames → (new.from.faults ≡ old.from.faults) × (new.to.faults ≡ old.to.faults)
+  pub stops : StopsCopying old new
 
 -- Such a run writes these extents of the second disk alone: each set of blocks beside them stays.
 pub record CopiesOnly (extents : List Extent) (blames : Type 0) (old new : Disks) : Type 0 where
@@ -168,11 +169,12 @@ abbrev pub NoneOrState : Source → List ℕ → Type 0
 NoneOrState s image = (current image ≡ None) ⊎ StandsFor image s
 
 -- What writing a copy of these lists as it was laid out leaves.
--- `runs`, `others`, `damaged`: what it does to both disks, and which faults it answers.
+-- `runs`, `once`, `others`, `damaged`: what it does to both disks, that it reads each body once, and which faults it answers.
 -- `slots` to `intact`: what Ok leaves: the root leads to the stored lists, memory is sound, and each body has its SHA-256.
 -- `holds`, `any_moment`: what each image of the second disk tells of the state of the old lists, in the end and meanwhile.
 pub record WritesCopy (c : Contents) (l l' : Layout) (old new : Disks) (result : Result Standing CopyFault) : Type 0 where
   pub runs : RunsCopying (IsErrOf result Device) old new
+  pub once : CallsAtMost (calls_for (records_of c.catalogue)) old.from new.from
   pub others : IfErr result IsOfWriting
   pub damaged : IsErrOf result Damaged → IsTrue new.from.honest → ¬ All (HasItsBody old.from.now.seen) (records_of c.catalogue)
   pub slots : IfOk result (λ slots. slots ≡ fresh (copied_root l.directory (all_stored l.contents)))

@@ -1,7 +1,8 @@
 //! The bodies of a copy.
 
-ghost use Rattle.std.specs.Prelude.{◌≡◌, [], ◌∷◌, All, IfOk, IfErr, OnOk, IsErr, IsErrOf, IsTrue};
+ghost use Rattle.std.specs.Prelude.{◌≡◌, ◌+◌, ◌/◌, [], ◌∷◌, All, IfOk, IfErr, OnOk, IsErr, IsErrOf, IsTrue};
 ghost use Rattle.std.specs.List.{AllZip};
+ghost use Rattle.rs_disk.specs.Runs.{CallsAtMost};
 ghost use Rattle.rs_fixity.specs.Digests.{digests};
 ghost use Rattle.rs_extent.specs.Extents.{AreApart};
 ghost use Rattle.rs_body.specs.Blocks.{part};
@@ -9,6 +10,7 @@ ghost use Rattle.rs_catalogue.specs.Catalogue.{records_of};
 ghost use Rattle.rs_image.specs.Reach.{bodies_of};
 ghost use Rattle.rs_copy.specs.declared.faults.CopyFault.{CopyFault};
 ghost use Rattle.rs_copy.specs.Laying.{IsMoved};
+ghost use Rattle.rs_copy.specs.Copies.{calls_for};
 ghost use Rattle.rs_copy.specs.Copying.{CopiesBodies, CopiesOnly, HasPlace, IsOfWriting};
 
 use crate::CopyFault;
@@ -45,6 +47,7 @@ pub(crate) fn copy_bodies<D: Disk, E: Disk>(
     ensures bodies { CopiesBodies (records_of old.now) (records_of new.now)
         (record { from = D.state from.old; to = E.state to.old })
         (record { from = D.state from.new; to = E.state to.new }) result }
+    ensures once { CallsAtMost (calls_for (records_of old.now)) (D.state from.old) (D.state from.new) }
     ensures others { IfErr result IsOfWriting }
 {
     for i in 0..old.len() {
@@ -68,6 +71,7 @@ fn copy_body<D: Disk, E: Disk>(
     ensures bodies { CopiesBodies (held.now ∷ []) (record held.now { extent = extent } ∷ [])
         (record { from = D.state from.old; to = E.state to.old })
         (record { from = D.state from.new; to = E.state to.new }) result }
+    ensures once { CallsAtMost ((held.now.length + 16383) / 16384) (D.state from.old) (D.state from.new) }
     ensures others { IfErr result IsOfWriting }
 {
     let sha256 = copy_pieces(from, held, to, extent)?;
@@ -96,6 +100,7 @@ fn copy_pieces<D: Disk, E: Disk>(
         ≡ part held.now.extent held.now.length (D.state from.old).now.seen) }
     ensures digest { IfOk result (λ sha256. sha256
         ≡ (digests (part extent held.now.length (E.state to.new).now.seen)).sha256) }
+    ensures once { CallsAtMost ((held.now.length + 16383) / 16384) (D.state from.old) (D.state from.new) }
 {
     let mut buffer = [0; PIECE_SIZE];
     let mut hashing = Sha256Hashing::new();

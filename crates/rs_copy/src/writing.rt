@@ -2,6 +2,7 @@
 
 ghost use Rattle.std.specs.Prelude.{◌≡◌, ◌<◌, ◌≤◌, [], ◌∷◌, All, IfOk, IfErr, OnOk, IsErrOf};
 ghost use Rattle.std.specs.List.{AllZip};
+ghost use Rattle.rs_disk.specs.Runs.{CallsAtMost};
 ghost use Rattle.rs_extent.specs.Extents.{AreApart, AreOnDisk, IsOnDisk};
 ghost use Rattle.rs_body.specs.Blocks.{IsSized};
 ghost use Rattle.rs_body.specs.Outside.{WritesOnly};
@@ -10,6 +11,7 @@ ghost use Rattle.rs_catalogue.specs.Catalogue.{records_of};
 ghost use Rattle.rs_image.specs.StateOfImage.{directory_bytes_of, AreAllStored};
 ghost use Rattle.rs_copy.specs.declared.faults.CopyFault.{CopyFault};
 ghost use Rattle.rs_copy.specs.Laying.{IsLaidOut, IsMoved, all_stored};
+ghost use Rattle.rs_copy.specs.Copies.{calls_for};
 ghost use Rattle.rs_copy.specs.Copying.{ArePagesWritten, AreUntouched, CopiesBodies, CopiesOnly, HasPlace, HasRoom, IsBehindRoot, IsListed, IsOfListing, IsOfWriting, IsWrittenBehind, WritesCopy, copied_root, pages_in, written_in};
 
 use crate::CopyFault;
@@ -75,6 +77,8 @@ fn write_behind<D: Disk, E: Disk>(
         (records_of layout.old.contents.catalogue)
         (record { from = D.state from.old; to = E.state to.old })
         (record { from = D.state from.new; to = E.state to.new }) result }
+    ensures once { CallsAtMost (calls_for (records_of old.now.catalogue))
+        (D.state from.old) (D.state from.new) }
     ensures made { IfOk result
         (λ root. IsWrittenBehind layout.old layout.new root (E.state to.new).now.seen) }
     ensures others { IfErr result IsOfWriting }

@@ -10,7 +10,7 @@ use crate::named::entry_at;
 use crate::parts::{HeaderFields, PageCounts, entries_at, header_at};
 use crate::{Directory, Header};
 use rs_page::PageRef;
-use rs_record::{Base, BaseError, FieldFault};
+use rs_record::{Base, ValueFault};
 use std::alloc::{AllocError, Global};
 
 /// The directory that these bytes are in this version of the format. Version 1 has no `first` and no
@@ -21,22 +21,22 @@ use std::alloc::{AllocError, Global};
 ///
 /// # Errors
 ///
-/// - [`FieldFault::Malformed`] exactly where the bytes are no lawful directory.
-/// - [`FieldFault::NoMemory`] where the memory for the base or the entries is refused.
-pub fn read_directory(alloc: Global, version: u8, bytes: &[u8]) -> Result<Directory, FieldFault>
+/// - [`ValueFault::Malformed`] exactly where the bytes are no lawful directory.
+/// - [`ValueFault::NoMemory`] where the memory for the base or the entries is refused.
+pub fn read_directory(alloc: Global, version: u8, bytes: &[u8]) -> Result<Directory, ValueFault>
     ensures found { IfOk result (λ d. IsDirectory version bytes.now
         d.header d.catalogue.items d.changes.items d.published.items) }
-    ensures malformed { IsErrOf result FieldFault.Malformed ↔ IsNoDirectory version bytes.now }
+    ensures malformed { IsErrOf result ValueFault.Malformed ↔ IsNoDirectory version bytes.now }
 {
     let Some((fields, rest)) = header_at(version, bytes) else {
-        return Err(FieldFault::Malformed);
+        return Err(ValueFault::Malformed);
     };
     let Some((counts, entries)) = entries_at(rest) else {
-        return Err(FieldFault::Malformed);
+        return Err(ValueFault::Malformed);
     };
     let header = header_of(alloc, fields)?;
     let Ok((catalogue, changes, published)) = lists_of(alloc, counts, entries) else {
-        return Err(FieldFault::NoMemory);
+        return Err(ValueFault::NoMemory);
     };
     Ok(Directory {
         header,
@@ -47,19 +47,14 @@ pub fn read_directory(alloc: Global, version: u8, bytes: &[u8]) -> Result<Direct
 }
 
 /// The header in memory of its own. It is `Malformed` where its base is not lawful.
-fn header_of(alloc: Global, fields: HeaderFields<'_>) -> Result<Header, FieldFault>
+fn header_of(alloc: Global, fields: HeaderFields<'_>) -> Result<Header, ValueFault>
     ensures value { IfOk result (λ header. header ≡ header_seen fields.entry) }
     ensures lawful { OnOk result (IsTrue (is_base fields.entry.base.now)) }
-    ensures malformed { IsErrOf result FieldFault.Malformed
+    ensures malformed { IsErrOf result ValueFault.Malformed
         ↔ (is_base fields.entry.base.now ≡ false) }
 {
-    let base = match Base::new(alloc, fields.base) {
-        Ok(base) => base,
-        Err(BaseError::BadBase) => return Err(FieldFault::Malformed),
-        Err(BaseError::NoMemory) => return Err(FieldFault::NoMemory),
-    };
     Ok(Header {
-        base,
+        base: Base::new(alloc, fields.base)?,
         limit: fields.limit,
         start: fields.start,
         last: fields.last,

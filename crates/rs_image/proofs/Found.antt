@@ -10,8 +10,8 @@ use Rattle.rs_extent.specs.declared.Extent.{Extent}
 use Rattle.rs_extent.specs.Extents.{within}
 use Rattle.rs_body.specs.Blocks.{part, IsSized}
 use Rattle.rs_body.specs.Reading.{ReadsBody}
-use Rattle.rs_record.specs.declared.fields.FieldFault.{FieldFault}
-use Rattle.rs_record.specs.declared.fields.FieldFault.TheVariants.{Malformed, NoMemory as NoFieldMemory}
+use Rattle.rs_record.specs.declared.fault.ValueFault.{ValueFault}
+use Rattle.rs_record.specs.declared.fault.ValueFault.TheVariants.{Malformed, NoMemory as NoFieldMemory}
 use Rattle.rs_body.specs.declared.read.LoadFault.{LoadFault}
 use Rattle.rs_body.specs.declared.read.LoadFault.TheVariants.{Device, Damaged}
 use Rattle.rs_page.specs.Faults.{fault_of_fields}
@@ -59,7 +59,7 @@ has_slots e n size some sized inside =
     omega (arith, low, high, blocks)
 
 -- Fields that are damaged are malformed.
-pub malformed : {T : Type 0} (fault : FieldFault) (made : LoadFault) → made ≡ fault_of_fields fault → IsErrOf {T = T} (Err made) Damaged → fault ≡ Malformed
+pub malformed : {T : Type 0} (fault : ValueFault) (made : LoadFault) → made ≡ fault_of_fields fault → IsErrOf {T = T} (Err made) Damaged → fault ≡ Malformed
 malformed Malformed made is damaged = refl
 malformed NoFieldMemory made is damaged = absurd cc
 

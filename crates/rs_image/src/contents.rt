@@ -31,7 +31,9 @@ impl Contents {
         ensures most { result ≤ 3 * most_items }
         ensures lists { AreLists self.now }
     {
-        self.catalogue.page_count() + self.history.page_count() + self.published.page_count()
+        let catalogue = self.catalogue.as_pages().page_count();
+        let history = self.history.as_pages().page_count();
+        catalogue + history + self.published.as_pages().page_count()
     }
 
     /// The bytes of the directory of these lists, in version 2 of the disk's format. It names the

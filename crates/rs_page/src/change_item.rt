@@ -2,7 +2,7 @@
 ghost use Rattle.rs_page.specs.Items.{change_format};
 
 use crate::{PageItem, PageKind};
-use rs_record::{Change, FieldFault, change_size, formats_stand_alone, read_change, write_change};
+use rs_record::{Change, ValueFault, change_size, formats_stand_alone, read_change, write_change};
 use std::alloc::{AllocError, Global};
 
 impl PageItem for Change {
@@ -20,7 +20,7 @@ impl PageItem for Change {
         write_change(self, out)
     }
 
-    fn read(alloc: Global, bytes: &[u8]) -> Result<(Change, usize), FieldFault> {
+    fn read(alloc: Global, bytes: &[u8]) -> Result<(Change, usize), ValueFault> {
         read_change(alloc, bytes)
     }
 

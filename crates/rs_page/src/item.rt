@@ -4,7 +4,7 @@ ghost use Rattle.rs_record.specs.Format.{BeginsWith};
 ghost use Rattle.rs_page.specs.Format.{ItemFormat, StandAlone};
 
 use crate::PageKind;
-use rs_record::FieldFault;
+use rs_record::ValueFault;
 use std::alloc::{AllocError, Global};
 
 /// What a page is made of: a value with a format of its own. No format begins another one.
@@ -40,7 +40,7 @@ pub trait PageItem: Drop {
     /// # Errors
     /// `Malformed` exactly where the bytes begin with no format of a lawful item; `NoMemory` where
     /// the memory for the item was refused.
-    fn read(alloc: Global, bytes: &[u8]) -> Result<(Self, usize), FieldFault>
+    fn read(alloc: Global, bytes: &[u8]) -> Result<(Self, usize), ValueFault>
         ensures found { IfOk result (λ read. format.IsLawful read.0
             × BeginsWith bytes.now (format.bytes read.0)) }
         ensures size { IfOk result (λ read. read.1 ≡ length (format.bytes read.0)) }
@@ -48,7 +48,7 @@ pub trait PageItem: Drop {
             → format.IsLawful item
             → BeginsWith bytes.now (format.bytes item)
             → IfOk result (λ read. read.0 ≡ item) }
-        ensures malformed { IsErrOf result FieldFault.Malformed
+        ensures malformed { IsErrOf result ValueFault.Malformed
             ↔ ((item : Self) → format.IsLawful item → ¬ BeginsWith bytes.now (format.bytes item)) };
 
     /// The law that no format begins another, so that formats in a row read in one way only. It

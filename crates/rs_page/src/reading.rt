@@ -4,7 +4,7 @@ ghost use Rattle.std.specs.Int.{w32, to_be_bytes};
 ghost use Rattle.rs_page.specs.Format.{ArePageItems, page_bytes, items_bytes, AreNoPage, BeginWithFewer};
 
 use crate::PageItem;
-use rs_record::{FieldFault, MOST_ITEMS};
+use rs_record::{MOST_ITEMS, ValueFault};
 use std::alloc::Global;
 
 /// The items of which these bytes are a page.
@@ -12,21 +12,21 @@ use std::alloc::Global;
 /// # Errors
 /// `Malformed` where the bytes are no page of such items; `NoMemory` where the memory for the items
 /// was refused.
-pub(crate) fn read_items<T: PageItem>(alloc: Global, bytes: &[u8]) -> Result<Vec<T>, FieldFault>
+pub(crate) fn read_items<T: PageItem>(alloc: Global, bytes: &[u8]) -> Result<Vec<T>, ValueFault>
     ensures lawful { IfOk result (λ read. ArePageItems T.format read.items) }
     ensures found { IfOk result (λ read. bytes.now ≡ page_bytes T.format read.items) }
-    ensures malformed { IsErrOf result FieldFault.Malformed → AreNoPage T.format bytes.now }
+    ensures malformed { IsErrOf result ValueFault.Malformed → AreNoPage T.format bytes.now }
 {
     let Some((kind, count, rest)) = head_of(bytes) else {
-        return Err(FieldFault::Malformed);
+        return Err(ValueFault::Malformed);
     };
     if kind != T::kind().byte() || count == 0 || count > MOST_ITEMS {
-        return Err(FieldFault::Malformed);
+        return Err(ValueFault::Malformed);
     }
     T::formats_stand_alone();
     let (items, rest) = read_first(alloc, count, rest)?;
     if !rest.is_empty() {
-        return Err(FieldFault::Malformed);
+        return Err(ValueFault::Malformed);
     }
     Ok(items)
 }
@@ -46,12 +46,12 @@ fn read_first<T: PageItem>(
     alloc: Global,
     count: usize,
     bytes: &[u8],
-) -> Result<(Vec<T>, &[u8]), FieldFault>
+) -> Result<(Vec<T>, &[u8]), ValueFault>
     ensures count { IfOk result (λ read. length read.0.items ≡ count) }
     ensures lawful { IfOk result (λ read. All T.format.IsLawful read.0.items) }
     ensures found { IfOk result (λ read. bytes.now ≡ items_bytes T.format read.0.items
         ++ read.1.now) }
-    ensures malformed { IsErrOf result FieldFault.Malformed
+    ensures malformed { IsErrOf result ValueFault.Malformed
         → BeginWithFewer T.format count bytes.now }
 {
     T::formats_stand_alone();
@@ -59,7 +59,7 @@ fn read_first<T: PageItem>(
     let mut rest = bytes;
     for _ in 0..count {
         let (item, size) = T::read(alloc, rest)?;
-        items.push(item).map_err(|_| FieldFault::NoMemory)?;
+        items.push(item).map_err(|_| ValueFault::NoMemory)?;
         (_, rest) = rest.split_at(size);
     }
     Ok((items, rest))

@@ -2,7 +2,7 @@
 ghost use Rattle.rs_page.specs.Items.{record_format};
 
 use crate::{PageItem, PageKind};
-use rs_record::{FieldFault, Record, formats_stand_alone, read_record, record_size, write_record};
+use rs_record::{Record, ValueFault, formats_stand_alone, read_record, record_size, write_record};
 use std::alloc::{AllocError, Global};
 
 impl PageItem for Record {
@@ -20,7 +20,7 @@ impl PageItem for Record {
         write_record(self, out)
     }
 
-    fn read(alloc: Global, bytes: &[u8]) -> Result<(Record, usize), FieldFault> {
+    fn read(alloc: Global, bytes: &[u8]) -> Result<(Record, usize), ValueFault> {
         read_record(alloc, bytes)
     }
 

@@ -19,6 +19,7 @@ pub mod ListedUpTo
 pub mod StoredUpTo
 pub mod LoadedUpTo
 pub mod Changed
+pub mod EachPage
 pub mod NamedFilled
 pub mod LastFilled
 pub mod Ascending

@@ -1,6 +1,6 @@
 -- Items filled where they stand, page by page, as in one list.
-use Rattle.std.proofs.Common.{◌≡◌, ℕ, zero, suc, List, [], ◌∷◌, ◌++◌, length, map, take, drop, Bool, true, false, cond, refl, sym, subst, ap, ap₂, ◌∙◌, Some, None}
-use Rattle.std.specs.Prelude.{IsTrue, IfSome, ◌&&◌, nat_le}
+use Rattle.std.proofs.Common.{◌≡◌, ℕ, suc, List, [], ◌∷◌, ◌++◌, length, map, Bool, true, false, cond, refl, sym, subst, ap, ap₂, ◌∙◌, Some, None}
+use Rattle.std.specs.Prelude.{IsTrue, IfSome, ◌&&◌}
 use Rattle.std.specs.Cmp.{first_so, second_so}
 use Rattle.std.specs.Cmp.Lexicographic.{nat_list_cmp_total}
 use Rattle.std.specs.Ordering.{is_eq, is_lt, ordering_reverse}
@@ -8,7 +8,7 @@ use Rattle.std.specs.declared.cmp.Ordering.{Ordering}
 use Rattle.std.specs.declared.cmp.Ordering.TheVariants.{Less, Equal, Greater}
 use Rattle.std.proofs.lemmas.Bool.{and_from}
 use Rattle.std.proofs.lemmas.Option.{IfSome_then}
-use Rattle.std.proofs.lemmas.List.{map-append, length-map, take-map, drop-map}
+use Rattle.std.proofs.lemmas.List.{map-append, length-map}
 use Rattle.std.proofs.lemmas.Map.Text.{is_eq-slice_cmp}
 use Rattle.std.proofs.lemmas.Slice.Eq.{bytes_eq-Decides}
 use Rattle.rs_model.specs.Names.{by_bytes, by_order, value_of, bind, is_above, is_ordered}
@@ -16,8 +16,9 @@ use Rattle.rs_pages.proofs.FromBelow.{is_less, tail_ordered}
 use Rattle.rs_page.specs.Pages.{Page, items_of}
 use Rattle.rs_pages.specs.Items.{keyed, put_in}
 use Rattle.rs_pages.specs.Filled.{items_filled, named_filled}
-use Rattle.rs_pages.specs.Rule.{touched, touched_pages, cut_up_to, cut_front, items_at, with_page, some_begins_by, home, bound_in}
+use Rattle.rs_pages.specs.Rule.{touched_pages, items_at, with_page, some_begins_by, home, bound_in}
 use Rattle.rs_pages.specs.Laws.{Ascend, FillsAsOne, FillingIsOne, FillingBound}
+use Rattle.rs_pages.proofs.EachPage.{each_touched, items_of-each}
 use Rattle.rs_pages.proofs.InOrder.{is_past, is_before}
 use Rattle.rs_pages.proofs.Home.{above_lower, above_rest, ordered_rest, past_items, before_items}
 use Rattle.rs_pages.proofs.AtHome.{above_front, ordered_front}
@@ -33,32 +34,6 @@ equal_by Greater h = cc
 
 itself : (n : List ℕ) → by_bytes n n ≡ Equal
 itself n = equal_by (by_bytes n n) (nat_list_cmp_total.antisymm n n)
-
--- Where each item is changed and none goes, the pages are cut as they were.
-module _ {T : Type 0} (g : T → T) where
-  abbrev each_page : List (Page T) → List (Page T)
-  each_page pages = map (λ page. record { items = map g page.items; place = page.place }) pages
-
-  cut_later : (b : Bool) (items front : List T) (rest : List (List T)) → map (map g) (cond b (items ∷ []) (front ∷ rest)) ≡ cond b (map g items ∷ []) (map g front ∷ map (map g) rest)
-  cut_later true items front rest = refl
-  cut_later false items front rest = refl
-
-  cut-map : (n : ℕ) (items : List T) → map (map g) (cut_up_to 32 n items) ≡ cut_up_to 32 n (map g items)
-  cut-map zero items = refl
-  cut-map (suc n) items =
-      cut_later (nat_le (length items) 64) items (take 32 items) (cut_up_to 32 n (drop 32 items))
-      ∙ (ap (λ k. cond (nat_le k 64) (map g items ∷ []) (map g (take 32 items) ∷ map (map g) (cut_up_to 32 n (drop 32 items)))) (sym (length-map items g))
-      ∙ ap₂ (λ front rest. cond (nat_le (length (map g items)) 64) (map g items ∷ []) (front ∷ rest)) (sym (take-map g 32 items))
-      (cut-map n (drop 32 items) ∙ ap (cut_up_to 32 n) (sym (drop-map g 32 items))))
-
-  each_cut : (cut : List (List T)) → each_page (map touched cut) ≡ map touched (map (map g) cut)
-  each_cut [] = refl
-  each_cut (items ∷ cut) = ap (λ rest. touched (map g items) ∷ rest) (each_cut cut)
-
-  each_touched : (items : List T) → each_page (touched_pages items) ≡ touched_pages (map g items)
-  each_touched [] = refl
-  each_touched (x ∷ xs) =
-      each_cut (cut_front (x ∷ xs)) ∙ ap (map touched) (cut-map (length (x ∷ xs)) (x ∷ xs) ∙ ap (λ k. cut_up_to 32 k (map g (x ∷ xs))) (sym (length-map (x ∷ xs) g)))
 
 module _ {T : Type 0} (name : T → List ℕ) (f : T → T) where
   -- items of other names stay
@@ -85,12 +60,6 @@ module _ {T : Type 0} (name : T → List ℕ) (f : T → T) where
   before_above : (n : List ℕ) (xs : List T) → is_before name n xs → IsTrue (is_ordered (keyed name xs)) → IsTrue (is_above n (keyed name xs))
   before_above n [] before h = refl
   before_above n (x ∷ xs) before h = and_from _ _ (ap is_lt before) h
-
-  items_of-filled : (n : List ℕ) (pages : List (Page T)) → items_of (named_filled name f n pages) ≡ items_filled name f n (items_of pages)
-  items_of-filled n [] = refl
-  items_of-filled n (page ∷ pages) =
-      ap (λ rest. items_filled name f n page.items ++ rest) (items_of-filled n pages)
-      ∙ sym (map-append (λ t. by_order (by_bytes n (name t)) t (f t) t) page.items (items_of pages))
 
 -- where what fills an item leaves it its name
 module _ {T : Type 0} (name : T → List ℕ) (f : T → T) (same : (t : T) → name (f t) ≡ name t) where
@@ -127,7 +96,7 @@ module _ {T : Type 0} (name : T → List ℕ) (f : T → T) (same : (t : T) → 
 
   fills_as_one : (n : List ℕ) (pages : List (Page T)) → Ascend name pages → FillsAsOne name f n pages
   fills_as_one n pages h =
-      let is = items_of-filled name f n pages in
+      let is = items_of-each (λ t. by_order (by_bytes n (name t)) t (f t) t) pages in
       record {
         bound = IfSome_then (value_of n (keyed name (items_of pages))) (filled-bind n (items_of pages) h) (λ t equal. ap (keyed name) is ∙ equal);
         ordered = ap (λ xs. is_ordered (keyed name xs)) is ∙ (ordered-filled n (items_of pages) ∙ h);

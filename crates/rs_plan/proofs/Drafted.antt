@@ -156,12 +156,12 @@ module _ (law : IsPageRuleKept) (old : Contents) (in_order : Ascend (λ (r : Rec
     of_catalogue =
         each_refilled record_format (filling name (digests bytes) (digests_long bytes)) p.contents.catalogue
         (subst (AllByRecursion (StaysAsLong name (digests bytes) (digests_long bytes)))
-        (sym (places_items record_format used placed.after_catalogue draft.catalogue p.contents.catalogue placed.catalogue)) stay_long)
+        (sym (places_items record_format used placed.lists.after_catalogue draft.catalogue p.contents.catalogue placed.lists.catalogue)) stay_long)
 
     of_history : AreRefilled change_format p.contents.history.pages after.history.pages
     of_history =
         last_refilled change_format (change_filled (digests bytes)) p.contents.history.pages
-        (subst LastStaysLong (sym (places_items change_format placed.after_catalogue placed.after_history draft.history.pages p.contents.history.pages placed.history))
+        (subst LastStaysLong (sym (places_items change_format placed.lists.after_catalogue placed.lists.after_history draft.history.pages p.contents.history.pages placed.lists.history))
         last_stays_long)
 
     same_catalogue : placed_extents after.catalogue ≡ placed_extents p.contents.catalogue
@@ -179,21 +179,23 @@ module _ (law : IsPageRuleKept) (old : Contents) (in_order : Ascend (λ (r : Rec
         ap₂ (λ (a b : ℕ). directory_length draft.header (a + b + length draft.published))
         (same_count record_format draft.catalogue filled.catalogue catalogue_is) (same_count change_format draft.history.pages filled.history.pages history_is) in
         record {
-          after_catalogue = placed.after_catalogue;
-          after_history = placed.after_history;
           after = placed.after;
-          catalogue = each_placed record_format (filling name (digests bytes) (digests_long bytes)) used placed.after_catalogue draft.catalogue p.contents.catalogue stay_long
-              placed.catalogue;
-          history = last_placed change_format (change_filled (digests bytes)) placed.after_catalogue placed.after_history draft.history.pages p.contents.history.pages
-              last_stays_long placed.history;
-          takes_catalogue = subst (AreTaken used placed.after_catalogue) (sym same_catalogue) placed.takes_catalogue;
-          takes_history = subst (AreTaken placed.after_catalogue placed.after_history) (sym same_history) placed.takes_history;
-          untouched_catalogue = still_untouched record_format p.contents.catalogue after.catalogue of_catalogue placed.untouched_catalogue;
-          untouched_history = still_untouched change_format p.contents.history.pages after.history.pages of_history placed.untouched_history;
-          directory = subst (λ (n : ℕ). Takes placed.after_history (blocks_of n) p.directory placed.after) (sym bytes_of) placed.directory;
-          header = placed.header;
-          first = placed.first;
-          published = placed.published;
+          lists = record {
+            after_catalogue = placed.lists.after_catalogue;
+            after_history = placed.lists.after_history;
+            catalogue = each_placed record_format (filling name (digests bytes) (digests_long bytes)) used placed.lists.after_catalogue draft.catalogue p.contents.catalogue stay_long
+                placed.lists.catalogue;
+            history = last_placed change_format (change_filled (digests bytes)) placed.lists.after_catalogue placed.lists.after_history draft.history.pages p.contents.history.pages
+                last_stays_long placed.lists.history;
+            takes_catalogue = subst (AreTaken used placed.lists.after_catalogue) (sym same_catalogue) placed.lists.takes_catalogue;
+            takes_history = subst (AreTaken placed.lists.after_catalogue placed.lists.after_history) (sym same_history) placed.lists.takes_history;
+            untouched_catalogue = still_untouched record_format p.contents.catalogue after.catalogue of_catalogue placed.lists.untouched_catalogue;
+            untouched_history = still_untouched change_format p.contents.history.pages after.history.pages of_history placed.lists.untouched_history;
+            directory = subst (λ (n : ℕ). Takes placed.lists.after_history (blocks_of n) p.directory placed.after) (sym bytes_of) placed.lists.directory;
+            header = placed.lists.header;
+            first = placed.lists.first;
+            published = placed.lists.published;
+          };
           bodies_are = placed.bodies_are;
         }
 

@@ -16,7 +16,7 @@ use Rattle.rs_record.specs.declared.change.Change.{Change}
 use Rattle.rs_record.specs.declared.facts.Facts.{Facts}
 use Rattle.rs_record.specs.Changes.{bound}
 use Rattle.rs_record.specs.Format.{record_bytes, change_bytes}
-use Rattle.rs_plan.proofs.FromBelow.{length-record_bytes, is_less, tail_ordered, above_lower, HasItems}
+use Rattle.rs_plan.proofs.FromBelow.{length-record_bytes, each_page, is_less, tail_ordered, above_lower, HasItems}
 use Rattle.rs_extent.specs.Blocks.{IsLowest}
 use Rattle.rs_body.specs.Blocks.{blocks_of}
 use Rattle.rs_page.specs.declared.place.Place.{Place}
@@ -31,15 +31,12 @@ use Rattle.rs_catalogue.specs.Named.{named}
 use Rattle.rs_model.specs.Names.{Names, by_bytes, by_order, value_of, is_above, is_ordered}
 use Rattle.rs_model.specs.Regular.{is_rising, rises_from}
 use Rattle.rs_plan.specs.Room.{pages_needed}
+use Rattle.rs_plan.proofs.Placing.{at}
 
 -- digests of the right lengths
 pub record AreLong (digests : Digests) : Type 0 where
   pub md5 : length digests.md5 ≡ 16
   pub sha256 : length digests.sha256 ≡ 32
-
--- a page of these items, at this place
-abbrev pub at : {T : Type 0} → List T → Place → Page T
-at items place = record { items = items; place = place }
 
 -- A filled page keeps its place, its number of items and its number of blocks.
 pub record IsRefilled {T : Type 0} (format : ItemFormat T) (old new : Page T) : Type 0 where
@@ -136,9 +133,6 @@ module _ {T : Type 0} (format : ItemFormat T) (g : T → T) where
   StaysLong t = length (format.bytes (g t)) ≡ length (format.bytes t)
 
   -- Where each item of each page may be filled ..
-  abbrev pub each_filled : List (Page T) → List (Page T)
-  each_filled pages = map (λ page. record { items = map g page.items; place = page.place }) pages
-
   each_long : (items : List T) → AllByRecursion StaysLong items → length (items_bytes format (map g items)) ≡ length (items_bytes format items)
   each_long [] h = refl
   each_long (x ∷ items) h =
@@ -153,14 +147,14 @@ module _ {T : Type 0} (format : ItemFormat T) (g : T → T) where
   each_blocks : (items : List T) → AllByRecursion StaysLong items → blocks_needed format (map g items) ≡ blocks_needed format items
   each_blocks items h = same_blocks format (map g items) items (each_long items h)
 
-  pub each_refilled : (pages : List (Page T)) → AllByRecursion StaysLong (items_of pages) → AreRefilled format pages (each_filled pages)
+  pub each_refilled : (pages : List (Page T)) → AllByRecursion StaysLong (items_of pages) → AreRefilled format pages (each_page g pages)
   each_refilled [] h = tt
   each_refilled (page ∷ pages) h =
       let both = split StaysLong page.items (items_of pages) h in
       (record { place = refl; many = length-map page.items g; blocks = each_blocks page.items both.0 }, each_refilled pages both.1)
 
   pub each_placed : (used used' : List Bool) (pages placed : List (Page T)) → AllByRecursion StaysLong (items_of pages) → Places format used pages used' placed
-      → Places format used (each_filled pages) used' (each_filled placed)
+      → Places format used (each_page g pages) used' (each_page g placed)
   each_placed used used' [] [] h p = p
   each_placed used used' [] (y ∷ placed) h p = absurd p
   each_placed used used' (x ∷ pages) [] h p = absurd p

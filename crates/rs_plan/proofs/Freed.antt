@@ -5,8 +5,8 @@ use Rattle.std.proofs.lemmas.Bool.{and_from, or_left, or_right}
 use Rattle.std.proofs.lemmas.Bool.Decides.{nat_tests}
 use Rattle.rs_extent.specs.declared.Extent.{Extent}
 use Rattle.rs_extent.specs.Extents.{in_some, AreApart, IsSubset}
-use Rattle.rs_plan.proofs.FromBelow.{not_true, not_both, narrowed, some_front, some_behind, some_of_both}
-use Rattle.rs_plan.proofs.Separate.{joined, AreSeparate, apart_again, five_of, a_in, b_in, c_in, e_in}
+use Rattle.rs_plan.proofs.FromBelow.{not_true, not_both, narrowed, some_of_both}
+use Rattle.rs_plan.proofs.Separate.{joined, AreSeparate, all_new, apart_again, five_of, a_in, b_in, c_in, d_in, e_in, body_new, pa_new, pb_new, d_new}
 
 -- tests that hold where the other does are the same
 same_tests : (s t : Bool) → (s ≡ true → t ≡ true) → (t ≡ true → s ≡ true) → s ≡ t
@@ -39,9 +39,6 @@ pub record PagesTurn (a c ga gc a' c' pa : List Extent) : Type 0 where
   pub stays_a : (k : ℕ) → in_some a k ≡ true → (in_some ga k ≡ true) ⊎ ((in_some a' k ≡ true) ⊎ (in_some c' k ≡ true))
   pub stays_c : (k : ℕ) → in_some c k ≡ true → (in_some gc k ≡ true) ⊎ ((in_some a' k ≡ true) ⊎ (in_some c' k ≡ true))
   pub written : IsSubset (in_some pa) (in_some a')
-
-d_in : (d : Extent) (a b c e : List Extent) → IsSubset (in_some (d ∷ [])) (in_some (joined d a b c e))
-d_in d a b c e k is = some_front (d ∷ a ++ b ++ c) e k (some_front (d ∷ a ++ b) c k (some_front (d ∷ a) b k (some_front (d ∷ []) a k is)))
 
 -- The blocks of the next root are those of the old one, less what is freed, and the new ones.
 assembled : (low old freed next new : Bool) → (freed ≡ true → low ≡ false) → (next ≡ true → ((old ≡ true) × (freed ≡ false)) ⊎ (new ≡ true))
@@ -115,34 +112,22 @@ module _ (d d' : Extent) (made_bodies a b c e ga gb gc ge a' b' c' e' pa pb : Li
       (λ h. not_both (in_some ge k) h none))
 
   abbrev new : List Extent
-  new = made_bodies ++ pa ++ pb ++ d' ∷ []
+  new = all_new made_bodies pa pb d'
 
   abbrev IsLeftOrNew : ℕ → Type 0
   IsLeftOrNew k = ((in_some (joined d a b c e) k ≡ true) × (in_some (joined d ga gb gc ge) k ≡ false)) ⊎ (in_some new k ≡ true)
 
-  body_new : IsSubset (in_some made_bodies) (in_some new)
-  body_new k is = some_front (made_bodies ++ pa ++ pb) (d' ∷ []) k (some_front (made_bodies ++ pa) pb k (some_front made_bodies pa k is))
-
-  pa_new : IsSubset (in_some pa) (in_some new)
-  pa_new k is = some_front (made_bodies ++ pa ++ pb) (d' ∷ []) k (some_front (made_bodies ++ pa) pb k (some_behind made_bodies pa k is))
-
-  pb_new : IsSubset (in_some pb) (in_some new)
-  pb_new k is = some_front (made_bodies ++ pa ++ pb) (d' ∷ []) k (some_behind (made_bodies ++ pa) pb k is)
-
-  d_new : IsSubset (in_some (d' ∷ [])) (in_some new)
-  d_new k is = some_behind (made_bodies ++ pa ++ pb) (d' ∷ []) k is
-
   -- what the next root reaches is left, or new
   to : (k : ℕ) → in_some (joined d' a' b' c' e') k ≡ true → IsLeftOrNew k
   to k is =
-      five_of d' a' b' c' e' (IsLeftOrNew k) k is (λ h. inr (d_new k h))
-      (λ h. elim (pages.comes_a k h) [ inl old ↦ inl (a_in d a b c e k old.0, left_a k old.0 old.1) | inr made ↦ inr (pa_new k made) ])
-      (λ h. elim (changes.comes k h) [ inl old ↦ inl (b_in d a b c e k old.0, left_b k old.0 old.1) | inr made ↦ inr (pb_new k made) ])
+      five_of d' a' b' c' e' (IsLeftOrNew k) k is (λ h. inr (d_new made_bodies pa pb d' k h))
+      (λ h. elim (pages.comes_a k h) [ inl old ↦ inl (a_in d a b c e k old.0, left_a k old.0 old.1) | inr made ↦ inr (pa_new made_bodies pa pb d' k made) ])
+      (λ h. elim (changes.comes k h) [ inl old ↦ inl (b_in d a b c e k old.0, left_b k old.0 old.1) | inr made ↦ inr (pb_new made_bodies pa pb d' k made) ])
       (λ h. elim (pages.comes_c k h) [
         | inl old ↦ inl (a_in d a b c e k old.0, left_a k old.0 old.1)
         | inr old ↦ inl (c_in d a b c e k old.0, left_c k old.0 old.1)
       ])
-      (λ h. elim (bodies.comes k h) [ inl old ↦ inl (e_in d a b c e k old.0, left_e k old.0 old.1) | inr made ↦ inr (body_new k made) ])
+      (λ h. elim (bodies.comes k h) [ inl old ↦ inl (e_in d a b c e k old.0, left_e k old.0 old.1) | inr made ↦ inr (body_new made_bodies pa pb d' k made) ])
 
   -- a block that is freed is not left
   not_left : (k : ℕ) → in_some (joined d ga gb gc ge) k ≡ false → in_some (joined d ga gb gc ge) k ≡ true → in_some (joined d' a' b' c' e') k ≡ true

@@ -19,6 +19,7 @@ use Rattle.rs_plan.specs.Turned.{extent_for, extents_left, lists_after_item, lis
 use Rattle.rs_plan.proofs.Sublists.{itself, among}
 use Rattle.rs_plan.proofs.FreedParts.{one_extent}
 use Rattle.rs_plan.proofs.ItemSteps.{records_step, keeps_step, unplaced_step, page_lost, history_page_lost}
+use Rattle.rs_plan.proofs.Parts.{after_each}
 use Rattle.rs_plan.proofs.Losing.{LosesAll, loses_none, loses_more}
 use Rattle.std.specs.Prelude.{not}
 
@@ -46,12 +47,6 @@ history_pages_lost c (item ∷ items) moment bodies =
     cons_option (open_entry c.history.pages)
     (history_pages_lost (lists_after_item c item moment (extent_for item items bodies)) items (moment + 1) (extents_left item items bodies))
 
--- what is published stays, and so does the number of the first part
-pub published_after : (items : List Item) (c : Contents) (moment : ℕ) (bodies : List Extent) → (lists_after_items c items moment bodies).published ≡ c.published
-published_after [] c moment bodies = refl
-published_after (item ∷ items) c moment bodies =
-    published_after items (lists_after_item c item moment (extent_for item items bodies)) (moment + 1) (extents_left item items bodies)
-
 -- what is freed of the pages
 pub freed_pages : (items : List Item) (c : Contents) (moment : ℕ) (bodies : List Extent)
     → of_each_item freed_page c items moment bodies ≡ extents_of (unshared (pages_lost c items moment bodies) (stored_refs c.published))
@@ -75,22 +70,16 @@ module _ (law : IsPageRuleKept) where
   -- the pages on the disk are kept, and none is given blocks
   pub keeps_after : (items : List Item) (c : Contents) (moment : ℕ) (bodies : List Extent) → KeepsPages c.catalogue (lists_after_items c items moment bodies).catalogue
       × KeepsPages c.history.pages (lists_after_items c items moment bodies).history.pages
-  keeps_after [] c moment bodies = (itself (stored_pages c.catalogue), itself (stored_pages c.history.pages))
-  keeps_after (item ∷ items) c moment bodies =
-      let body = extent_for item items bodies in
-      let next = lists_after_item c item moment body in
-      let final = lists_after_items c (item ∷ items) moment bodies in
-      let step = keeps_step law c item moment body in
-      let later = keeps_after items next (moment + 1) (extents_left item items bodies) in (
-        among (stored_pages final.catalogue) (stored_pages next.catalogue) (stored_pages c.catalogue) later.0 step.0,
-        among (stored_pages final.history.pages) (stored_pages next.history.pages) (stored_pages c.history.pages) later.1 step.1,
-      )
+  keeps_after items c moment bodies =
+      after_each (λ x. KeepsPages c.catalogue x.catalogue × KeepsPages c.history.pages x.history.pages) (λ x item at body kept.
+      let step = keeps_step law x item at body in
+      let next = lists_after_item x item at body in (
+        among (stored_pages next.catalogue) (stored_pages x.catalogue) (stored_pages c.catalogue) step.0 kept.0,
+        among (stored_pages next.history.pages) (stored_pages x.history.pages) (stored_pages c.history.pages) step.1 kept.1,
+      )) items c moment bodies (itself (stored_pages c.catalogue), itself (stored_pages c.history.pages))
 
   pub unplaced_after : (items : List Item) (c : Contents) (moment : ℕ) (bodies : List Extent) → AreUnplaced c → AreUnplaced (lists_after_items c items moment bodies)
-  unplaced_after [] c moment bodies none = none
-  unplaced_after (item ∷ items) c moment bodies none =
-      unplaced_after items (lists_after_item c item moment (extent_for item items bodies)) (moment + 1) (extents_left item items bodies)
-      (unplaced_step law c item moment (extent_for item items bodies) none)
+  unplaced_after items c moment bodies none = after_each AreUnplaced (unplaced_step law) items c moment bodies none
 
   -- all entries are kept but those
   pub loses_pages : (items : List Item) (c : Contents) (moment : ℕ) (bodies : List Extent) → Ascend (λ (r : Record). r.name) c.catalogue → MayDoEach c items moment bodies

@@ -29,6 +29,7 @@ use Rattle.rs_plan.specs.Plans.{AreBodies}
 use Rattle.rs_plan.specs.Room.{bodies_kept, is_named_in}
 use Rattle.rs_plan.specs.Turned.{change_put, extent_for, extents_left, lists_after_item, lists_after_items, MayDoEach}
 use Rattle.rs_plan.proofs.ItemSteps.{FitsItem, fits_step, map_after, records_step}
+use Rattle.rs_plan.proofs.Parts.{after_each}
 use Rattle.rs_plan.proofs.Turns.{shown_in, held_shown, some_mapped, state_with}
 use Rattle.std.specs.Cmp.{first_so, second_so}
 use Rattle.std.specs.Ordering.{is_eq, is_lt}
@@ -186,9 +187,7 @@ last_grows (item ∷ items) c moment bodies le =
     omega (arith, le, last_grows items next (moment + 1) (extents_left item items bodies) (omega arith))
 
 pub start_stays : (items : List Item) (c : Contents) (moment : ℕ) (bodies : List Extent) → (lists_after_items c items moment bodies).header.start ≡ c.header.start
-start_stays [] c moment bodies = refl
-start_stays (item ∷ items) c moment bodies =
-    start_stays items (lists_after_item c item moment (extent_for item items bodies)) (moment + 1) (extents_left item items bodies)
+start_stays items c moment bodies = after_each (λ x. x.header.start ≡ c.header.start) (λ x item at body same. same) items c moment bodies refl
 
 module _ (law : IsPageRuleKept) where
   pub entries_step : (c : Contents) (held : Names Held) (item : Item) (moment : ℕ) (body : Extent) → Ascend (λ (r : Record). r.name) c.catalogue → HasEntries c held
@@ -225,14 +224,6 @@ module _ (law : IsPageRuleKept) where
       ∙ ap (λ (s : Source). after_items s items now) (state_step c held item moment body same)
       ∙ turned_state items next (held_after item moment held) (moment + 1) now (extents_left item items bodies) (records_step law item moment body c.catalogue ordered).1
       (entries_step c held item moment body ordered same) (omega (arith, here))
-
-  -- The names stay in order.
-  pub ordered_after : (items : List Item) (c : Contents) (moment : ℕ) (bodies : List Extent) → Ascend (λ (r : Record). r.name) c.catalogue
-      → Ascend (λ (r : Record). r.name) (lists_after_items c items moment bodies).catalogue
-  ordered_after [] c moment bodies ordered = ordered
-  ordered_after (item ∷ items) c moment bodies ordered =
-      ordered_after items (lists_after_item c item moment (extent_for item items bodies)) (moment + 1) (extents_left item items bodies)
-      (records_step law item moment (extent_for item items bodies) c.catalogue ordered).1
 
   -- The bodies that are written stand where the records say; so all do at the end.
   module _ (image : List ℕ) where

@@ -1,6 +1,6 @@
 -- The plan of a command that does items one after another keeps all rules. A put and a delete do one item, a group does
 -- all its items.
-use Rattle.std.proofs.Common.{◌≡◌, inl, inr, ℕ, ◌+◌, Bool, List, [], ◌∷◌, ◌++◌, length, map, max, Result, refl, sym, ◌∙◌, ap, ap₂, subst, arith}
+use Rattle.std.proofs.Common.{◌≡◌, inl, ℕ, ◌+◌, Bool, List, [], ◌∷◌, ◌++◌, length, map, max, Result, refl, sym, ◌∙◌, ap, ap₂, subst, arith}
 use Rattle.std.specs.Prelude.{All, IfOk, IsErrOf}
 use Rattle.std.specs.List.{AllZip, AllByRecursion}
 use Rattle.std.proofs.lemmas.List.{append-nil}
@@ -32,17 +32,18 @@ use Rattle.rs_plan.specs.Allowed.{MayDoItem, MayGroup}
 use Rattle.rs_plan.specs.Freed.{extent_of_body, freed_page, freed_history_page, freed_by_change, freed_by_group}
 use Rattle.rs_plan.specs.Placed.{AreUnplaced}
 use Rattle.rs_plan.specs.PlacedFrom.{IsPlacedFrom, HasNoRoomFrom}
-use Rattle.rs_plan.specs.Plans.{AreChanged, ArePagesAfter, IsNext, IsPlanned, LacksRoom}
-use Rattle.rs_plan.specs.Room.{TakesEach, bodies_kept, bodies_needed, bodies_of_command}
+use Rattle.rs_plan.specs.Plans.{IsNext, IsPlanned, IsFullFor, lists_after}
+use Rattle.rs_plan.specs.Room.{HasNoRoom, TakesEach, bodies_kept, bodies_needed, bodies_of_command, lists_needed}
 use Rattle.rs_plan.specs.Turned.{lists_after_items, of_each_item, MayDoEach}
-use Rattle.rs_plan.proofs.Placing.{all_unplaced, ruled_itself}
+use Rattle.rs_plan.proofs.Lacking.{full_for}
+use Rattle.rs_plan.proofs.Placing.{all_unplaced}
 use Rattle.rs_plan.proofs.GivenBack.{Frees}
 use Rattle.rs_plan.proofs.GroupBodies.{bodies_turn}
-use Rattle.rs_plan.proofs.GroupPages.{pages_lost, history_pages_lost, published_after, freed_pages, freed_history_pages, keeps_after, unplaced_after, loses_pages, loses_history_pages}
+use Rattle.rs_plan.proofs.GroupPages.{pages_lost, history_pages_lost, freed_pages, freed_history_pages, keeps_after, unplaced_after, loses_pages, loses_history_pages}
 use Rattle.rs_plan.proofs.GroupRules.{IsNoCause, may_do_each, rules_after}
 use Rattle.rs_plan.proofs.GroupStates.{entries_held, group_turns, last_grows, start_stays, records_sound}
 use Rattle.rs_plan.proofs.Here.{IsAccepted, answered}
-use Rattle.rs_plan.proofs.Parts.{bodies_in, sized_each}
+use Rattle.rs_plan.proofs.Parts.{bodies_in, published_after, sized_each}
 use Rattle.rs_plan.proofs.Planned.{planned}
 use Rattle.rs_plan.proofs.Rules.{KeepsRules, rules_of, later_records}
 
@@ -50,16 +51,16 @@ use Rattle.rs_plan.proofs.Rules.{KeepsRules, rules_of, later_records}
 pub record DoesItems (command : Command) (items : List Item) : Type 0 where
   pub bodies : bodies_of_command command ≡ bodies_kept items
   pub turns : (s : Source) (t : ℕ) → max t (s.last + 1) ≡ t → after_items s items t ≡ next_state s command t
-  pub pages : (old c : Contents) (t : ℕ) (bodies : List Extent) → AreChanged (lists_after_items old items t bodies) old c → ArePagesAfter old command t bodies c
+  pub lists : (old : Contents) (t : ℕ) (bodies : List Extent) → lists_after_items old items t bodies ≡ lists_after old command t bodies
 
 pub put_does : (name kind bytes : List ℕ) → DoesItems (Put name kind bytes) (single.Put name kind bytes ∷ [])
-put_does name kind bytes = record { bodies = refl; turns = λ s t is. ap (after_put s name kind bytes) is; pages = λ old c t bodies is. is }
+put_does name kind bytes = record { bodies = refl; turns = λ s t is. ap (after_put s name kind bytes) is; lists = λ old t bodies. refl }
 
 pub delete_does : (name : List ℕ) → DoesItems (Delete name) (single.Delete name ∷ [])
-delete_does name = record { bodies = refl; turns = λ s t is. ap (after_delete s name) is; pages = λ old c t bodies is. is }
+delete_does name = record { bodies = refl; turns = λ s t is. ap (after_delete s name) is; lists = λ old t bodies. refl }
 
 pub group_does : (items : List Item) → DoesItems (Group items) items
-group_does items = record { bodies = refl; turns = λ s t is. refl; pages = λ old c t bodies is. is }
+group_does items = record { bodies = refl; turns = λ s t is. refl; lists = λ old t bodies. refl }
 
 -- Each item may be done in the lists before it: one where it may be done alone, and all of a group that is accepted.
 pub may_one : (r : Rooted) (moment : ℕ) → IsAccepted r moment → (item : Item) → MayDoItem r.contents item moment → (bodies : List Extent)
@@ -96,15 +97,8 @@ module _ (r : Rooted) (moment : ℕ) (given : IsAccepted r moment) (command : Co
   abbrev final : Contents
   final = lists_after_items old items moment bodies
 
-  unplaced : AreUnplaced final
-  unplaced = unplaced_after given.law items old moment bodies (all_unplaced old given.sound.whole.catalogue given.sound.whole.history)
-
-  changed : AreChanged final old final
-  changed = (
-    ruled_itself final.catalogue unplaced.catalogue,
-    ruled_itself final.history.pages unplaced.history,
-    published_after items old moment bodies,
-  )
+  pub items_unplaced : AreUnplaced final
+  items_unplaced = unplaced_after given.law items old moment bodies (all_unplaced old given.sound.whole.catalogue given.sound.whole.history)
 
   next : IsNext old command moment bodies final
   next = record {
@@ -112,7 +106,6 @@ module _ (r : Rooted) (moment : ℕ) (given : IsAccepted r moment) (command : Co
         ∙ does.turns (state_in image old) moment (omega (arith, given.later));
     catalogue = (keeps_after given.law items old moment bodies).0;
     history = (keeps_after given.law items old moment bodies).1;
-    pages = does.pages old final moment bodies changed;
   }
 
   rules : KeepsRules final
@@ -153,12 +146,10 @@ module _ (r : Rooted) (moment : ℕ) (given : IsAccepted r moment) (command : Co
   -- With the bodies where they were found, there is no room, or a plan.
   module _ (used : List Bool) (are_used : AreUsed r used)
       (found : (after : List Bool) → AreTaken used after bodies → TakesEach used (bodies_needed (bodies_of_command command)) bodies after) where
-    pub items_lack : HasNoRoomFrom used bodies final → LacksRoom r command moment
-    items_lack room = record {
-      used = used;
-      are_used = are_used;
-      fails = inr (room.after_bodies, bodies, final, found room.after_bodies room.takes, next, room.fails);
-    }
+    pub items_lack : HasNoRoomFrom used bodies final → IsFullFor r command moment
+    items_lack room =
+        full_for r command moment used are_used bodies room.after_bodies (found room.after_bodies room.takes)
+        (subst (λ (c : Contents). HasNoRoom room.after_bodies (lists_needed c)) (does.lists old moment bodies) room.fails)
 
     pub items_planned : (told : Reply) (gone : List Extent) (p : Plan) → ((image : List ℕ) → told ≡ reply_to (state_in image old) command moment)
         → gone ≡ freed_by_group r items moment bodies → IsPlacedFrom used bodies final told gone p → IsPlanned r command moment p
@@ -166,17 +157,14 @@ module _ (r : Rooted) (moment : ℕ) (given : IsAccepted r moment) (command : Co
         let takes = found from.after_bodies from.takes in
         let sized : AreSized = subst (AllZip (λ extent bytes. IsSized extent (length bytes)) bodies) does.bodies
         (sized_each (bodies_of_command command) used from.after_bodies bodies takes) in
-        planned r.size r.root old given.sound command moment used from.after_bodies are_used bodies takes final next rules (records sized) unplaced p from.placed
+        planned r.size r.root old given.sound command moment used from.after_bodies are_used bodies takes final (does.lists old moment bodies) next rules (records sized) items_unplaced p from.placed
         (λ image. from.reply ∙ reply image) from.lists (frees p.freed.items (from.freed ∙ freed) sized) from.taken
 
     -- so the answer of what placed these lists is one of the command
     pub items_answer : (result : Result Plan PlanFault) (told : Reply) (gone : List Extent) (lists : Contents) → lists ≡ final
         → ((image : List ℕ) → told ≡ reply_to (state_in image old) command moment) → gone ≡ freed_by_group r items moment bodies
         → IfOk result (IsPlacedFrom used bodies lists told gone) → (IsErrOf result Full → HasNoRoomFrom used bodies lists)
-        → IfOk result (IsPlanned r command moment) × (IsErrOf result Full → LacksRoom r command moment)
+        → IfOk result (IsPlanned r command moment) × (IsErrOf result Full → IsFullFor r command moment)
     items_answer result told gone lists is reply freed placed full =
-        answered (IsPlanned r command moment) (LacksRoom r command moment) result used bodies lists final told gone is (λ p from. items_planned told gone p reply freed from)
+        answered (IsPlanned r command moment) (IsFullFor r command moment) result used bodies lists final told gone is (λ p from. items_planned told gone p reply freed from)
         items_lack placed full
-
-  pub items_unplaced : AreUnplaced final
-  items_unplaced = unplaced

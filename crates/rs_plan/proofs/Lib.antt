@@ -11,10 +11,13 @@ pub mod Turns
 pub mod Rules
 pub mod Replies
 pub mod Parts
+pub mod PlacedPages
 pub mod Planned
 pub mod Publishing
 pub mod Drafts
 pub mod Drafted
+pub mod Anywhere
+pub mod Lacking
 pub mod Freed
 pub mod FreedPages
 pub mod FreedParts

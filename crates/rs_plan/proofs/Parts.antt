@@ -1,17 +1,12 @@
 -- The parts of what a root reaches, and what is known of the pages after a command.
-use Rattle.std.proofs.Common.{true≢false, ◌≡◌, ◌⊎◌, inl, inr, ℕ, true, List, [], ◌∷◌, ◌++◌, length, sym, ◌∙◌, ap, subst}
-use Rattle.std.specs.Prelude.{All, Bool}
+use Rattle.std.proofs.Common.{true≢false, refl, ◌+◌, ◌≡◌, ◌⊎◌, inl, inr, ℕ, true, List, [], ◌∷◌, length, sym, ◌∙◌, ap, subst}
+use Rattle.std.specs.Prelude.{Bool}
 use Rattle.std.specs.List.{AllZip}
 use Rattle.rs_extent.specs.declared.Extent.{Extent}
 use Rattle.rs_extent.specs.Extents.{in_some, AreApart, AreDisjoint, IsSubset}
 use Rattle.rs_body.specs.Blocks.{blocks_of, IsSized}
-use Rattle.rs_record.specs.declared.record.Record.{Record}
-use Rattle.rs_record.specs.declared.change.Change.{Change}
 use Rattle.rs_page.specs.declared.place.PageRef.{PageRef}
-use Rattle.rs_page.specs.Format.{ItemFormat}
-use Rattle.rs_page.specs.Placing.{Places}
-use Rattle.rs_page.specs.Pages.{Page, IsStored, placed_extents, stored_ref, stored_refs, extents_of}
-use Rattle.rs_page.specs.SharedPages.{IsSublist, KeepsPages, stored_pages}
+use Rattle.rs_page.specs.Pages.{placed_extents, stored_refs, extents_of}
 use Rattle.rs_catalogue.specs.Catalogue.{records_of}
 use Rattle.rs_model.specs.declared.command.Command.{Command}
 use Rattle.rs_model.specs.declared.command.Command.TheVariants.{Put, Delete, Publish, Group}
@@ -20,11 +15,10 @@ use Rattle.rs_pages.specs.Storing.{unshared}
 use Rattle.rs_image.specs.Reach.{bodies_of}
 use Rattle.rs_plan.specs.declared.plan.Plan.{Plan}
 use Rattle.rs_plan.specs.Room.{TakesEach, bodies_needed}
-use Rattle.rs_plan.specs.Plans.{MayHavePlaces, ArePagesAfter, once_stored, places}
-use Rattle.rs_plan.proofs.FromBelow.{some_front, some_behind}
-use Rattle.rs_plan.proofs.Sublists.{filter_mapped}
-use Rattle.rs_plan.proofs.Placing.{places_stored}
-use Rattle.rs_plan.proofs.Stored.{refs_kept}
+use Rattle.rs_plan.specs.Turned.{extent_for, extents_left, lists_after_item, lists_after_items}
+use Rattle.rs_model.specs.declared.command.Item.{Item}
+use Rattle.rs_plan.specs.Plans.{lists_after, once_stored, places}
+use Rattle.rs_plan.proofs.Separate.{body_new, pa_new, pb_new, d_new}
 
 -- the blocks of the catalogue pages, of the change pages, of the published pages that are not shared, and of the bodies
 abbrev pub pages_in : Contents → List Extent
@@ -51,21 +45,16 @@ given_changes p = placed_extents p.contents.history.pages
 
 -- The parts of the blocks that a plan writes.
 pub in_bodies : (p : Plan) → IsSubset (in_some p.bodies.items) (in_some (places p))
-in_bodies p b is =
-    some_front (p.bodies.items ++ given_pages p ++ given_changes p) (p.directory ∷ []) b
-    (some_front (p.bodies.items ++ given_pages p) (given_changes p) b (some_front p.bodies.items (given_pages p) b is))
+in_bodies p = body_new p.bodies.items (given_pages p) (given_changes p) p.directory
 
 pub in_catalogue : (p : Plan) → IsSubset (in_some (given_pages p)) (in_some (places p))
-in_catalogue p b is =
-    some_front (p.bodies.items ++ given_pages p ++ given_changes p) (p.directory ∷ []) b
-    (some_front (p.bodies.items ++ given_pages p) (given_changes p) b (some_behind p.bodies.items (given_pages p) b is))
+in_catalogue p = pa_new p.bodies.items (given_pages p) (given_changes p) p.directory
 
 pub in_history : (p : Plan) → IsSubset (in_some (given_changes p)) (in_some (places p))
-in_history p b is =
-    some_front (p.bodies.items ++ given_pages p ++ given_changes p) (p.directory ∷ []) b (some_behind (p.bodies.items ++ given_pages p) (given_changes p) b is)
+in_history p = pb_new p.bodies.items (given_pages p) (given_changes p) p.directory
 
 pub in_directory : (p : Plan) → IsSubset (in_some (p.directory ∷ [])) (in_some (places p))
-in_directory p b is = some_behind (p.bodies.items ++ given_pages p ++ given_changes p) (p.directory ∷ []) b is
+in_directory p = d_new p.bodies.items (given_pages p) (given_changes p) p.directory
 
 -- each body has its blocks
 pub sized_each : (bodies : List (List ℕ)) (used after : List Bool) (extents : List Extent) → TakesEach used (bodies_needed bodies) extents after
@@ -77,16 +66,6 @@ sized_each (bytes ∷ bodies) used after (e ∷ extents) takes = (
   (takes.1.blocks, λ none. takes.1.nowhere (ap blocks_of none)),
   sized_each bodies takes.0 after extents takes.2,
 )
-
--- stored pages that are kept, as references
-pub kept_part : {T : Type 0} (format : ItemFormat T) (used used' : List Bool) (old xs ys : List (Page T)) → KeepsPages old xs → Places format used xs used' ys
-    → IsSublist (stored_refs ys) (stored_refs old)
-kept_part {T} format used used' old xs ys keeps places =
-    let pages : IsSublist (stored_pages ys) (stored_pages old) =
-    subst (λ (l : List (Page T)). IsSublist l (stored_pages old)) (sym (places_stored format used used' xs ys places)) keeps in
-    subst (λ (l : List PageRef). IsSublist l (stored_refs old)) (refs_kept ys)
-    (subst (λ (l : List PageRef). IsSublist (stored_refs (stored_pages ys)) l) (refs_kept old)
-    (filter_mapped (λ page. stored_ref page.place) (stored_pages ys) (stored_pages old) pages))
 
 -- What is published after a command, which writes none of it.
 pub record IsUnshared (before kept after published : List PageRef) (old : List Extent) : Type 0 where
@@ -105,19 +84,19 @@ unshared_none before kept after published old none = record {
 abbrev pub IsPublished : Contents → Contents → Type 0
 IsPublished old c = (c.published ≡ old.published) ⊎ ((c.published ≡ old.catalogue) × (c.catalogue ≡ old.catalogue))
 
-pub published_is : (old c : Contents) (command : Command) (moment : ℕ) (bodies : List Extent) → ArePagesAfter old command moment bodies c → IsPublished old c
-published_is old c (Put name kind bytes) moment bodies pages = inl pages.2
-published_is old c (Delete name) moment bodies pages = inl pages.2
-published_is old c Publish moment bodies pages = inr (pages.2, pages.0)
-published_is old c (Group items) moment bodies pages = inl pages.2
+-- what each item keeps, all of them keep
+pub after_each : (P : Contents → Type 0) → ((c : Contents) (item : Item) (moment : ℕ) (body : Extent) → P c → P (lists_after_item c item moment body))
+    → (items : List Item) (c : Contents) (moment : ℕ) (bodies : List Extent) → P c → P (lists_after_items c items moment bodies)
+after_each P keeps [] c moment bodies h = h
+after_each P keeps (item ∷ items) c moment bodies h =
+    let body = extent_for item items bodies in
+    after_each P keeps items (lists_after_item c item moment body) (moment + 1) (extents_left item items bodies) (keeps c item moment body h)
 
--- the pages after a command, once they are placed
-pub pages_placed : (old c next : Contents) (command : Command) (moment : ℕ) (bodies : List Extent) → ArePagesAfter old command moment bodies c
-    → ((pages : List (Page Record)) → MayHavePlaces pages c.catalogue → MayHavePlaces pages next.catalogue)
-    → ((pages : List (Page Change)) → MayHavePlaces pages c.history.pages → MayHavePlaces pages next.history.pages) → next.published ≡ c.published
-    → (All IsStored c.catalogue → next.catalogue ≡ c.catalogue) → All IsStored old.catalogue → ArePagesAfter old command moment bodies next
-pages_placed old c next (Put name kind bytes) moment bodies pages ruled ruled' published catalogue of_old = (ruled _ pages.0, ruled' _ pages.1, published ∙ pages.2)
-pages_placed old c next (Delete name) moment bodies pages ruled ruled' published catalogue of_old = (ruled _ pages.0, ruled' _ pages.1, published ∙ pages.2)
-pages_placed old c next Publish moment bodies pages ruled ruled' published catalogue of_old =
-    (catalogue (subst (All IsStored) (sym pages.0) of_old) ∙ pages.0, ruled' _ pages.1, published ∙ pages.2)
-pages_placed old c next (Group items) moment bodies pages ruled ruled' published catalogue of_old = (ruled _ pages.0, ruled' _ pages.1, published ∙ pages.2)
+pub published_after : (items : List Item) (c : Contents) (moment : ℕ) (bodies : List Extent) → (lists_after_items c items moment bodies).published ≡ c.published
+published_after items c moment bodies = after_each (λ x. x.published ≡ c.published) (λ x item at body same. same) items c moment bodies refl
+
+pub published_is : (old : Contents) (command : Command) (moment : ℕ) (bodies : List Extent) → IsPublished old (lists_after old command moment bodies)
+published_is old (Put name kind bytes) moment bodies = inl refl
+published_is old (Delete name) moment bodies = inl refl
+published_is old Publish moment bodies = inr (refl, refl)
+published_is old (Group items) moment bodies = inl (published_after items old moment bodies)

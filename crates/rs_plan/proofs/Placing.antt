@@ -12,12 +12,11 @@ use Rattle.rs_page.specs.Pages.{Page, IsStored, placed_extent, stored_ref, block
 use Rattle.rs_page.specs.Placing.{PlacesOne, Places, HasNoPlace, PageHasNoRun as HasNoPageRun}
 use Rattle.rs_page.specs.SharedPages.{stored_pages}
 use Rattle.rs_plan.specs.Room.{HasNoRoom, pages_needed}
-use Rattle.rs_plan.specs.Plans.{MayHavePlace, MayHavePlaces}
 use Rattle.rs_image.specs.declared.contents.Contents.{Contents}
 use Rattle.rs_plan.specs.Placed.{AreUnplaced}
 
 -- a page of these items, at this place
-abbrev at : {T : Type 0} → List T → Place → Page T
+abbrev pub at : {T : Type 0} → List T → Place → Page T
 at items place = record { items = items; place = place }
 
 -- the items stay
@@ -33,43 +32,9 @@ places_length format used used' [] (y ∷ ys) h = absurd h
 places_length format used used' (x ∷ xs) [] h = absurd h
 places_length format used used' (x ∷ xs) (y ∷ ys) h = omega (arith, places_length format h.0 used' xs ys h.2)
 
--- Pages of the page rule that may have blocks are still such pages once more of them get blocks.
-ruled_one : {T : Type 0} (format : ItemFormat T) (used used' : List Bool) (items items' : List T) (place place' : Place) (y : Page T)
-    → PlacesOne format used (at items' place') used' y → MayHavePlace (at items place) (at items' place') → MayHavePlace (at items place) y
-ruled_one format used used' items items' Touched Touched y h ruled = (h.0 ∙ ruled.0, ap stored_ref h.1.placed)
-ruled_one format used used' items items' Touched (Placed e) y h ruled = (h.0 ∙ ruled.0, ap stored_ref h.1.1)
-ruled_one format used used' items items' Touched (Stored ref) y h ruled = let other : Some ref ≡ None = ruled.1 in cc
-ruled_one format used used' items items' (Placed e) Touched y h ruled = let other : Touched ≡ Placed e = ruled.1 in cc
-ruled_one format used used' items items' (Placed e) (Placed e') y h ruled = (h.0 ∙ ruled.0, h.1.1 ∙ ruled.1)
-ruled_one format used used' items items' (Placed e) (Stored ref) y h ruled = (h.0 ∙ ruled.0, h.1.1 ∙ ruled.1)
-ruled_one format used used' items items' (Stored ref) Touched y h ruled = let other : Touched ≡ Stored ref = ruled.1 in cc
-ruled_one format used used' items items' (Stored ref) (Placed e) y h ruled = (h.0 ∙ ruled.0, h.1.1 ∙ ruled.1)
-ruled_one format used used' items items' (Stored ref) (Stored ref') y h ruled = (h.0 ∙ ruled.0, h.1.1 ∙ ruled.1)
-
-pub places_ruled : {T : Type 0} (format : ItemFormat T) (used used' : List Bool) (pages xs ys : List (Page T)) → Places format used xs used' ys → MayHavePlaces pages xs → MayHavePlaces pages ys
-places_ruled format used used' [] [] [] h ruled = tt
-places_ruled format used used' [] [] (y ∷ ys) h ruled = absurd h
-places_ruled format used used' [] (x ∷ xs) ys h ruled = absurd ruled
-places_ruled format used used' (page ∷ pages) [] ys h ruled = absurd ruled
-places_ruled format used used' (page ∷ pages) (x ∷ xs) [] h ruled = absurd h
-places_ruled format used used' (page ∷ pages) (x ∷ xs) (y ∷ ys) h ruled = (
-  ruled_one format used h.0 page.items x.items page.place x.place y h.1 ruled.0,
-  places_ruled format h.0 used' pages xs ys h.2 ruled.1,
-)
-
--- a list has its own pages
 rest_none : {A : Type 0} (o : Option A) (rest : List A) → cons_option o rest ≡ [] → rest ≡ []
 rest_none None rest h = h
 rest_none (Some a) rest h = cc
-
-itself_one : {T : Type 0} (items : List T) (place : Place) → MayHavePlace (at items place) (at items place)
-itself_one items Touched = (refl, refl)
-itself_one items (Placed e) = (refl, refl)
-itself_one items (Stored ref) = (refl, refl)
-
-pub ruled_itself : {T : Type 0} (pages : List (Page T)) → placed_extents pages ≡ [] → MayHavePlaces pages pages
-ruled_itself [] none = tt
-ruled_itself (page ∷ pages) none = (itself_one page.items page.place, ruled_itself pages (rest_none (placed_extent page.place) (placed_extents pages) none))
 
 -- so do the pages that are stored
 stored_one : {T : Type 0} (format : ItemFormat T) (used used' : List Bool) (items : List T) (place : Place) (y : Page T) (xs ys : List (Page T))

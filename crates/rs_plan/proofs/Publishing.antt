@@ -22,11 +22,12 @@ use Rattle.rs_plan.specs.Allowed.{changes_dropped, MayPublish, parts_dropped}
 use Rattle.rs_plan.specs.Freed.{freed_by_publication}
 use Rattle.rs_plan.specs.Placed.{AreUnplaced}
 use Rattle.rs_plan.specs.PlacedFrom.{IsPlacedFrom, HasNoRoomFrom}
-use Rattle.rs_plan.specs.Plans.{IsNext, IsPlanned, LacksRoom}
+use Rattle.rs_plan.specs.Plans.{IsNext, IsPlanned, IsFullFor}
 use Rattle.rs_plan.specs.Published.{lists_after_publish, published_header}
 use Rattle.rs_plan.proofs.Sublists.{itself}
 use Rattle.rs_plan.proofs.Extents.{takes_none}
-use Rattle.rs_plan.proofs.Placing.{all_unplaced, ruled_itself}
+use Rattle.rs_plan.proofs.Lacking.{full_for}
+use Rattle.rs_plan.proofs.Placing.{all_unplaced}
 use Rattle.rs_plan.proofs.GivenBack.{Frees}
 use Rattle.rs_plan.proofs.Here.{answered}
 use Rattle.rs_plan.proofs.Parts.{shown_in}
@@ -180,7 +181,6 @@ module _ (r : Rooted) (moment : ℕ) (sound : IsRooted r) (is_history : IsHistor
     turns = λ image there. publish_turns old moment drops image;
     catalogue = itself (stored_pages old.catalogue);
     history = (keeps (changes_dropped old) old.history.pages).0;
-    pages = (refl, ruled_itself final.history.pages publish_unplaced.history, refl);
   }
 
   -- what goes from the old lists
@@ -196,15 +196,11 @@ module _ (r : Rooted) (moment : ℕ) (sound : IsRooted r) (is_history : IsHistor
 
   pub publish_answer : (used : List Bool) → AreUsed r used → (result : Result Plan PlanFault) (told : Reply) (gone : List Extent) (lists : Contents) → lists ≡ final
       → ((image : List ℕ) → told ≡ reply_to (state_in image old) Publish moment) → gone ≡ freed_by_publication r → IfOk result (IsPlacedFrom used [] lists told gone)
-      → (IsErrOf result Full → HasNoRoomFrom used [] lists) → IfOk result (IsPlanned r Publish moment) × (IsErrOf result Full → LacksRoom r Publish moment)
+      → (IsErrOf result Full → HasNoRoomFrom used [] lists) → IfOk result (IsPlanned r Publish moment) × (IsErrOf result Full → IsFullFor r Publish moment)
   publish_answer used are_used result told gone lists is reply freed placed full =
-      answered (IsPlanned r Publish moment) (LacksRoom r Publish moment) result used [] lists final told gone is
-      (λ p from. planned r.size r.root old sound Publish moment used from.after_bodies are_used [] (takes_none used from.after_bodies from.takes) final follows
+      answered (IsPlanned r Publish moment) (IsFullFor r Publish moment) result used [] lists final told gone is
+      (λ p from. planned r.size r.root old sound Publish moment used from.after_bodies are_used [] (takes_none used from.after_bodies from.takes) final refl follows
       (publish_rules r.size r.root old moment sound.whole is_history sound.listable.header is_moment may drops)
       (publish_records r.size r.root old moment sound.whole is_history sound.listable.header is_moment may drops) publish_unplaced p from.placed
       (λ image. from.reply ∙ reply image) from.lists (λ one apart beside. frees p.freed.items (from.freed ∙ freed)) from.taken)
-      (λ room. record {
-        used = used;
-        are_used = are_used;
-        fails = inr (room.after_bodies, [], final, takes_none used room.after_bodies room.takes, follows, room.fails);
-      }) placed full
+      (λ room. full_for r Publish moment used are_used [] room.after_bodies (takes_none used room.after_bodies room.takes) room.fails) placed full

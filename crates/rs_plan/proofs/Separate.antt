@@ -86,6 +86,9 @@ five_of d a b c e P k is of_d of_a of_b of_c of_e = elim (some_of_both (d ∷ a 
 ]
 
 -- and each part is in the whole
+pub d_in : (d : Extent) (a b c e : List Extent) → IsSubset (in_some (d ∷ [])) (in_some (joined d a b c e))
+d_in d a b c e k is = some_front (d ∷ a ++ b ++ c) e k (some_front (d ∷ a ++ b) c k (some_front (d ∷ a) b k (some_front (d ∷ []) a k is)))
+
 pub a_in : (d : Extent) (a b c e : List Extent) → IsSubset (in_some a) (in_some (joined d a b c e))
 a_in d a b c e k is = some_front (d ∷ a ++ b ++ c) e k (some_front (d ∷ a ++ b) c k (some_front (d ∷ a) b k (some_behind (d ∷ []) a k is)))
 
@@ -121,10 +124,27 @@ mixed_apart kept xs ys old new old' new' one other olds news b is = not_true (in
   | inr n ↦ elim (other.comes b is') [ inl o' ↦ not_both (kept b) (other.olds b o') (one.news b n) | inr n' ↦ not_both (new' b) n' (news b n) ]
 ])
 
--- What is written: bodies, catalogue pages, change pages and a directory, in free blocks and apart from one another.
+-- What is written: bodies, catalogue pages, change pages and a directory. Each part is in the whole.
+module _ (bodies pa pb : List Extent) (d : Extent) where
+  abbrev pub all_new : List Extent
+  all_new = bodies ++ pa ++ pb ++ d ∷ []
+
+  pub body_new : IsSubset (in_some bodies) (in_some all_new)
+  body_new k is = some_front (bodies ++ pa ++ pb) (d ∷ []) k (some_front (bodies ++ pa) pb k (some_front bodies pa k is))
+
+  pub pa_new : IsSubset (in_some pa) (in_some all_new)
+  pa_new k is = some_front (bodies ++ pa ++ pb) (d ∷ []) k (some_front (bodies ++ pa) pb k (some_behind bodies pa k is))
+
+  pub pb_new : IsSubset (in_some pb) (in_some all_new)
+  pb_new k is = some_front (bodies ++ pa ++ pb) (d ∷ []) k (some_behind (bodies ++ pa) pb k is)
+
+  pub d_new : IsSubset (in_some (d ∷ [])) (in_some all_new)
+  d_new k is = some_behind (bodies ++ pa ++ pb) (d ∷ []) k is
+
+-- It is in free blocks, and its parts are apart from one another.
 pub record AreNew (kept : ℕ → Bool) (bodies pa pb : List Extent) (d : Extent) : Type 0 where
-  pub apart : AreApart (bodies ++ pa ++ pb ++ d ∷ [])
-  pub beside : (b : ℕ) → in_some (bodies ++ pa ++ pb ++ d ∷ []) b ≡ true → kept b ≡ false
+  pub apart : AreApart (all_new bodies pa pb d)
+  pub beside : (b : ℕ) → in_some (all_new bodies pa pb d) b ≡ true → kept b ≡ false
 
 -- What a command leaves of the old parts and of what it writes is apart.
 pub separate_next : (kept : ℕ → Bool) (d d' : Extent) (bodies a b c e a' b' c' e' pa pb : List Extent) (ka kb : List Extent)
@@ -149,10 +169,10 @@ separate_next kept d d' bodies a b c e a' b' c' e' pa pb ka kb was reached new i
     let body_d = front bodies pa (in_some (d' ∷ [])) last_two in
     let pa_d = behind bodies pa (in_some (d' ∷ [])) last_two in
     let pb_d = behind (bodies ++ pa) pb (in_some (d' ∷ [])) last in
-    let free_body : (k : ℕ) → in_some bodies k ≡ true → kept k ≡ false = λ k is. new.beside k (some_front (bodies ++ pa ++ pb) (d' ∷ []) k (some_front (bodies ++ pa) pb k (some_front bodies pa k is))) in
-    let free_pa : (k : ℕ) → in_some pa k ≡ true → kept k ≡ false = λ k is. new.beside k (some_front (bodies ++ pa ++ pb) (d' ∷ []) k (some_front (bodies ++ pa) pb k (some_behind bodies pa k is))) in
-    let free_pb : (k : ℕ) → in_some pb k ≡ true → kept k ≡ false = λ k is. new.beside k (some_front (bodies ++ pa ++ pb) (d' ∷ []) k (some_behind (bodies ++ pa) pb k is)) in
-    let free_d : (k : ℕ) → in_some (d' ∷ []) k ≡ true → kept k ≡ false = λ k is. new.beside k (some_behind (bodies ++ pa ++ pb) (d' ∷ []) k is) in
+    let free_body : (k : ℕ) → in_some bodies k ≡ true → kept k ≡ false = λ k is. new.beside k (body_new bodies pa pb d' k is) in
+    let free_pa : (k : ℕ) → in_some pa k ≡ true → kept k ≡ false = λ k is. new.beside k (pa_new bodies pa pb d' k is) in
+    let free_pb : (k : ℕ) → in_some pb k ≡ true → kept k ≡ false = λ k is. new.beside k (pb_new bodies pa pb d' k is) in
+    let free_d : (k : ℕ) → in_some (d' ∷ []) k ≡ true → kept k ≡ false = λ k is. new.beside k (d_new bodies pa pb d' k is) in
     let c_a_c : (other : ℕ → Bool) → AreDisjoint (in_some a) other → AreDisjoint (in_some c) other → AreDisjoint (in_some c') other =
     λ other one two k is. elim (of_c k is) [ inl here ↦ one k here | inr there ↦ two k there ] in
     let mixed_d : IsMixed kept (d' ∷ []) none (in_some (d' ∷ [])) = record { comes = λ k is. inr is; olds = λ k is. absurd (true≢false (sym is)); news = free_d } in

@@ -3,8 +3,8 @@ pub mod Replies
 pub mod Room
 pub mod Placed
 pub mod Turned
+pub mod Published
 pub mod Plans
 pub mod PlacedFrom
-pub mod Published
 pub mod Freed
 pub mod Drafts

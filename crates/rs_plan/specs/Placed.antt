@@ -33,29 +33,8 @@ pub record AreUnplaced (c : Contents) : Type 0 where
   pub catalogue : placed_extents c.catalogue ≡ []
   pub history : placed_extents c.history.pages ≡ []
 
--- The pages of these lists, and then their directory, took blocks of a disk: first those of the catalogue, then those
--- of the history. Nothing else of the lists changed.
-pub record HasItsPlaces (used : List Bool) (bodies : List Extent) (c : Contents) (p : Plan) : Type 0 where
-  pub after_catalogue : List Bool
-  pub after_history : List Bool
-  pub after : List Bool
-  pub catalogue : Places record_format used c.catalogue after_catalogue p.contents.catalogue
-  pub history : Places change_format after_catalogue c.history.pages after_history p.contents.history.pages
-  pub takes_catalogue : AreTaken used after_catalogue (placed_extents p.contents.catalogue)
-  pub takes_history : AreTaken after_catalogue after_history (placed_extents p.contents.history.pages)
-  pub untouched_catalogue : All (λ page. ¬ IsTouched page.place) p.contents.catalogue
-  pub untouched_history : All (λ page. ¬ IsTouched page.place) p.contents.history.pages
-  pub directory : Takes after_history (blocks_of (directory_bytes_of c)) p.directory after
-  pub header : p.contents.header ≡ c.header
-  pub first : p.contents.history.first ≡ c.history.first
-  pub published : p.contents.published ≡ c.published
-  pub bodies_are : p.bodies.items ≡ bodies
-
--- the places of the pages of these lists, and of this directory
-abbrev pub places_of : Contents → Extent → List Extent
-places_of c directory = placed_extents c.catalogue ++ placed_extents c.history.pages ++ directory ∷ []
-
--- Touched pages of lists, and then a directory, took blocks of a disk, and nothing else of the lists changed.
+-- The touched pages of lists, first those of the catalogue and then those of the history, and then their directory, took
+-- blocks of a disk. Nothing else of the lists changed.
 pub record HaveTheirPlaces (used : List Bool) (c placed : Contents) (found : Extent) (after : List Bool) : Type 0 where
   pub after_catalogue : List Bool
   pub after_history : List Bool
@@ -69,3 +48,13 @@ pub record HaveTheirPlaces (used : List Bool) (c placed : Contents) (found : Ext
   pub header : placed.header ≡ c.header
   pub first : placed.history.first ≡ c.history.first
   pub published : placed.published ≡ c.published
+
+-- The lists of a plan are these lists once they have their places, and its bodies stand in these extents.
+pub record HasItsPlaces (used : List Bool) (bodies : List Extent) (c : Contents) (p : Plan) : Type 0 where
+  pub after : List Bool
+  pub lists : HaveTheirPlaces used c p.contents p.directory after
+  pub bodies_are : p.bodies.items ≡ bodies
+
+-- the places of the pages of these lists, and of this directory
+abbrev pub places_of : Contents → Extent → List Extent
+places_of c directory = placed_extents c.catalogue ++ placed_extents c.history.pages ++ directory ∷ []

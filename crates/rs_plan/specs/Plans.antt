@@ -1,5 +1,5 @@
 -- What a command writes.
-use Rattle.std.specs.Prelude.{◌≡◌, ◌⊎◌, ℕ, Bool, true, not, ◌&&◌, ◌||◌, List, [], ◌∷◌, ◌++◌, length, All, None}
+use Rattle.std.specs.Prelude.{◌≡◌, ℕ, Bool, true, not, ◌&&◌, ◌||◌, List, [], ◌∷◌, ◌++◌, length, All}
 use Rattle.std.specs.List.{AllZip}
 use Rattle.rs_extent.specs.declared.Extent.{Extent}
 use Rattle.rs_fixity.specs.Digests.{digests}
@@ -12,10 +12,9 @@ use Rattle.rs_model.specs.declared.command.Command.{Command}
 use Rattle.rs_model.specs.declared.command.Command.TheVariants.{Put, Delete, Publish, Group}
 use Rattle.rs_model.specs.declared.command.Item.TheVariants as single
 use Rattle.rs_page.specs.Items.{record_format, change_format}
-use Rattle.rs_page.specs.Pages.{Page, IsTouched, WhereTouched, placed_extents, stored, stored_ref}
+use Rattle.rs_page.specs.Pages.{IsTouched, placed_extents, stored}
 use Rattle.rs_page.specs.DiskPages.{IsWritten}
 use Rattle.rs_page.specs.SharedPages.{KeepsPages}
-use Rattle.rs_pages.specs.Dropped.{dropped_front}
 use Rattle.rs_changes.specs.History.{with_pages}
 use Rattle.rs_directory.specs.Directory.{written_format}
 use Rattle.rs_image.specs.declared.contents.Contents.{Contents}
@@ -24,39 +23,14 @@ use Rattle.rs_image.specs.Whole.{IsWhole}
 use Rattle.rs_image.specs.StateOfImage.{state_in, listing, AreListable}
 use Rattle.rs_image.specs.Rooted.{Rooted, AreUsed}
 use Rattle.rs_plan.specs.declared.plan.Plan.{Plan}
-use Rattle.rs_plan.specs.Allowed.{changes_dropped}
 use Rattle.rs_plan.specs.Room.{HasNoRoom, TakesEach, lists_needed, bodies_needed, bodies_of_command}
 use Rattle.rs_plan.specs.Placed.{AreUnplaced, HasItsPlaces}
+use Rattle.rs_plan.specs.Published.{lists_after_publish}
 use Rattle.rs_plan.specs.Turned.{no_body, first_of, lists_after_item, lists_after_items}
 
 -- these bodies stand in these extents, each in its own
 abbrev pub AreBodies : List ℕ → List Extent → List (List ℕ) → Type 0
 AreBodies image extents bodies = AllZip (λ extent bytes. part extent (length bytes) image ≡ bytes) extents bodies
-
--- a page that is touched may have been given blocks; any other stays as it is
-abbrev pub MayHavePlace : {T : Type 0} → Page T → Page T → Type 0
-MayHavePlace page placed = (placed.items ≡ page.items) × WhereTouched page.place (stored_ref placed.place ≡ None) (placed.place ≡ page.place)
-
--- the same pages, of which each that is touched may have been given blocks
-abbrev pub MayHavePlaces : {T : Type 0} → List (Page T) → List (Page T) → Type 0
-MayHavePlaces pages placed = AllZip MayHavePlace pages placed
-
--- the pages of these lists, each of which that is touched may have been given blocks; what is published stays
-abbrev pub AreChanged : Contents → Contents → Contents → Type 0
-AreChanged next old c =
-    MayHavePlaces next.catalogue c.catalogue × MayHavePlaces next.history.pages c.history.pages × (c.published ≡ old.published)
-
--- The pages after a command at its moment, whose bodies stand in these extents, are those of the page rule: a record is
--- bound or unbound in the pages of the catalogue, and a change is appended to those of the history; by a group so for
--- each of its items. A publication lists the pages of the catalogue, touches none of them, and drops the first changes
--- of the history; any other command leaves what is published.
-abbrev pub ArePagesAfter : Contents → Command → ℕ → List Extent → Contents → Type 0
-ArePagesAfter old (Put name kind bytes) moment bodies c = AreChanged (lists_after_item old (single.Put name kind bytes) moment (first_of bodies)) old c
-ArePagesAfter old (Delete name) moment bodies c = AreChanged (lists_after_item old (single.Delete name) moment no_body) old c
-ArePagesAfter old Publish moment bodies c =
-    (c.catalogue ≡ old.catalogue) × MayHavePlaces (dropped_front (changes_dropped old) old.history.pages) c.history.pages
-    × (c.published ≡ old.catalogue)
-ArePagesAfter old (Group items) moment bodies c = AreChanged (lists_after_items old items moment bodies) old c
 
 -- The lists after a command at its moment: where its bodies stand in these extents, their state is the one that follows
 -- the state of the old lists; and their stored pages are pages of the old ones.
@@ -65,17 +39,28 @@ pub record IsNext (old : Contents) (command : Command) (moment : ℕ) (bodies : 
       → state_in image c ≡ next_state (state_in image old) command moment
   pub catalogue : KeepsPages old.catalogue c.catalogue
   pub history : KeepsPages old.history.pages c.history.pages
-  pub pages : ArePagesAfter old command moment bodies c
 
--- A command lacks room. The blocks that the root reaches are used, and each body in turn takes the lowest run of its
--- size. Either one of them has no run, or all have one, and then not all of the touched pages and the directory have
--- one.
-pub record LacksRoom (old : Rooted) (command : Command) (moment : ℕ) : Type 0 where
+-- The lists after a command at its moment, whose bodies stand in these extents, before their pages have places: by the
+-- page rule a record is bound or unbound in the pages of the catalogue, and a change is appended to those of the
+-- history; by a group so for each of its items. A publication lists the pages of the catalogue, and drops the first
+-- changes of the history.
+abbrev pub lists_after : Contents → Command → ℕ → List Extent → Contents
+lists_after old (Put name kind bytes) moment bodies = lists_after_item old (single.Put name kind bytes) moment (first_of bodies)
+lists_after old (Delete name) moment bodies = lists_after_item old (single.Delete name) moment no_body
+lists_after old Publish moment bodies = lists_after_publish old moment
+lists_after old (Group items) moment bodies = lists_after_items old items moment bodies
+
+-- the numbers of blocks that a command needs at its moment, in the order in which they are found: of its bodies, and of
+-- the touched pages and the directory of the lists after it, which need as many wherever the bodies stand
+abbrev pub command_needed : Contents → Command → ℕ → List ℕ
+command_needed old command moment = bodies_needed (bodies_of_command command) ++ lists_needed (lists_after old command moment [])
+
+-- The disk is full for a command: the blocks that the root reaches are used, runs for what the command needs are taken
+-- one after another, each the lowest of its own length, and one of them is not there.
+pub record IsFullFor (old : Rooted) (command : Command) (moment : ℕ) : Type 0 where
   pub used : List Bool
   pub are_used : AreUsed old used
-  pub fails : HasNoRoom used (bodies_needed (bodies_of_command command))
-      ⊎ ((used' : List Bool) × (bodies : List Extent) × (c : Contents) × TakesEach used (bodies_needed (bodies_of_command command)) bodies used'
-      × IsNext old.contents command moment bodies c × HasNoRoom used' (lists_needed c))
+  pub lacks : HasNoRoom used (command_needed old.contents command moment)
 
 -- the lists once their pages are stored
 abbrev pub once_stored : Contents → Contents
@@ -101,16 +86,15 @@ abbrev pub planned_root : Root → Plan → Root
 planned_root root p = next root p.directory (length (planned_listing p)) (digests (planned_listing p)).sha256
 
 -- Each part of a plan gets the lowest run of its size, in the order of `places`, where the blocks that the root reaches
--- are used: first its bodies; then the catalogue pages and the change pages of lists whose touched pages have no place
--- yet; then the directory.
-pub record TakesInTurn (old : Rooted) (command : Command) (p : Plan) : Type 0 where
+-- are used: first its bodies; then the catalogue pages and the change pages of the lists after the command, whose touched
+-- pages have no place yet; then the directory.
+pub record TakesInTurn (old : Rooted) (command : Command) (moment : ℕ) (p : Plan) : Type 0 where
   pub used : List Bool
   pub after_bodies : List Bool
-  pub lists : Contents
   pub are_used : AreUsed old used
   pub bodies : TakesEach used (bodies_needed (bodies_of_command command)) p.bodies.items after_bodies
-  pub unplaced : AreUnplaced lists
-  pub placed : HasItsPlaces after_bodies p.bodies.items lists p
+  pub unplaced : AreUnplaced (lists_after old.contents command moment p.bodies.items)
+  pub placed : HasItsPlaces after_bodies p.bodies.items (lists_after old.contents command moment p.bodies.items) p
 
 -- What a plan takes and gives back: its places are listed; what it gives back is reached by the old root, no two things
 -- of it with a block in common; and the next root reaches what the old one reached, less what is given back, and the
@@ -128,7 +112,7 @@ pub record TakesAndGives (old : Rooted) (p : Plan) : Type 0 where
 pub record IsPlanned (old : Rooted) (command : Command) (moment : ℕ) (p : Plan) : Type 0 where
   pub next : IsNext old.contents command moment p.bodies.items p.contents
   pub reply : (image : List ℕ) → p.reply ≡ reply_to (state_in image old.contents) command moment
-  pub in_turn : TakesInTurn old command p
+  pub in_turn : TakesInTurn old command moment p
   pub free : AreBeside (is_kept old.root old.contents) (places p)
   pub apart : AreApart (places p)
   pub inside : AreInside old.size (places p)

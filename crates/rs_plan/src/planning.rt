@@ -9,7 +9,7 @@ ghost use Rattle.rs_image.specs.StateOfImage.{AreLists};
 ghost use Rattle.rs_time.specs.Moment.{IsMoment};
 ghost use Rattle.rs_body.specs.Blocks.{blocks_of};
 ghost use Rattle.rs_plan.specs.Room.{HasNoRun};
-ghost use Rattle.rs_plan.specs.Plans.{IsPlanned, LacksRoom};
+ghost use Rattle.rs_plan.specs.Plans.{IsPlanned, IsFullFor};
 ghost use Rattle.rs_plan.specs.Drafts.{IsDraft, IsPageRuleKept};
 
 mod dropping;
@@ -92,7 +92,7 @@ pub fn draft_put(
     ensures same { used.new ≡ used.old }
     ensures draft { IfOk result (IsDraft old.now name.now kind.now body_length moment) }
     ensures full { IsErrOf result PlanFault.Full → (bytes : List ℕ) → length bytes ≡ body_length
-        → LacksRoom old.now (Put name.now kind.now bytes) moment }
+        → IsFullFor old.now (Put name.now kind.now bytes) moment }
     ensures no_body { HasNoRun used.old (blocks_of body_length) → IsErrOf result PlanFault.Full }
 {
     page_rule_is_kept();
@@ -145,7 +145,7 @@ pub fn plan_put(
     ensures same { used.new ≡ used.old }
     ensures planned { IfOk result (IsPlanned old.now (Put name.now kind.now bytes.now) moment) }
     ensures full { IsErrOf result PlanFault.Full
-        → LacksRoom old.now (Put name.now kind.now bytes.now) moment }
+        → IsFullFor old.now (Put name.now kind.now bytes.now) moment }
     ensures no_body { HasNoRun used.old (blocks_of (length bytes.now))
         → IsErrOf result PlanFault.Full }
 {
@@ -173,7 +173,7 @@ pub fn plan_delete(
     requires may { MayDelete old.now.contents name.now moment }
     ensures same { used.new ≡ used.old }
     ensures planned { IfOk result (IsPlanned old.now (Delete name.now) moment) }
-    ensures full { IsErrOf result PlanFault.Full → LacksRoom old.now (Delete name.now) moment }
+    ensures full { IsErrOf result PlanFault.Full → IsFullFor old.now (Delete name.now) moment }
 {
     page_rule_is_kept();
     let contents = old.contents();
@@ -202,7 +202,7 @@ pub fn plan_publish(
     requires may { MayPublish old.now.contents moment }
     ensures same { used.new ≡ used.old }
     ensures planned { IfOk result (IsPlanned old.now Publish moment) }
-    ensures full { IsErrOf result PlanFault.Full → LacksRoom old.now Publish moment }
+    ensures full { IsErrOf result PlanFault.Full → IsFullFor old.now Publish moment }
 {
     first_items_are_dropped_as_one::<Change>();
     let contents = old.contents();

@@ -10,17 +10,17 @@ use crate::shared::SharedItems;
 use crate::{Page, PageItem, PageRef, Place};
 use rs_body::{LoadFault, is_on_disk, is_sized, read_body};
 use rs_disk::Disk;
-use rs_record::FieldFault;
+use rs_record::ValueFault;
 use std::alloc::Global;
 
 /// The fault of a page or a directory whose fields cannot be read: it is damaged where they are
 /// malformed.
-pub fn fault_of_fields(fault: FieldFault) -> LoadFault
+pub fn fault_of_fields(fault: ValueFault) -> LoadFault
     ensures { result ≡ fault_of_fields fault }
 {
     match fault {
-        FieldFault::Malformed => LoadFault::Damaged,
-        FieldFault::NoMemory => LoadFault::NoMemory,
+        ValueFault::Malformed => LoadFault::Damaged,
+        ValueFault::NoMemory => LoadFault::NoMemory,
     }
 }
 

@@ -52,7 +52,10 @@ impl Freed {
             ≡ self.old.bodies.items ++ extent_of_body lists.now name.now) }
     {
         add_page(&mut self.pages, unpublished_page(lists, name))?;
-        add_page(&mut self.history_pages, lists.history.open_entry())?;
+        add_page(
+            &mut self.history_pages,
+            lists.history.as_pages().open_entry(),
+        )?;
         add_body(&mut self.bodies, lists, name)
     }
 
@@ -96,7 +99,7 @@ pub(crate) fn freed_by_change(
     let mut freed = Vec::new(alloc);
     freed.push(old.root().directory)?;
     add_page(&mut freed, unpublished_page(contents, name))?;
-    add_page(&mut freed, contents.history.open_entry())?;
+    add_page(&mut freed, contents.history.as_pages().open_entry())?;
     add_body(&mut freed, contents, name)?;
     Ok(freed)
 }
@@ -148,8 +151,8 @@ fn unpublished_page(contents: &Contents, name: &Name) -> Option<PageRef>
     ensures { result ≡ unpublished (entry_of_name contents.now name.now)
         (stored_refs contents.now.published) }
 {
-    let page = contents.catalogue.entry_for(name)?;
-    if contents.published.has_entry(&page) {
+    let page = contents.catalogue.as_pages().entry_for(name)?;
+    if contents.published.as_pages().has_entry(&page) {
         None
     } else {
         Some(page)

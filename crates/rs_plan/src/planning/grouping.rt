@@ -11,7 +11,7 @@ ghost use Rattle.rs_model.specs.declared.command.Command.TheVariants.{Group};
 ghost use Rattle.rs_plan.specs.declared.planning.PlanFault.{PlanFault};
 ghost use Rattle.rs_plan.specs.Allowed.{MayGroup, MayDoItem, IsShort};
 ghost use Rattle.rs_plan.specs.Freed.{freed_page, freed_history_page, extent_of_body};
-ghost use Rattle.rs_plan.specs.Plans.{IsPlanned, LacksRoom};
+ghost use Rattle.rs_plan.specs.Plans.{IsPlanned, IsFullFor};
 ghost use Rattle.rs_plan.specs.Room.{HasNoRoom, TakesEach, is_named_in, bodies_kept, bodies_needed};
 ghost use Rattle.rs_plan.specs.Turned.{MayDoEach, is_written, extent_for, extents_left, lists_after_item, lists_after_items, of_each_item};
 
@@ -49,7 +49,7 @@ pub fn plan_group(
     requires may { MayGroup old.now.contents items.now moment }
     ensures same { used.new ≡ used.old }
     ensures planned { IfOk result (IsPlanned old.now (Group items.now) moment) }
-    ensures full { IsErrOf result PlanFault.Full → LacksRoom old.now (Group items.now) moment }
+    ensures full { IsErrOf result PlanFault.Full → IsFullFor old.now (Group items.now) moment }
 {
     page_rule_is_kept();
     let contents = old.contents();

@@ -58,7 +58,7 @@ pub(crate) fn place_lists(
     ensures placed { IfOk result (IsPlacedFrom used.old bodies.items lists reply freed.items) }
     ensures full { IsErrOf result PlanFault.Full → HasNoRoomFrom used.old bodies.items lists }
 {
-    let pages = lists.catalogue.page_count() + lists.history.page_count();
+    let pages = lists.catalogue.as_pages().page_count() + lists.history.as_pages().page_count();
     let mut taken = with_room(alloc, &bodies, pages + 1)?;
     used.take_each(&bodies);
     let placed = take_places(used, &mut lists, &mut taken);
@@ -104,9 +104,9 @@ fn take_places(
 {
     let length = directory_size(&lists.header, lists.page_count());
     lists.catalogue.place_touched(used)?;
-    lists.catalogue.list_placed(taken);
+    lists.catalogue.as_pages().list_placed(taken);
     lists.history.place_touched(used)?;
-    lists.history.list_placed(taken);
+    lists.history.as_pages().list_placed(taken);
     let Some(directory) = take_lowest(used, length) else {
         return Err(Full);
     };

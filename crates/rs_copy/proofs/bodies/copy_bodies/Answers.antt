@@ -1,4 +1,4 @@
-use Rattle.std.proofs.Common.{◌≡◌, ◌≤◌, ℕ, Bool, [], ◌∷◌, length, take, map, sym, ◌∙◌, ap, subst, arith}
+use Rattle.std.proofs.Common.{◌≡◌, ◌≤◌, ◌+◌, ℕ, Bool, [], ◌∷◌, length, take, map, sym, ◌∙◌, ap, subst, arith}
 use Rattle.std.specs.Prelude.{All}
 use Rattle.std.proofs.lemmas.List.{take_all}
 use Rattle.std.proofs.lemmas.List.Elements.{All-nil, All-cons, All-head, All-take}
@@ -15,7 +15,7 @@ use Rattle.rs_copy.specs.declared.faults.CopyFault.TheVariants.{Device}
 use Rattle.rs_copy.specs.Laying.{IsMoved}
 use Rattle.rs_copy.specs.Copies.{HasItsBody}
 use Rattle.rs_copy.specs.Copying.{HasPlace}
-use Rattle.rs_copy.proofs.MovedBodies.{ends_bodies, each_of, body_among, beside_before, moved_at, held_more, bodies_stay}
+use Rattle.rs_copy.proofs.MovedBodies.{ends_bodies, each_of, body_among, beside_before, moved_at, held_more, bodies_stay, read_once_more, read_among}
 use Rattle.rs_copy.proofs.Runs.{copies_as, copies_handed, copies_then}
 use Rattle.rs_copy.proofs.bodies.copy_bodies.Goals as goal
 
@@ -34,6 +34,15 @@ returns-in_err-copy_body-clause-bodies g c =
     (λ is honest all. c.in_err-copy_body.ensures.bodies.damaged is honest
     (subst (λ (k : Medium). All (HasItsBody k.seen) (r ∷ [])) (sym c.loop-i.invariant.copies.runs.rests.now)
     (All-cons (HasItsBody before) r [] (each_of (HasItsBody before) (records_of c.args.old.now) c.loop-i.i r c.at.ensures all) (All-nil (HasItsBody before)))))
+
+pub returns-in_err-copy_body-clause-once : goal.returns-in_err-copy_body-clause-once
+returns-in_err-copy_body-clause-once g c =
+    let rs = records_of c.args.old.now in
+    let i = c.loop-i.i in
+    let before = g.D.Disk.state c.args.from.now in
+    let new = g.D.Disk.state c.copy_body.new.from in
+    read_among rs (i + 1) before new
+    (read_once_more rs i c.at.result.now c.at.ensures before (g.D.Disk.state c.loop-i.from) new c.loop-i.invariant.once c.in_err-copy_body.ensures.once)
 
 pub loop-i-preserved : goal.loop-i-preserved
 loop-i-preserved g c =
@@ -55,11 +64,12 @@ loop-i-preserved g c =
     let stay = bodies_stay first old.size (take i ms) now.now.seen new.now.seen (All-take (HasPlace old.size) i ms c.requires.rooms) (λ b is. is) keeps in
     record {
       copied = λ honest.
-          held_more rs ms i r m before.now.seen now.now.seen new.now.seen c.at.ensures there stay.0 (inv.copied (e.copies.runs.rests.runs.lasts honest))
+          held_more rs ms i r m before.now.seen now.now.seen new.now.seen c.at.ensures there stay.0 (inv.copied (e.copies.runs.rests.lasts honest))
           (ap (λ (x : Record). map (held_in new.now.seen) (x ∷ [])) moved
           ∙ subst (λ (k : Medium). map (held_in new.now.seen) (record r { extent = m.extent } ∷ []) ≡ map (held_in k.seen) (r ∷ [])) inv.copies.runs.rests.now (e.bodies.copied honest));
       intact = each_more (HasItsBody new.now.seen) ms i m there
           (stay.1 inv.intact) (subst (HasItsBody new.now.seen) (sym moved) (All-head (HasItsBody new.now.seen) (record r { extent = m.extent }) [] e.bodies.intact));
+      once = read_once_more rs i r c.at.ensures before (g.D.Disk.state c.loop-i.from) (g.D.Disk.state c.copy_body.new.from) inv.once e.once;
       copies = copies_as (λ is. absurd cc) (λ none. absurd none)
           (copies_then (bodies_of ms) (λ b is. is) (body_among ms i m there) (λ none. none) inv.copies e.copies);
     }
@@ -79,3 +89,7 @@ returns-clause-bodies g c =
       intact = each_at_end (HasItsBody new) ms i past_new c.loop-i.invariant.intact;
       damaged = λ is. absurd cc;
     }
+
+pub returns-clause-once : goal.returns-clause-once
+returns-clause-once g c =
+    read_among (records_of c.args.old.now) c.loop-i.i (g.D.Disk.state c.args.from.now) (g.D.Disk.state c.loop-i.from) c.loop-i.invariant.once

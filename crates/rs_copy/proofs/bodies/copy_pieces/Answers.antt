@@ -1,4 +1,4 @@
-use Rattle.std.proofs.Common.{◌≡◌, ◌+◌, ◌++◌, ℕ, List, length, take, length-take, refl, sym, ◌∙◌, ap, subst, arith}
+use Rattle.std.proofs.Common.{rules, ◌≡◌, ◌+◌, ◌++◌, ℕ, List, length, take, length-take, refl, sym, ◌∙◌, ap, subst, arith}
 use Rattle.std.specs.Result.{is_err}
 use Rattle.rs_disk.specs.Medium.{Medium}
 use Rattle.rs_fixity.specs.Hashed.{HasTakenSha256}
@@ -7,6 +7,11 @@ use Rattle.rs_copy.proofs.FromBelow.{part_only}
 use Rattle.rs_copy.proofs.Handed.{err_is}
 use Rattle.rs_copy.proofs.Runs.{copies_as, copies_read, copies_write}
 use Rattle.rs_copy.proofs.bodies.copy_pieces.Goals as goal
+
+pub returns-in_err-read_piece-clause-copies : goal.returns-in_err-read_piece-clause-copies
+returns-in_err-read_piece-clause-copies g c =
+    copies_as (λ is. ap is_err (err_is c.from_residual.result c.in_err-read_piece.field-0.0 c.from_residual.ensures.1)) (λ is. refl)
+    (copies_read (λ none. none) c.loop-at.invariant.copies c.in_err-read_piece.ensures.runs)
 
 pub returns-in_err-write_piece-clause-copies : goal.returns-in_err-write_piece-clause-copies
 returns-in_err-write_piece-clause-copies g c =
@@ -33,6 +38,8 @@ loop-at-preserved g c =
     subst (λ (n : ℕ). part extent (at + n) new.now.seen ≡ part extent at now.now.seen ++ piece) long w.reads in
     record {
       within = omega (arith, c.min-size.ensures);
+      whole = search rules;
+      calls = search rules;
       hashed = subst (λ (l : List ℕ). HasTakenSha256 c.add.new.self l) (sym wrote) (c.add.ensures (part extent at now.now.seen) inv.hashed);
       copied = λ honest.
           let read : part held (at + size) mid.now.seen ≡ part held at mid.now.seen ++ piece =

@@ -1,5 +1,6 @@
--- The front of both extents is the same so far, and hashed.
-use Rattle.std.proofs.Common.{◌≡◌, ◌-◌, ◌≤◌, [], ◌∷◌, IsTrue}
+-- The front of both extents is the same so far, and hashed. Each piece but the last is full.
+use Rattle.std.proofs.Common.{◌≡◌, ◌+◌, ◌-◌, ◌/◌, ◌%◌, ◌≤◌, ◌<◌, [], ◌∷◌, IsTrue}
+use Rattle.rs_disk.specs.Runs.{CallsAtMost}
 use Rattle.rs_fixity.specs.Hashed.{HasTakenSha256}
 use Rattle.rs_body.specs.Blocks.{part}
 use Rattle.rs_copy.specs.Copying.{CopiesOnly}
@@ -13,6 +14,8 @@ invariant-loop-at g l =
     let new = g.E.Disk.state l.to in
     record {
       within : l.at ≤ l.held.length;
+      whole : l.at < l.held.length → l.at % 16384 ≡ 0;
+      calls : CallsAtMost ((l.at + 16383) / 16384) before after;
       hashed : HasTakenSha256 l.hashing (part l.extent l.at new.now.seen);
       copied : IsTrue after.honest → part l.extent l.at new.now.seen ≡ part l.held.extent l.at before.now.seen;
       copies : CopiesOnly (l.extent ∷ []) ⊥ (record { from = before; to = old }) (record { from = after; to = new });

@@ -59,7 +59,7 @@ returns-in_err-copy_bodies-clause-bodies g c =
 pub write_pages-requires-clause-room : goal.write_pages-requires-clause-room
 write_pages-requires-clause-room g c b is =
     let l = c.args.layout.now in
-    omega (arith, c.requires.room.on_disk b (pages_among l.contents l.directory b is), c.copy_bodies.ensures.copies.runs.advances.runs.size)
+    omega (arith, c.requires.room.on_disk b (pages_among l.contents l.directory b is), c.copy_bodies.ensures.copies.runs.advances.size)
 
 pub write_pages-requires-clause-apart : goal.write_pages-requires-clause-apart
 write_pages-requires-clause-apart g c =
@@ -95,7 +95,7 @@ write_directory-requires-clause-room g c b is =
     omega (
       arith,
       c.requires.room.on_disk b (some_first l.directory (pages_in l.contents ++ bodies_of (records_of l.contents.catalogue)) b is),
-      c.copy_bodies.ensures.copies.runs.advances.runs.size,
+      c.copy_bodies.ensures.copies.runs.advances.size,
       c.write_pages.ensures.writes.runs.runs.size,
     )
 

@@ -20,7 +20,7 @@ returns-in_err-close_slots g c =
     let new = g.E.Disk.state c.close_slots.new.disk in
     let e = c.in_err-close_slots.ensures in
     ends_badly {S = Standing} c.from_residual.result Device c.from_residual.ensures.1
-    (copying_as (λ is. refl) (λ is. refl) (copying_write (g.D.Disk.state c.args.from.now) old new e.runs.writes)) tt (λ is. absurd cc)
+    (copying_as (λ is. refl) (λ is. refl) (copying_write (g.D.Disk.state c.args.from.now) old new e.runs.writes)) (omega arith) tt (λ is. absurd cc)
     (λ s honest state when. not_yet old new (OutsideOf old.now) (λ m image. NoneOrState s image) e.runs.leaves
     (elim when [ inl late ↦ absurd (omega (arith, late, e.calls.most)) | inr unmet ↦ e.calls.cut_short refl unmet ]))
 
@@ -50,7 +50,7 @@ returns-in_err-root g c =
     let e = c.in_err-root.ensures in
     let outside = e.copies.outside is_slot (room old.size c.args.old.now l.contents l.directory l.used c.requires.laid_out).behind in
     ends_badly {S = Root} c.from_residual-in_err-root.result c.in_err-root.field-0.0 c.from_residual-in_err-root.ensures.1
-    (copying_then (λ is. absurd cc) (copying_write before old one closed.runs.writes) e.copies.runs) e.others e.bodies.damaged
+    (copying_then (λ is. absurd cc) (copying_write before old one closed.runs.writes) e.copies.runs) e.once e.others e.bodies.damaged
     (λ s honest state when. none_written c.shut_tells_none.ensures.none old one two (g.met.E.Disk.holds c.close_slots.new.disk) closed.shut closed.runs.leaves
     (closed.calls.all (λ is. absurd cc)) outside s)
 
@@ -69,7 +69,7 @@ returns-in_err-open_first g c =
     c.requires.laid_out c.requires.behind (λ is. absurd cc) (λ is. absurd cc) closed.runs closed.calls closed.shut e.copies e.made.stands e.bodies.copied in
     let opening : Leaves two new (λ _. NoneOrRoot two.now root) = subst (λ (r : Root). Leaves two new (λ _. NoneOrRoot two.now r)) e.made.root (o.any_moment at.shut) in
     ends_badly {S = Standing} c.from_residual-in_err-open_first.result Device c.from_residual-in_err-open_first.ensures.1
-    (copying_as (λ is. refl) (λ is. refl) (copying_then (λ none. none) at.runs (copying_write after two new o.runs.writes))) tt (λ is. absurd cc)
+    (copying_as (λ is. refl) (λ is. refl) (copying_then (λ none. none) at.runs (copying_write after two new o.runs.writes))) e.once tt (λ is. absurd cc)
     (λ s honest state when. state_opened s root (all_stored l.contents) (at.none s) opening (at.told s honest state))
 
 pub returns : goal.returns
@@ -91,13 +91,14 @@ returns g c =
     let opening : Leaves two new (λ _. NoneOrRoot two.now root) = subst (λ (r : Root). Leaves two new (λ _. NoneOrRoot two.now r)) e.made.root (o.any_moment at.shut) in
     record {
       runs = copying_as (λ is. absurd cc) (λ is. absurd cc) (copying_then (λ none. none) at.runs (copying_write after two new o.runs.writes));
+      once = e.once;
       others = tt;
       damaged = λ is. absurd cc;
       slots = o.made.slots ∙ ap fresh e.made.root;
       ready = o.made.ready at.shut;
       layout = e.made.layout;
       sound = sound_here lists l old.size before.size c.requires.laid_out c.requires.behind two.now.seen at.long e.made.stands c.requires.size new.size
-          (o.runs.writes.runs.size ∙ at.runs.advances.runs.size);
+          (o.runs.writes.runs.size ∙ at.runs.advances.size);
       intact = intact_there lists l old.size before.size c.requires.laid_out c.requires.behind two.now.seen at.long e.made.stands new.now.seen o.runs.outside e.bodies.intact;
       holds = λ s honest state image is.
           told_there lists l old.size before.size c.requires.laid_out c.requires.behind two.now.seen at.long e.made.stands s new.now _ image (at.told s honest state) o.made.written o.runs.outside is;

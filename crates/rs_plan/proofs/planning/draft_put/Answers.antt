@@ -23,7 +23,7 @@ use Rattle.rs_plan.specs.Drafts.{AwaitsBody, IsDraft, plan_filled}
 use Rattle.rs_plan.specs.Freed.{freed_by_change}
 use Rattle.rs_plan.specs.Placed.{AreUnplaced, record_of_body, facts_of_body}
 use Rattle.rs_plan.specs.PlacedFrom.{IsPlacedFrom, HasNoRoomFrom}
-use Rattle.rs_plan.specs.Plans.{IsPlanned, LacksRoom}
+use Rattle.rs_plan.specs.Plans.{IsPlanned, IsFullFor}
 use Rattle.rs_plan.specs.Replies.{reply_of}
 use Rattle.rs_plan.specs.Room.{HasNoRun, IsFoundRun}
 use Rattle.rs_plan.specs.Turned.{change_of_record, lists_after_put}
@@ -32,7 +32,7 @@ use Rattle.rs_plan.proofs.Drafted.{filled_lacks, filled_from}
 use Rattle.rs_plan.proofs.Extents.{found_free, found_somewhere, one_can, takes_one}
 use Rattle.rs_plan.proofs.Placing.{all_unplaced}
 use Rattle.rs_plan.proofs.Grouped.{put_does, may_one, frees_one, items_lack, items_planned}
-use Rattle.rs_plan.proofs.Here.{IsAccepted, accepted}
+use Rattle.rs_plan.proofs.Here.{IsAccepted, accepted, made_of}
 use Rattle.rs_plan.proofs.ItemSteps.{unplaced_with}
 use Rattle.rs_plan.proofs.Replies.{put_told, some_change}
 use Rattle.rs_plan.proofs.planning.draft_put.Goals as goal
@@ -70,9 +70,9 @@ module _ (r : Rooted) (b : Record) (given : IsAccepted r b.moment) where
   awaits used bodies told gone p from =
       let placed = from.placed in
       record {
-        catalogue = placed_stands record_format (λ (r : Record). r.name) b.name from.after_bodies placed.after_catalogue lists.catalogue p.contents.catalogue placed.catalogue
+        catalogue = placed_stands record_format (λ (r : Record). r.name) b.name from.after_bodies placed.lists.after_catalogue lists.catalogue p.contents.catalogue placed.lists.catalogue
             (given.law.stands b r.contents.catalogue);
-        history = placed_ends change_format placed.after_catalogue placed.after_history lists.history.pages p.contents.history.pages placed.history
+        history = placed_ends change_format placed.lists.after_catalogue placed.lists.after_history lists.history.pages p.contents.history.pages placed.lists.history
             (given.law.ends change r.contents.history.pages);
       }
 
@@ -83,7 +83,7 @@ module _ (r : Rooted) (b : Record) (given : IsAccepted r b.moment) where
 -- Where as many bytes come as were counted, what was found for the draft is found for the put.
 module _ (r : Rooted) (name kind bytes : List ℕ) (body : Extent) (moment : ℕ) (given : IsAccepted r moment) (used : List Bool) (are_used : AreUsed r used)
     (may : MayPut r.contents name (length bytes) moment) (found : IsFoundRun used (blocks_of (length bytes)) body) where
-  lacks : HasNoRoomFrom used (body ∷ []) (lists_after_put r.contents (blank name kind (length bytes) body moment)) → LacksRoom r (Put name kind bytes) moment
+  lacks : HasNoRoomFrom used (body ∷ []) (lists_after_put r.contents (blank name kind (length bytes) body moment)) → IsFullFor r (Put name kind bytes) moment
   lacks room =
       items_lack r moment given (Put name kind bytes) (single.Put name kind bytes ∷ []) (put_does name kind bytes) (body ∷ [])
       (may_one r moment given (single.Put name kind bytes) may (body ∷ [])) used are_used (λ after taken. takes_one used after (blocks_of (length bytes)) body found taken)
@@ -106,16 +106,12 @@ given c =
 abbrev drafted : In_ok-lists → Record
 drafted c = blank c.args.name.now c.args.kind.now c.args.body_length c.in-Some.body c.args.moment
 
--- the lists that were made of those behind the root
-made : (b : Record) (c old lists : Contents) → c ≡ old → lists ≡ lists_after_put c b → lists ≡ lists_after_put old b
-made b c old lists at is = is ∙ ap (λ (x : Contents). lists_after_put x b) at
-
 pub reply_told-reply-requires : goal.reply_told-reply-requires
 reply_told-reply-requires c =
     let at = goal.at.reply_told-reply-requires c in
     let r = c.args.old.now in
     let b = drafted at.In_ok-lists in
-    let are = made b _ r.contents _ c.contents-contents.ensures.contents c.in_ok-lists.ensures in
+    let are = made_of (λ x. lists_after_put x b) _ r.contents _ c.contents-contents.ensures.contents c.in_ok-lists.ensures in
     some_change r.contents c.in_ok-lists.lists (change_of_record r.contents b) (ap (λ (x : Contents). changes_of x.history.pages) are ∙ one_more r b (given at.After-types_are_kept))
 
 pub place_lists-requires : goal.place_lists-requires
@@ -126,7 +122,7 @@ place_lists-requires c =
     let used = c.args.used.now in
     let body = c.in-Some.body in
     record {
-      unplaced = subst AreUnplaced (sym (made b _ r.contents _ c.contents-contents.ensures.contents c.in_ok-lists.ensures)) (unplaced r b (given at.After-types_are_kept));
+      unplaced = subst AreUnplaced (sym (made_of (λ x. lists_after_put x b) _ r.contents _ c.contents-contents.ensures.contents c.in_ok-lists.ensures)) (unplaced r b (given at.After-types_are_kept));
       are_free = subst (CanTake used) (sym c.in_ok-bodies.ensures.items) (one_can used body (found_free used (blocks_of c.args.body_length) body c.in-Some.ensures));
     }
 
@@ -137,7 +133,7 @@ pub returns-in_default-clause-full : goal.returns-in_default-clause-full
 returns-in_default-clause-full c full bytes is = record {
   used = c.args.used.now;
   are_used = c.requires.used;
-  fails = inl (inl (subst (λ (n : ℕ). HasNoRun c.args.used.now (blocks_of n)) (sym is) c.in_default.ensures));
+  lacks = inl (subst (λ (n : ℕ). HasNoRun c.args.used.now (blocks_of n)) (sym is) c.in_default.ensures);
 }
 
 pub returns-clause-draft : goal.returns-clause-draft
@@ -152,7 +148,7 @@ returns-clause-draft c =
     let used = c.args.used.now in
     let b = drafted at.In_ok-lists in
     let accept = given at.After-types_are_kept in
-    let are = made b _ r.contents _ c.contents-contents.ensures.contents c.in_ok-lists.ensures in
+    let are = made_of (λ x. lists_after_put x b) _ r.contents _ c.contents-contents.ensures.contents c.in_ok-lists.ensures in
     let told = c.reply_told-reply.result in
     let gone = c.in_ok-freed.freed.items in
     let reply = told_of r b accept told (subst (λ (x : Contents). MatchOption (last_of (changes_of x.history.pages)) ⊥ (λ change. told ≡ reply_of change)) are c.reply_told-reply.ensures) in
@@ -182,7 +178,7 @@ returns-clause-full c full bytes is =
     let used = c.args.used.now in
     let b = drafted at.In_ok-lists in
     subst (λ (k : ℕ). MayPut r.contents name k moment → IsFoundRun used (blocks_of k) body
-    → HasNoRoomFrom used (body ∷ []) (lists_after_put r.contents (blank name kind k body moment)) → LacksRoom r (Put name kind bytes) moment) is
+    → HasNoRoomFrom used (body ∷ []) (lists_after_put r.contents (blank name kind k body moment)) → IsFullFor r (Put name kind bytes) moment) is
     (lacks r name kind bytes body moment (given at.After-types_are_kept) used c.requires.used) c.requires.may c.in-Some.ensures
     (subst (λ (l : List Extent). HasNoRoomFrom used l (lists_after_put r.contents b)) c.in_ok-bodies.ensures.items
-    (subst (HasNoRoomFrom used c.in_ok-bodies.bodies.items) (made b _ r.contents _ c.contents-contents.ensures.contents c.in_ok-lists.ensures) (c.place_lists.ensures.full full)))
+    (subst (HasNoRoomFrom used c.in_ok-bodies.bodies.items) (made_of (λ x. lists_after_put x b) _ r.contents _ c.contents-contents.ensures.contents c.in_ok-lists.ensures) (c.place_lists.ensures.full full)))

@@ -1,22 +1,24 @@
-use Rattle.std.proofs.Common.{◌≡◌, ◌∙◌, ℕ, List, [], Bool, ◌∷◌, ◌++◌, length, sym, refl, ap₂, subst}
-use Rattle.std.specs.Prelude.{IfOk, IsErrOf}
+use Rattle.std.proofs.Common.{◌≡◌, ◌∙◌, ℕ, List, [], Bool, ◌∷◌, ◌++◌, length, Result, Ok, Err, sym, refl, ap, ap₂, subst}
+use Rattle.std.specs.Prelude.{IfOk, IsErrAnd, IsErrOf}
 use Rattle.rs_extent.specs.declared.Extent.{Extent}
 use Rattle.rs_extent.specs.Extents.{CanTake, AreTaken}
 use Rattle.rs_image.specs.declared.contents.Contents.{Contents}
 use Rattle.rs_model.specs.declared.command.Command.TheVariants.{Group}
 use Rattle.rs_model.specs.declared.command.Reply.TheVariants.{Grouped}
 use Rattle.rs_commit.specs.declared.root.Root.{Root}
+use Rattle.rs_plan.specs.declared.planning.PlanFault.{PlanFault}
 use Rattle.rs_plan.specs.declared.planning.PlanFault.TheVariants.{Full}
 use Rattle.rs_plan.specs.Freed.{extent_of_body, freed_page, freed_history_page, freed_by_group}
 use Rattle.rs_plan.specs.Placed.{AreUnplaced}
 use Rattle.rs_plan.specs.PlacedFrom.{IsPlacedFrom, HasNoRoomFrom}
-use Rattle.rs_plan.specs.Plans.{IsPlanned, LacksRoom}
+use Rattle.rs_plan.specs.Plans.{IsPlanned, IsFullFor}
 use Rattle.rs_plan.specs.Room.{TakesEach, bodies_kept, bodies_needed}
 use Rattle.rs_plan.specs.Turned.{lists_after_items, of_each_item, MayDoEach}
 use Rattle.rs_plan.proofs.Extents.{could_take, same_taken, taken_each}
 use Rattle.rs_plan.proofs.GroupRules.{items_short}
 use Rattle.rs_plan.proofs.Grouped.{group_does, may_each, items_unplaced, items_answer}
 use Rattle.rs_plan.proofs.Here.{IsAccepted, accepted}
+use Rattle.rs_plan.proofs.Lacking.{full_of_bodies}
 use Rattle.rs_plan.proofs.planning.grouping.plan_group.Goals as goal
 use Rattle.rs_plan.proofs.planning.grouping.plan_group.Goals.{After-types_are_kept, After-drop-freed-4}
 
@@ -48,6 +50,16 @@ find_bodies-requires c =
     let kept = (goal.at.find_bodies-requires c).After-types_are_kept in
     record { short = items_short c.args.items.now c.args.old.now.contents c.args.moment [] (may kept []) }
 
+-- the fault that is handed on
+handed : {T : Type 0} (r : Result T PlanFault) (fault : PlanFault) → IsErrAnd r (λ e. e ≡ fault) → IsErrOf r Full → fault ≡ Full
+handed (Ok x) fault same full = absurd same
+handed (Err e) fault same full = cc
+
+pub returns-in_err-bodies-clause-full : goal.returns-in_err-bodies-clause-full
+returns-in_err-bodies-clause-full c full =
+    full_of_bodies c.args.old.now (Group c.args.items.now) c.args.moment c.args.used.now c.requires.used
+    (c.in_err-bodies.ensures.full (ap (λ (e : PlanFault). Err e) (handed c.from_residual.result c.in_err-bodies.field-0.0 c.from_residual.ensures.1 full)))
+
 pub turn_items-requires : goal.turn_items-requires
 turn_items-requires c =
     let kept = (goal.at.turn_items-requires c).After-types_are_kept in
@@ -72,7 +84,7 @@ place_lists-requires-clause-are_free c =
     (taken_each c.args.used.now found.0 (bodies_needed (bodies_kept c.args.items.now)) c.in_ok-bodies.bodies.items found.1))
 
 both : (c : After-drop-freed-4) → IfOk c.place_lists.result (IsPlanned c.args.old.now (Group c.args.items.now) c.args.moment)
-    × (IsErrOf c.place_lists.result Full → LacksRoom c.args.old.now (Group c.args.items.now) c.args.moment)
+    × (IsErrOf c.place_lists.result Full → IsFullFor c.args.old.now (Group c.args.items.now) c.args.moment)
 both c =
     let kept = (goal.at.After-drop-freed-4 c).After-types_are_kept in
     let r = c.args.old.now in

@@ -33,26 +33,10 @@ returns-clause-placed c =
     let found = c.in_ok-directory.ensures in
     let bodies = c.args.bodies.items in
     let lists = c.take_places-placed.new.lists in
-    let places = found.placed in
     record {
       after_bodies = c.take_each.new.self;
       takes = subst (AreTaken c.args.used.now c.take_each.new.self) c.deref-2.ensures.value c.take_each.ensures;
-      placed = record {
-        after_catalogue = places.after_catalogue;
-        after_history = places.after_history;
-        after = c.take_places-placed.new.used;
-        catalogue = places.catalogue;
-        history = places.history;
-        takes_catalogue = places.takes_catalogue;
-        takes_history = places.takes_history;
-        untouched_catalogue = places.untouched_catalogue;
-        untouched_history = places.untouched_history;
-        directory = places.directory;
-        header = places.header;
-        first = places.first;
-        published = places.published;
-        bodies_are = refl;
-      };
+      placed = record { after = c.take_places-placed.new.used; lists = found.placed; bodies_are = refl };
       taken = found.taken.1 ∙ ap₂ (λ (a b : List Extent). a ++ b) (c.in_ok-taken.ensures.items ∙ c.deref.ensures.value) found.taken.3
           ∙ in_turn bodies (placed_extents lists.catalogue) (placed_extents lists.history.pages) (c.in_ok-directory.directory ∷ []);
       reply = refl;

@@ -1,8 +1,8 @@
-use Rattle.std.proofs.Common.{◌≡◌, ◌++◌, inl, ◌∷◌, [], ℕ, Bool, List, Result, Ok, Err, is_ok, refl, sym, ◌∙◌, ap, subst, arith, append_assoc}
+use Rattle.std.proofs.Common.{◌≡◌, ◌++◌, inl, ◌∷◌, [], ℕ, Bool, List, length, Result, Ok, Err, is_ok, refl, sym, ◌∙◌, ap, subst, arith, append_assoc}
 use Rattle.std.specs.Prelude.{OnErr}
 use Rattle.rs_body.specs.Blocks.{blocks_of}
 use Rattle.rs_page.specs.Items.{record_format, change_format}
-use Rattle.rs_page.specs.Pages.{placed_extents}
+use Rattle.rs_page.specs.Pages.{Page, placed_extents}
 use Rattle.rs_directory.specs.Directory.{directory_length}
 use Rattle.rs_extent.specs.declared.Extent.{Extent}
 use Rattle.rs_extent.specs.Extents.{AreTaken}
@@ -47,10 +47,18 @@ returns-in_default-clause-full c =
     (room_after change_format _ c.place_touched-2.new.used lists.history.pages _ _ c.in_ok-place_touched-2.ensures.ok.places c.requires.unplaced.history
     (inl (subst (λ (n : ℕ). HasNoRun c.place_touched-2.new.used (blocks_of n)) size c.in_default.ensures.found))))
 
+-- the pages that a list lends are its own
+many : {T : Type 0} (lent pages : List (Page T)) → lent ≡ pages → length lent ≡ length pages
+many lent pages same = ap length same
+
+listed : {T : Type 0} (lent pages : List (Page T)) (before after : List Extent) → lent ≡ pages → after ≡ before ++ placed_extents lent → after ≡ before ++ placed_extents pages
+listed lent pages before after same is = is ∙ ap (λ p. before ++ placed_extents p) same
+
 pub list_placed-requires : goal.list_placed-requires
 list_placed-requires c = omega (
   arith,
   c.requires.room,
+  many _ _ c.as_pages.ensures.value,
   places_length record_format _ _ c.args.lists.now.catalogue _ c.in_ok-place_touched.ensures.ok.places,
 )
 
@@ -60,17 +68,21 @@ list_placed-requires-2 c = omega (
   c.requires.room,
   c.list_placed.ensures.len,
   c.list_placed.ensures.capacity,
+  many _ _ c.as_pages.ensures.value,
+  many _ _ c.as_pages-2.ensures.value,
   places_length record_format _ _ c.args.lists.now.catalogue _ c.in_ok-place_touched.ensures.ok.places,
   places_length change_format _ _ c.args.lists.now.history.pages _ c.in_ok-place_touched-2.ensures.ok.places,
 )
 
 pub unwrap-requires : goal.unwrap-requires
 unwrap-requires c =
-    let many = places_length record_format _ _ c.args.lists.now.catalogue _ c.in_ok-place_touched.ensures.ok.places in
-    let many_changes = places_length change_format _ _ c.args.lists.now.history.pages _ c.in_ok-place_touched-2.ensures.ok.places in
+    let more = places_length record_format _ _ c.args.lists.now.catalogue _ c.in_ok-place_touched.ensures.ok.places in
+    let more_changes = places_length change_format _ _ c.args.lists.now.history.pages _ c.in_ok-place_touched-2.ensures.ok.places in
     let first = c.list_placed.ensures in
     let second = c.list_placed-2.ensures in
-    c.push.ensures.succeeds (omega (arith, c.requires.room, first.len, first.capacity, second.len, second.capacity, many, many_changes))
+    let lent = many _ _ c.as_pages.ensures.value in
+    let lent_changes = many _ _ c.as_pages-2.ensures.value in
+    c.push.ensures.succeeds (omega (arith, c.requires.room, first.len, first.capacity, second.len, second.capacity, more, more_changes, lent, lent_changes))
 
 -- the pages of both lists are taken, and behind them a directory
 both : (before mid after : List Extent) (a b : List Extent) → mid ≡ before ++ a → after ≡ mid ++ b → after ≡ before ++ (a ++ b)
@@ -81,7 +93,7 @@ returns-in_default-clause-taken c =
     let a : List Extent = placed_extents c.place_touched.new.self in
     let b : List Extent = placed_extents c.place_touched-2.new.self.pages in (
       a ++ b,
-      both c.args.taken.now.items _ _ a b c.list_placed.ensures.items c.list_placed-2.ensures.items,
+      both c.args.taken.now.items _ _ a b (listed _ _ _ _ c.as_pages.ensures.value c.list_placed.ensures.items) (listed _ _ _ _ c.as_pages-2.ensures.value c.list_placed-2.ensures.items),
       subst (λ (u : List Bool). AreTaken c.args.used.now u (a ++ b)) (sym c.in_default.ensures.none)
           (taken_both c.args.used.now _ _ a b (c.in_ok-place_touched.ensures.ok.taken c.requires.unplaced.catalogue) (c.in_ok-place_touched-2.ensures.ok.taken c.requires.unplaced.history)),
       tt,
@@ -94,7 +106,8 @@ returns-clause-taken c =
     let d : List Extent = c.in-Some.directory ∷ [] in
     let before = c.list_placed-2.new.extents.items in (
       (a ++ b) ++ d,
-      both c.args.taken.now.items before _ (a ++ b) d (both c.args.taken.now.items _ before a b c.list_placed.ensures.items c.list_placed-2.ensures.items)
+      both c.args.taken.now.items before _ (a ++ b) d (both c.args.taken.now.items _ before a b (listed _ _ _ _ c.as_pages.ensures.value c.list_placed.ensures.items)
+          (listed _ _ _ _ c.as_pages-2.ensures.value c.list_placed-2.ensures.items))
           (pushed c.push.result (before ++ d) before c.push.new.self.items (ap is_ok c.unwrap.ensures) c.push.ensures.items),
       taken_both c.args.used.now _ _ (a ++ b) d
           (taken_both c.args.used.now _ _ a b (c.in_ok-place_touched.ensures.ok.taken c.requires.unplaced.catalogue) (c.in_ok-place_touched-2.ensures.ok.taken c.requires.unplaced.history))
