@@ -12,7 +12,7 @@ use Rattle.rs_model.specs.Walk.{state_at, commands_of, recorded, count_at, catal
 use Rattle.rs_model.specs.WalkLaws.{WalksAreFolds, WalksStayLawful}
 use Rattle.rs_lists.specs.declared.doc.Doc.TheVariants.{ResourcePart}
 use Rattle.rs_caps.specs.Paths.{doc_of}
-use Rattle.rs_caps.specs.Readings.{Listed}
+use Rattle.rs_caps.specs.Readings.{ListedResource}
 use Rattle.rs_caps.specs.Answer.{answer, listed_of}
 use Rattle.rs_caps.specs.Gather.{listed_entry}
 use Rattle.rs_caps.specs.Destination.{Mirrors, DestinationMirrors, MirrorWasHeld, FetchedListedPartsStay, FetchedClosedPartsStay}
@@ -28,7 +28,7 @@ destination_mirrors laws base limit moment events when done last l all f =
     let j : ℕ = when (codes "/changelist.xml") in
     let r : Source = state_at s events i in
     let h : Source = state_at s events j in
-    let listed : List Listed = map listed_of (map record_of r.listed) in
+    let listed : List ListedResource = map listed_of (map record_of r.listed) in
     let resources = resources_fetched laws s events when done l all f.resources in
     let c : AreKeptChanges s events when last = changes_fetched laws base limit moment events when last l all f.changes in
     let changes : List Change = drop (h.first * limit) (take c.n (recorded s events)) in

@@ -11,7 +11,7 @@ use Rattle.rs_record.specs.declared.record.Record.{Record}
 use Rattle.rs_record.specs.declared.change.Change.{Change}
 use Rattle.rs_lists.specs.Text.{joined, xml_line, open_line, close_line, up_line, link_line, resource_line, change_line, resource_md, change_md}
 use Rattle.rs_caps.specs.Cut.{◌>>=◌, ◌or_else◌}
-use Rattle.rs_caps.specs.Readings.{Listed, Document}
+use Rattle.rs_caps.specs.Readings.{ListedResource, Document}
 use Rattle.rs_caps.specs.Readings.Document.{ResourceList, ChangeList}
 use Rattle.rs_caps.specs.ReadLines.{read_resource, read_change, read_resource_md, read_change_md}
 use Rattle.rs_caps.specs.Reads.{reads, read_list, read_index, next_line, after_line, after_index, read_children, read_resource_list, read_change_list, read_resource_index, read_change_index}
@@ -93,7 +93,7 @@ resources_read base at records m h =
     ap (λ (o : Option ℕ). paired (map (resource_line base) records ++ close_line (codes "urlset") ∷ []) o
     >>= λ at. read_children (read_resource base) (codes "</urlset>") at.1 >>= λ children. Some (ResourceList at.0 children))
     (resource_md_read at m)
-    ∙ ap (λ (o : Option (List Listed)). o >>= λ children. Some (ResourceList at children))
+    ∙ ap (λ (o : Option (List ListedResource)). o >>= λ children. Some (ResourceList at children))
     (read_children-map (read_resource base) (resource_line base) listed_of (codes "</urlset>") records h)
 
 pub changes_read : (base : List ℕ) (start : ℕ) (until : Option ℕ) (changes : List Change) → IsMoment start → IsEnd until

@@ -24,7 +24,7 @@ use Rattle.rs_caps.specs.Paths.{path_of, doc_of, HasCounts}
 use Rattle.rs_model.specs.Listed.{record_of}
 use Rattle.rs_caps.specs.Shows.{shown_of}
 use Rattle.rs_caps.specs.DocumentTexts.{document_text}
-use Rattle.rs_caps.specs.Readings.{Listed, Document}
+use Rattle.rs_caps.specs.Readings.{ListedResource, Document}
 use Rattle.rs_caps.specs.Readings.Document.{ResourceList, ChangeList, ResourceListIndex, ChangeListIndex}
 use Rattle.rs_caps.specs.Reads.{reads}
 use Rattle.rs_caps.specs.Answer.{answer, document_or_body, listed_of, resource_entry_of, change_entry_of, change_part_of, resource_head_of, change_head_of, reading_of}
@@ -113,7 +113,7 @@ resources_from_parts chunks v fetched false l each =
     let numbers : List ℕ = numbers_from 0 (resource_parts_of v) in
     let low : 2 ≤ v.limit = l.low in
     ap (λ paths. parts_at resources_in fetched paths >>= λ children. Some (v.at, children)) (map-map (λ p. p.path) (resource_entry_of v) numbers)
-    ∙ ap (λ (o : Option (List Listed)). o >>= λ children. Some (v.at, children))
+    ∙ ap (λ (o : Option (List ListedResource)). o >>= λ children. Some (v.at, children))
     (all_gathered listed_of resources_in fetched (resource_part_path v.number) v.limit v.published (chunks v.limit v.published (omega arith))
     (each refl))
 
@@ -243,7 +243,7 @@ same_entries (e ∷ m) = ap (λ l. e ∷ l) (same_entries m)
 pub same_pair : {A : Type 0} (a b : ℕ × A) → Some a ≡ Some b → (a.0 ≡ b.0) × (a.1 ≡ b.1)
 same_pair a b h = let same : a ≡ b = cc in (ap (λ p. p.0) same, ap (λ p. p.1) same)
 
-pub lists_mirror : PartsAreChunks Record → PartsAreChunks Change → (s : Source) → IsRegular s → IsLawful s → (at start : ℕ) (listed : List Listed) (changes : List Change)
+pub lists_mirror : PartsAreChunks Record → PartsAreChunks Change → (s : Source) → IsRegular s → IsLawful s → (at start : ℕ) (listed : List ListedResource) (changes : List Change)
     → gather_resources (answer s) ≡ Some (at, listed) → gather_changes (answer s) ≡ Some (start, changes)
     → mirror_of (map listed_entry listed) at changes ≡ entries s.held
 lists_mirror listed_chunks change_chunks s r l at start listed changes h g =

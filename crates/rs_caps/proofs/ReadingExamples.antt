@@ -22,7 +22,7 @@ use Rattle.rs_lists.specs.Text.{list_text}
 use Rattle.rs_caps.specs.Cut.{◌>>=◌, strip, cut, lines_of, characters, unescape, read_number}
 use Rattle.rs_caps.specs.Paths.{doc_of, read_count, last_part, resource_part, change_part}
 use Rattle.rs_caps.specs.DocumentTexts.{document_text}
-use Rattle.rs_caps.specs.Readings.{Listed, ResourceEntry, ChangeEntry, Document}
+use Rattle.rs_caps.specs.Readings.{ListedResource, ResourceEntry, ChangeEntry, Document}
 use Rattle.rs_caps.specs.Readings.Document.{ResourceList, ChangeList, ResourceListIndex, ChangeListIndex}
 use Rattle.rs_caps.specs.ReadLines.{read_facts, read_resource, read_bound, read_deleted, read_end, read_resource_entry, read_change_entry, before_end, read_up, read_resource_md, read_change_md}
 use Rattle.rs_caps.specs.Reads.{reads, read_list, read_index, read_children, read_resource_list, read_change_list, read_resource_index, read_change_index}
@@ -76,7 +76,7 @@ undropped =
       changes = put_of (codes "a") 1 ∷ put_of (codes "b") 2 ∷ put_of (codes "c") 4 ∷ put_of (codes "d") 6 ∷ put_of (codes "e") 8 ∷ [];
     }
 
-abbrev at_moment : List ℕ → ℕ → Listed
+abbrev at_moment : List ℕ → ℕ → ListedResource
 at_moment name t = record { name = name; facts = no_bytes; moment = t }
 
 abbrev of_moment : List ℕ → ℕ → ResourceEntry

@@ -12,7 +12,7 @@ use Rattle.rs_caps.specs.Cut.{◌>>=◌, strip}
 use Rattle.rs_caps.specs.Paths.{doc_of}
 use Rattle.rs_caps.specs.Shows.{shown_of}
 use Rattle.rs_caps.specs.DocumentTexts.{document_text}
-use Rattle.rs_caps.specs.Readings.{Listed, ResourceEntry, ChangeEntry, Document}
+use Rattle.rs_caps.specs.Readings.{ListedResource, ResourceEntry, ChangeEntry, Document}
 use Rattle.rs_caps.specs.Readings.Document.{ResourceList, ChangeList, ResourceListIndex, ChangeListIndex}
 
 -- the bytes of the resource that has this path, where it is held
@@ -29,7 +29,7 @@ abbrev pub answer : Source → List ℕ → Option (List ℕ)
 answer s path = document_or_body s path (doc_of path)
 
 -- a record of a publication, as a list has it
-abbrev pub listed_of : Record → Listed
+abbrev pub listed_of : Record → ListedResource
 listed_of r = record { name = r.name; facts = facts_in r; moment = r.moment }
 
 -- part k of the Resource List, as its index has it

@@ -11,7 +11,7 @@ use Rattle.rs_model.specs.Lawful.{IsLawful}
 use Rattle.rs_model.specs.Walk.{state_at, IsLawfulEvent, count_at, catalogue, IsPassed}
 use Rattle.rs_lists.specs.declared.doc.Doc.TheVariants.{ResourcePart, ChangePart}
 use Rattle.rs_caps.specs.Paths.{doc_of}
-use Rattle.rs_caps.specs.Readings.{Listed, Document}
+use Rattle.rs_caps.specs.Readings.{ListedResource, Document}
 use Rattle.rs_caps.specs.Readings.Document.{ResourceList, ChangeList, ResourceListIndex, ChangeListIndex}
 use Rattle.rs_caps.specs.Reads.{reads}
 use Rattle.rs_caps.specs.Answer.{answer}
@@ -44,7 +44,7 @@ pub record IsFetched (s : Source) (events : List Event) (when : List ℕ → ℕ
 -- List. (It may be before it where publications between the two fetches drop changes.)
 abbrev pub HaveNoGap : Source → List Event → (List ℕ → ℕ) → Type 0
 HaveNoGap s events when =
-    (at start : ℕ) (listed : List Listed) (changes : List Change)
+    (at start : ℕ) (listed : List ListedResource) (changes : List Change)
     → gather_resources (fetched_at s events when) ≡ Some (at, listed)
     → gather_changes (fetched_at s events when) ≡ Some (start, changes) → start ≤ at
 
@@ -60,7 +60,7 @@ pub record IsFollowed (s : Source) (events : List Event) (when : List ℕ → �
 -- the Change List's head was fetched, and at most those when the last of its documents was.
 pub record Mirrors (s : Source) (events : List Event) (when : List ℕ → ℕ) (last : ℕ) : Type 0 where
   pub at : ℕ
-  pub listed : List Listed
+  pub listed : List ListedResource
   pub start : ℕ
   pub changes : List Change
   pub n : ℕ
@@ -92,7 +92,7 @@ pub record WasHeld (s : Source) (events : List Event) (when : List ℕ → ℕ) 
 abbrev pub MirrorWasHeld : Type 0
 MirrorWasHeld =
     (base : List ℕ) (limit moment : ℕ) (events : List Event) (when : List ℕ → ℕ) (done last : ℕ)
-    (at start : ℕ) (listed : List Listed) (changes : List Change)
+    (at start : ℕ) (listed : List ListedResource) (changes : List Change)
     → let s = start_of base limit moment in
     IsLawful s → AllByRecursion IsLawfulEvent events → IsFollowed s events when done last
     → gather_resources (fetched_at s events when) ≡ Some (at, listed)

@@ -9,7 +9,7 @@ use Rattle.rs_record.specs.Changes.{bound, deleted}
 use Rattle.rs_lists.specs.declared.doc.Doc.{Doc}
 use Rattle.rs_caps.specs.Cut.{◌>>=◌, ◌or_else◌, whole, strip, value_after, ending, unescape, read_number}
 use Rattle.rs_caps.specs.Paths.{doc_of}
-use Rattle.rs_caps.specs.Readings.{Listed, ResourceEntry, ChangeEntry}
+use Rattle.rs_caps.specs.Readings.{ListedResource, ResourceEntry, ChangeEntry}
 
 -- the name of the resource that has this URI, below the base
 abbrev pub read_name : List ℕ → List ℕ → Option (List ℕ)
@@ -25,7 +25,7 @@ read_facts text = do
   Some (record { kind = kind.0; length = length.0; digests = digests.0 }, rest)
 
 -- a resource of a Resource List
-unfoldable pub read_resource : List ℕ → List ℕ → Option Listed
+unfoldable pub read_resource : List ℕ → List ℕ → Option ListedResource
 read_resource base text = do
   name ← value_after (codes "<url><loc>") 60 (read_name base) text
   moment ← value_after (codes "</loc><lastmod>") 60 read_moment name.1

@@ -4,7 +4,7 @@ use Rattle.rs_record.specs.declared.facts.Facts.{Facts}
 use Rattle.rs_record.specs.declared.change.Change.{Change}
 
 -- a resource of a Resource List
-pub record Listed : Type 0 where
+pub record ListedResource : Type 0 where
   pub name : List ℕ
   pub facts : Facts
   pub moment : ℕ
@@ -22,7 +22,7 @@ pub record ChangeEntry : Type 0 where
 
 -- a list or an index: what its `rs:md` says, and its children in order
 pub data Document : Type 0 where
-  ResourceList : (at : ℕ) → (children : List Listed) → Document
+  ResourceList : (at : ℕ) → (children : List ListedResource) → Document
   ChangeList : (start : ℕ) → (until : Option ℕ) → (children : List Change) → Document
   ResourceListIndex : (at : ℕ) → (parts : List ResourceEntry) → Document
   ChangeListIndex : (start : ℕ) → (until : Option ℕ) → (parts : List ChangeEntry) → Document

@@ -14,7 +14,7 @@ use Rattle.rs_lists.specs.Text.{list_text, from_of}
 use Rattle.rs_caps.specs.Paths.{doc_of}
 use Rattle.rs_model.specs.Listed.{record_of, entry_of as entry_of_record}
 use Rattle.rs_caps.specs.Shows.{shown_of}
-use Rattle.rs_caps.specs.Readings.{Listed}
+use Rattle.rs_caps.specs.Readings.{ListedResource}
 use Rattle.rs_caps.specs.Readings.Document.{ChangeList}
 use Rattle.rs_caps.specs.Reads.{reads}
 use Rattle.rs_caps.specs.Answer.{answer, listed_of, reading_of}
@@ -44,7 +44,7 @@ ChangesAreGathered s = gather_changes (answer s) ≡ Some (s.begin, s.changes)
 -- The one mirrored with the other is what is held.
 abbrev pub ListsMirror : Source → Type 0
 ListsMirror s =
-    (at start : ℕ) (listed : List Listed) (changes : List Change)
+    (at start : ℕ) (listed : List ListedResource) (changes : List Change)
     → gather_resources (answer s) ≡ Some (at, listed) → gather_changes (answer s) ≡ Some (start, changes)
     → mirror_of (map listed_entry listed) at changes ≡ entries s.held
 

@@ -6,6 +6,7 @@ pub mod TurnsJoined
 pub mod Counts
 pub mod Sessions
 pub mod Missing
+pub mod GoingOn
 pub mod Acknowledged
 pub mod Prefixes
 pub mod Replies

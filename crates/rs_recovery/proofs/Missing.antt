@@ -13,7 +13,7 @@ use Rattle.rs_store.specs.declared.refusal.Refusal.{Refusal}
 use Rattle.rs_store.specs.declared.refusal.Refusal.TheVariants.{Device}
 use Rattle.rs_store.specs.declared.running.Ack.{Ack}
 use Rattle.rs_store.specs.Refusals.{named_as}
-use Rattle.rs_store.specs.Runs.{Condition, Holding, InDoubt, StandsIn, IsBeyondModel, condition_after, condition_behind, AreAnswered}
+use Rattle.rs_store.specs.Runs.{Condition, Holding, InDoubt, MayStandFor, IsBeyondModel, condition_after, condition_behind, AreAnswered}
 use Rattle.rs_recovery.specs.Sessions.{AnswersMayBeMissing}
 use Rattle.rs_recovery.proofs.Below.{Commands, Acks, weaker}
 use Rattle.rs_recovery.proofs.FromBelow.{exit_images, goes_on, started}
@@ -25,7 +25,7 @@ may_fail (Some r) is = absurd cc
 
 -- within a command each image is of the source before it, or after it if it is accepted
 within_doubt : (s : Source) (c : Command × ℕ) (reply : Result Reply Refusal) (image : List ℕ)
-    → StandsFor image s ⊎ StandsIn (condition_after (Holding s) c reply) image → StandsIn (InDoubt s (state_after s (step s c.0 c.1))) image
+    → StandsFor image s ⊎ MayStandFor (condition_after (Holding s) c reply) image → MayStandFor (InDoubt s (state_after s (step s c.0 c.1))) image
 within_doubt s c reply image (inl stands) = inl stands
 within_doubt s c (Ok reply) image (inr stands) = inr stands
 within_doubt s c (Err Device) image (inr stands) = stands
@@ -33,19 +33,19 @@ within_doubt s c (Err refusal) image (inr stands) = inl stands
 
 -- behind a command each image is one that a doubt allows
 behind_doubt : (s : Source) (c : Command × ℕ) (reply : Result Reply Refusal) (image : List ℕ)
-    → StandsIn (condition_after (Holding s) c reply) image → StandsIn (InDoubt s (state_after s (step s c.0 c.1))) image
+    → MayStandFor (condition_after (Holding s) c reply) image → MayStandFor (InDoubt s (state_after s (step s c.0 c.1))) image
 behind_doubt s c reply image stands = within_doubt s c reply image (inr stands)
 
 -- the last command, without its answer
 last_missing : (t : Source) (c : Command × ℕ) (a : Ack) (old last : DiskState) → refusal_of t c.0 c.1 ≡ None → AreAnswered old (Holding t) (c ∷ []) (a ∷ []) last
     → AreAnswered old (Holding t) (c ∷ []) (record { reply = Err Device; at_call = last.calls } ∷ []) last
 last_missing t c a old last none all =
-    let Doubt : List ℕ → Type 0 = StandsIn (InDoubt t (state_after t (step t c.0 c.1))) in
+    let Doubt : List ℕ → Type 0 = MayStandFor (InDoubt t (state_after t (step t c.0 c.1))) in
     let mid : DiskState = all.0 in
     let ready : DiskState = all.1.ready in
     let within : Leaves ready mid (λ _. Doubt) =
-    weaker ready mid (λ _ image. StandsFor image t ⊎ StandsIn (condition_after (Holding t) c a.reply) image) (λ _. Doubt) (λ m image is. within_doubt t c a.reply image is) all.1.within in
-    let behind : Leaves mid last (λ _. Doubt) = weaker mid last (λ _. StandsIn (condition_after (Holding t) c a.reply)) (λ _. Doubt) (λ m image is. behind_doubt t c a.reply image is) all.2 in
+    weaker ready mid (λ _ image. StandsFor image t ⊎ MayStandFor (condition_after (Holding t) c a.reply) image) (λ _. Doubt) (λ m image is. within_doubt t c a.reply image is) all.1.within in
+    let behind : Leaves mid last (λ _. Doubt) = weaker mid last (λ _. MayStandFor (condition_after (Holding t) c a.reply)) (λ _. Doubt) (λ m image is. behind_doubt t c a.reply image is) all.2 in
     let whole : Leaves ready last (λ _. Doubt) = goes_on ready mid last (λ _. Doubt) within behind in (
       last,
       record {

@@ -28,7 +28,7 @@ use Rattle.rs_lists.specs.Text.{list_text}
 use Rattle.rs_caps.specs.Cut.{◌>>=◌, strip, cut, lines_of, characters, read_number}
 use Rattle.rs_caps.specs.Paths.{doc_of, read_count, last_part, resource_part, change_part}
 use Rattle.rs_caps.specs.DocumentTexts.{document_text}
-use Rattle.rs_caps.specs.Readings.{ChangeEntry, Document, Listed}
+use Rattle.rs_caps.specs.Readings.{ChangeEntry, Document, ListedResource}
 use Rattle.rs_caps.specs.Readings.Document.{ResourceList, ChangeListIndex}
 use Rattle.rs_caps.specs.ReadLines.{read_facts, read_resource, read_bound, read_deleted, read_end, read_resource_entry, read_change_entry, before_end, read_up, read_resource_md, read_change_md}
 use Rattle.rs_caps.specs.Reads.{reads, read_list, read_index, read_children, read_resource_list, read_change_list, read_resource_index, read_change_index}
@@ -160,7 +160,7 @@ both d e f g image other = record {
 abbrev no_bytes : Facts
 no_bytes = facts_of (codes "text/plain") []
 
-abbrev listed : List Listed
+abbrev listed : List ListedResource
 listed = record { name = codes "a"; facts = no_bytes; moment = 1 } ∷ []
 
 abbrev changes : List Change

@@ -16,7 +16,7 @@ use Rattle.rs_store.specs.declared.refusal.Refusal.TheVariants.{Device}
 use Rattle.rs_store.specs.declared.running.Ack.{Ack}
 use Rattle.rs_store.specs.Counted.{is_accepted, is_in_doubt, answered, counted_commands, acknowledged}
 use Rattle.rs_store.specs.Laws.{AnswersLeavePrefixes}
-use Rattle.rs_store.specs.Runs.{StandsForPrefix, Holding, InDoubt, condition_after, condition_behind}
+use Rattle.rs_store.specs.Runs.{StandsForPrefix, Holding, condition_after, condition_behind}
 use Rattle.rs_recovery.specs.Sessions.{Session, all_asked, all_ended, asked, ended, counted, IsStopped, AreSessions, commands_left, AreLeft, OneStanding, OpeningsStopToo}
 use Rattle.rs_recovery.specs.Served.{Asking, CouldServe, HasServed, IsNoLater, IsPrefixOf, CommandsStand, SessionsStand}
 use Rattle.rs_recovery.specs.Recovered.{YieldsHeld}

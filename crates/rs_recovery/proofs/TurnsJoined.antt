@@ -21,22 +21,22 @@ use Rattle.rs_store.specs.Laws.{HeldStands}
 use Rattle.rs_recovery.proofs.Below.{weaker}
 use Rattle.rs_recovery.specs.Turns.{ReadingsIdle, CutPutsIdle}
 
-module _ {D : Type 0} (device : D → DiskState) (images_stand : HeldStands device) where
-  -- a source that was only read holds what it held
-  holds_on : (old new : Stored D) → OnlyReads device old new → (s : Source) → Holds device old s → Holds device new s
-  holds_on old new reads s holds = record {
-    is_open = reads.is_closed ∙ holds.is_open;
-    ready = subst (λ (x : Standing). IsReady x (device new.disk).now) (sym reads.slots) (subst (λ (m : Medium). IsReady old.slots m) (sym reads.rests.now) holds.ready);
-    tells = λ image is.
-        let here : IsImage (device old.disk).now image = subst (λ (m : Medium). IsImage m image) reads.rests.now is in
-        subst (λ (x : Standing). Tells x.root new.contents image s) (sym reads.slots) (subst (λ (x : Contents). Tells old.slots.root x image s) (sym reads.contents) (holds.tells image here));
-  }
+-- a source that was only read holds what it held
+pub holds_on : {D : Type 0} (device : D → DiskState) (old new : Stored D) → OnlyReads device old new → (s : Source) → Holds device old s → Holds device new s
+holds_on device old new reads s holds = record {
+  is_open = reads.is_closed ∙ holds.is_open;
+  ready = subst (λ (x : Standing). IsReady x (device new.disk).now) (sym reads.slots) (subst (λ (m : Medium). IsReady old.slots m) (sym reads.rests.now) holds.ready);
+  tells = λ image is.
+      let here : IsImage (device old.disk).now image = subst (λ (m : Medium). IsImage m image) reads.rests.now is in
+      subst (λ (x : Standing). Tells x.root new.contents image s) (sym reads.slots) (subst (λ (x : Contents). Tells old.slots.root x image s) (sym reads.contents) (holds.tells image here));
+}
 
+module _ {D : Type 0} (device : D → DiskState) (images_stand : HeldStands device) where
   pub readings_idle : ReadingsIdle device
   readings_idle old new reads = record {
     is_closed = reads.is_closed;
     holds = λ s holds. (
-      holds_on old new reads s holds,
+      holds_on device old new reads s holds,
       weaker (device old.disk) (device new.disk) (λ _. IsImage (device old.disk).now) (λ _ image. StandsFor image s) (λ m image is. images_stand old s holds image is) reads.rests.leaves,
     );
     rests = λ _. reads.rests;

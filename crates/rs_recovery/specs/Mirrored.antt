@@ -9,7 +9,7 @@ use Rattle.rs_model.specs.declared.command.Command.{Command}
 use Rattle.rs_caps.specs.Answer.{answer}
 use Rattle.rs_caps.specs.Destination.{part_paths}
 use Rattle.rs_caps.specs.Gather.{gather_resources, gather_changes, listed_entry}
-use Rattle.rs_caps.specs.Readings.{Listed, Document}
+use Rattle.rs_caps.specs.Readings.{ListedResource, Document}
 use Rattle.rs_caps.specs.Reads.{reads}
 use Rattle.rs_recovery.specs.Sessions.{Session, asked, AreSessions, commands_left}
 use Rattle.rs_recovery.specs.Served.{Asking, HasServed, IsNoLater, IsPrefixOf, CommandsStand}
@@ -53,7 +53,7 @@ OfParts asking head IsPart =
 -- List.
 abbrev pub HaveNoGap : (List ℕ → Asking) → Type 0
 HaveNoGap asking =
-    (at from : ℕ) (listed : List Listed) (changes : List Change)
+    (at from : ℕ) (listed : List ListedResource) (changes : List Change)
     → gather_resources (answered_by asking) ≡ Some (at, listed)
     → gather_changes (answered_by asking) ≡ Some (from, changes) → from ≤ at
 
@@ -84,7 +84,7 @@ AreOfNext start commands whole made =
 -- the next command is a group, it may be what was held followed by the group's first changes (`made`).
 pub record IsMirrored (start : Source) (sessions : List Session) (standing : List ℕ) (both : Asked start sessions standing) : Type 0 where
   pub at : ℕ
-  pub listed : List Listed
+  pub listed : List ListedResource
   pub from : ℕ
   pub changes : List Change
   pub commands : List (Command × ℕ)

@@ -1,7 +1,8 @@
 -- What an opening recovers after a stop.
-use Rattle.std.specs.Prelude.{◌≡◌, ℕ, ◌≤◌, List, ◌∷◌, take, Result, Ok, Err, IsTrue}
+use Rattle.std.specs.Prelude.{◌≡◌, ℕ, ◌≤◌, List, ◌∷◌, take, Result, Ok, Err, All, IsTrue}
 use Rattle.std.specs.List.{AllByRecursion}
 use Rattle.rs_disk.specs.Medium.{DiskState}
+use Rattle.rs_record.specs.Name.{is_name}
 use Rattle.rs_model.specs.State.{Source, start_of, facts_of, entries}
 use Rattle.rs_model.specs.Step.{fold_of, mirror_of}
 use Rattle.rs_model.specs.Regular.{IsRegular, IsTimely}
@@ -49,6 +50,10 @@ GivesBackRun device disk result = (s : Source) (commands : List (Command × ℕ)
 pub record YieldsHeld (s : Source) : Type 0 where
   pub mirrored : mirror_of s.listed s.at s.changes ≡ entries s.held
   pub facts : AllByRecursion (λ held. held.1.entry.facts ≡ facts_of held.1.entry.facts.kind held.1.bytes) s.held
+
+-- Each name that is held in the state of an image is lawful.
+abbrev pub HeldNamesAreLawful : Type 0
+HeldNamesAreLawful = (image : List ℕ) (s : Source) → StandsFor image s → All (λ held. IsTrue (is_name held.0)) s.held
 
 -- A source was opened on a disk of these bytes: it holds a state that they stand for. So it may begin a session.
 abbrev pub IsOpenedOn : {D : Type 0} → (D → DiskState) → List ℕ → Stored D → Type 0

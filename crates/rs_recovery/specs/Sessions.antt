@@ -2,14 +2,18 @@
 use Rattle.std.specs.Prelude.{◌≡◌, ℕ, ◌≤◌, List, [], ◌∷◌, ◌++◌, take, Option, Some, None, Err}
 use Rattle.rs_disk.specs.Medium.{DiskState, IsImage, IsImageAt}
 use Rattle.rs_disk.specs.Leaves.{Leaves}
+use Rattle.rs_disk.specs.Runs.{Rests}
 use Rattle.rs_model.specs.State.{Source}
 use Rattle.rs_model.specs.Step.{fold_of, refusal_of}
 use Rattle.rs_model.specs.declared.command.Command.{Command}
 use Rattle.rs_image.specs.StateOfImage.{StandsFor}
 use Rattle.rs_store.specs.declared.refusal.Refusal.TheVariants.{Device}
 use Rattle.rs_store.specs.declared.running.Ack.{Ack}
+use Rattle.rs_store.specs.Source.{Stored, Holds}
+use Rattle.rs_store.specs.OnlyReads.{OnlyReads}
 use Rattle.rs_store.specs.Counted.{counted_commands, acknowledged, begun}
-use Rattle.rs_store.specs.Runs.{Holding, condition_behind, AreAnswered}
+use Rattle.rs_store.specs.Laws.{AreNotDevice}
+use Rattle.rs_store.specs.Runs.{Condition, Holding, condition_behind, AreAnswered}
 
 -- A stop: it came before or within any disk call, after any number of calls from the first moment to the last, with any
 -- image of that moment. The call in progress is thought to its end, and the stop is put inside it.
@@ -114,3 +118,25 @@ AnswersMayBeMissing =
     → AreAnswered first (Holding s) (commands ++ c ∷ []) (acks ++ a ∷ []) last → condition_behind (Holding s) commands acks ≡ Holding t
     → refusal_of t c.0 c.1 ≡ None → IsStop first last stop image
     → IsStopped s (record { first = first; commands = commands; acks = acks; unanswered = Some c; last = last; stop = stop; image = image })
+
+-- A source that holds a state has a session of no commands from that state on, before it is asked anything.
+abbrev pub HeldSourcesBegin : {D : Type 0} → (D → DiskState) → Type 0
+HeldSourcesBegin {D} device = (source : Stored D) (s : Source) → Holds device source s
+    → AreAnswered (device source.disk) (Holding s) [] [] (device source.disk)
+
+-- A session goes on. Commands were answered from a state on, none of them Device, so that the source holds the state that the counted ones
+-- make; and then more were answered from that state on, as in another run. So all of them were answered in one session.
+abbrev pub SessionsGoOn : Type 0
+SessionsGoOn = (s : Source) (old mid new : DiskState) (first then : List (Command × ℕ)) (early late : List Ack)
+    → AreAnswered old (Holding s) first early mid → AreNotDevice early
+    → AreAnswered mid (Holding (fold_of s (counted_commands first early))) then late new
+    → AreAnswered old (Holding s) (first ++ then) (early ++ late) new
+
+-- A session lasts while its disk is only read, as by a copy, or by what comes to a closed source.
+abbrev pub SessionsLast : Type 0
+SessionsLast = (is : Condition) (old mid new : DiskState) (commands : List (Command × ℕ)) (acks : List Ack)
+    → AreAnswered old is commands acks mid → Rests mid new → AreAnswered old is commands acks new
+
+-- A source that was only read, as by a copy, holds the state that it held.
+abbrev pub ReadSourcesHold : {D : Type 0} → (D → DiskState) → Type 0
+ReadSourcesHold {D} device = (old new : Stored D) (s : Source) → OnlyReads device old new → Holds device old s → Holds device new s

@@ -18,12 +18,16 @@ ghost use Rattle.rs_recovery.specs.Sessions.{
   StopsEndSessions,
   SessionsBegin,
   SessionsFollow,
+  SessionsGoOn,
+  SessionsLast,
+  HeldSourcesBegin,
+  ReadSourcesHold,
   OneStanding,
   OpeningsStopToo,
   AnswersMayBeMissing,
 };
 ghost use Rattle.rs_recovery.specs.Served.{SessionsStand};
-ghost use Rattle.rs_recovery.specs.Recovered.{YieldsHeld};
+ghost use Rattle.rs_recovery.specs.Recovered.{YieldsHeld, HeldNamesAreLawful};
 ghost use Rattle.rs_recovery.specs.Documents.{DocumentsAreOfTheState};
 
 use rs_caps::laws::served::blocks_are_not_shown;
@@ -105,6 +109,17 @@ pub fn sessions_follow()
     ensures next { SessionsFollow }
 {}
 
+/// A source that holds a state begins a session, before it is asked anything. The session goes on from call to call. Its
+/// source answers commands, is copied or read, and answers more from the state that it still holds.
+pub fn sessions_go_on<D: Disk>()
+    ensures begins { HeldSourcesBegin D.state }
+    ensures joined { SessionsGoOn }
+    ensures lasts { SessionsLast }
+    ensures held { ReadSourcesHold D.state }
+{
+    held_sources_rest::<D>();
+}
+
 /// What the stops left determines how many commands of each session survive.
 pub fn one_standing()
     ensures { OneStanding }
@@ -128,6 +143,11 @@ pub fn documents_are_of_the_state()
 {
     blocks_are_not_shown();
 }
+
+/// Each name that is held in the state of an image is lawful.
+pub fn held_names_are_lawful()
+    ensures { HeldNamesAreLawful }
+{}
 
 /// Each state that a stop within a run of a regular source may leave is regular. What was published, followed by the
 /// changes after its moment, is what is held.

@@ -2,7 +2,7 @@
 use Rattle.std.proofs.Common.{◌≡◌, ◌⊎◌, inl, inr, ℕ, Bool, true, false, List, length, refl, sym, ◌∙◌, ap, ap₂, subst, Option, Some, None, Result, Ok, Err, if◌then◌else◌, IsTrue}
 use Rattle.rs_disk.specs.Medium.{Medium, DiskState, IsImage, IsMedium, resting}
 use Rattle.rs_disk.specs.Leaves.{Leaves}
-use Rattle.rs_disk.specs.Runs.{Advances, HasFailed, RunsWriting}
+use Rattle.rs_disk.specs.Runs.{RunsWriting}
 use Rattle.rs_store.proofs.FromBelow.{started, goes_on, weaker, writing_none, writing_as, resting_image, tells_behind}
 use Rattle.rs_body.specs.Outside.{WritesOutside}
 use Rattle.rs_commit.specs.declared.root.Root.{Root}
@@ -25,7 +25,7 @@ use Rattle.rs_store.specs.declared.refusal.Refusal.TheVariants.{Closed, Exhauste
 use Rattle.rs_store.specs.Source.{Stored, Holds, rooted_in, state_of}
 use Rattle.rs_store.specs.Refusals.{named_as, or_spent, is_spent, decided}
 use Rattle.rs_plan.specs.Room.{bodies_of_command}
-use Rattle.rs_plan.specs.Plans.{once_stored, planned_root, IsPlanned, LacksRoom, AreWritten}
+use Rattle.rs_plan.specs.Plans.{once_stored, planned_root, IsPlanned, IsFullFor, AreWritten}
 use Rattle.rs_store.specs.Writing.{of_plan}
 use Rattle.rs_store.specs.Commands.{IsCause, Leads}
 use Rattle.rs_store.specs.Answered.{moment_unless, IsUnchanged, Answers}
@@ -165,7 +165,7 @@ module _ {D : Type 0} (device : D → DiskState) (medium : (disk : D) → IsMedi
 
   -- without a plan
   unplanned : (fault : PlanFault) → decided old (state_of device old) command now ≡ None
-      → (fault ≡ NoRoom → LacksRoom (rooted_in device old) command (moment_at (state_of device old) now))
+      → (fault ≡ NoRoom → IsFullFor (rooted_in device old) command (moment_at (state_of device old) now))
       → Answers device old old command now (Err (of_plan fault))
   unplanned NoRoom is room =
       kept_answers old Full (is, room refl) (λ (same : Full ≡ Device). absurd cc) (λ _. refl) (λ q other. absurd cc) refl nothing_done at_rest no_call
@@ -177,10 +177,10 @@ module _ {D : Type 0} (device : D → DiskState) (medium : (disk : D) → IsMedi
     accepted_at : (decided old (state_of device old) command now ≡ None) × (moment ≡ moment_at (state_of device old) now)
     accepted_at = unless_ok (decided old (state_of device old) command now) (moment_at (state_of device old) now) moment found
 
-    pub not_planned : (fault : PlanFault) → (fault ≡ NoRoom → LacksRoom (rooted_in device old) command moment) → Answers device old mid command now (Err (of_plan fault))
+    pub not_planned : (fault : PlanFault) → (fault ≡ NoRoom → IsFullFor (rooted_in device old) command moment) → Answers device old mid command now (Err (of_plan fault))
     not_planned fault lacks =
         subst (λ (s : Stored D). Answers device old s command now (Err (of_plan fault))) (sym same)
-        (unplanned fault accepted_at.0 (λ full. subst (λ (m : ℕ). LacksRoom (rooted_in device old) command m) accepted_at.1 (lacks full)))
+        (unplanned fault accepted_at.0 (λ full. subst (λ (m : ℕ). IsFullFor (rooted_in device old) command m) accepted_at.1 (lacks full)))
 
     pub carried_on : (new : Stored D) (result : Result Reply Refusal) (p : Plan) → IsPlanned (rooted_in device old) command moment p
         → (decided mid (state_of device mid) command now ≡ None → IsPlanned (rooted_in device mid) command (moment_at (state_of device mid) now) p
@@ -228,25 +228,25 @@ module _ {D : Type 0} (device : D → DiskState) (medium : (disk : D) → IsMedi
         ap (λ (x : Result (Source × Reply) model.Refusal). state_after s x) (stepped s command now is)
 
     -- the device failed
-    broken : (new : Stored D) → new.is_closed ≡ true → HasFailed (device old.disk) (device new.disk)
+    broken : {A : Type 0} (new : Stored D) → new.is_closed ≡ true → A
         → ((s : Source) → Holds device old s → Leaves (device old.disk) (device new.disk) (λ _ image. StandsFor image s ⊎ StandsFor image (next s)))
-        → Advances (device old.disk) (device new.disk) → Answers device old new command now (Err Device)
+        → RunsWriting A (device old.disk) (device new.disk) → Answers device old new command now (Err Device)
     unfolding next
-    broken new closed failed leaves goes =
+    broken new closed failed leaves runs =
         record {
           decides = λ q is. absurd cc;
           untouched = λ q is. absurd cc;
           full = λ is. absurd cc;
           refused = λ q is. let here : Device ≡ q = cc in
               subst (λ (x : Refusal). IsCause device old new command now x) here
-              (free, planned_has_room (rooted_in device old) command (moment_at (state_of device old) now) p planned, failed);
+              (free, planned_has_room (rooted_in device old) command (moment_at (state_of device old) now) p planned, runs.runs.failed failed);
           accepted = tt;
           planned = tt;
           generation = tt;
           version = tt;
           leads = λ s holds. subst (λ (t : Source). Leaves (device old.disk) (device new.disk) (λ _ image. StandsFor image s ⊎ StandsFor image t))
               (sym (after_step s holds)) (leaves s holds);
-          runs = writing_as (device old.disk) (device new.disk) (λ _. refl) (λ _. failed) goes;
+          runs = writing_as (device old.disk) (device new.disk) (λ _. refl) (λ _. failed) runs;
           closed = λ shut. absurd (none_some (decided old (state_of device old) command now) Closed free (decided_closed shut));
           closes = λ _. closed;
           stays_open = λ is. absurd (is refl);
@@ -258,13 +258,13 @@ module _ {D : Type 0} (device : D → DiskState) (medium : (disk : D) → IsMedi
         weaker (device old.disk) (device mid) (λ _ image. StandsFor image s) (λ _ image. StandsFor image s ⊎ StandsFor image (t s)) (λ m image stands. inl stands)
         (stands_meanwhile old.slots old.contents s (device old.disk) (medium old.disk) holds.ready holds.tells (device mid) run)
 
-    pub broken_off : (new : Stored D) → new.disk ≡ mid → new.is_closed ≡ true → HasFailed (device old.disk) (device new.disk)
-        → Advances (device old.disk) (device new.disk) → Answers device old new command now (Err Device)
+    pub broken_off : {A : Type 0} (new : Stored D) → new.disk ≡ mid → new.is_closed ≡ true → A
+        → RunsWriting A (device old.disk) (device new.disk) → Answers device old new command now (Err Device)
     unfolding next
-    broken_off new disk closed failed goes =
+    broken_off new disk closed failed runs =
         broken new closed failed
         (λ s holds. subst (λ (d : D). Leaves (device old.disk) (device d) (λ _ image. StandsFor image s ⊎ StandsFor image (next s))) (sym disk) (early_leaves next s holds))
-        goes
+        runs
 
     -- the lists and bodies were written, before the commit
     module _ (there : AreWritten p bodies (device mid).now.seen) (lists : AreLists (once_stored p.contents)) (size : (device mid).size ≡ (device old.disk).size)
@@ -319,9 +319,9 @@ module _ {D : Type 0} (device : D → DiskState) (medium : (disk : D) → IsMedi
           (λ m image left. outcome s holds image left)
           (any (ready_after old.slots old.contents (device old.disk) (device mid) holds.ready run)))
 
-      pub not_committed : (new : Stored D) → (IsReady old.slots (device mid).now → Leaves (device mid) (device new.disk) (λ _. OldOrNew (device mid).now old.slots.root root))
-          → new.is_closed ≡ true → HasFailed (device old.disk) (device new.disk) → Advances (device old.disk) (device new.disk) → Answers device old new command now (Err Device)
-      not_committed new any closed failed goes = broken new closed failed (meanwhile new.disk any) goes
+      pub not_committed : {A : Type 0} (new : Stored D) → (IsReady old.slots (device mid).now → Leaves (device mid) (device new.disk) (λ _. OldOrNew (device mid).now old.slots.root root))
+          → new.is_closed ≡ true → A → RunsWriting A (device old.disk) (device new.disk) → Answers device old new command now (Err Device)
+      not_committed new any closed failed runs = broken new closed failed (meanwhile new.disk any) runs
 
       pub committed : (new : Stored D) (reply : Reply) (settled : List ℕ)
           → (IsReady old.slots (device mid).now → Leaves (device mid) (device new.disk) (λ _. OldOrNew (device mid).now old.slots.root root))

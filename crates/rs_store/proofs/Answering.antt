@@ -17,7 +17,7 @@ use Rattle.rs_store.specs.Refusals.{decided, named_as, is_spent, or_spent}
 use Rattle.rs_store.specs.Commands.{IsCause}
 use Rattle.rs_store.specs.Answered.{Answers}
 use Rattle.rs_store.specs.declared.running.Ack.{Ack}
-use Rattle.rs_store.specs.Runs.{InTurn, StandsForPrefix, IsBeyondModel, MayAnswer, Holding, InDoubt, StandsIn, condition_after, condition_behind, AreAnswered}
+use Rattle.rs_store.specs.Runs.{InTurn, StandsForPrefix, IsBeyondModel, MayAnswer, Holding, InDoubt, MayStandFor, condition_after, condition_behind, AreAnswered}
 use Rattle.rs_store.proofs.FromBelow.{started, weaker, exit_images}
 use Rattle.rs_store.proofs.Turns.{Commands, Acks}
 use Rattle.rs_store.proofs.Moments.{answered_leave_prefixes}
@@ -78,13 +78,13 @@ module _ {D : Type 0} (device : D → DiskState) (sound : (disk : D) → IsMediu
 
   -- a closed source changes nothing
   closed_answered : (s t : Source) (old : Stored D) (cs : Commands) (acks : Acks) (new : Stored D) → old.is_closed ≡ true
-      → ((image : List ℕ) → IsImage (device old.disk).now image → StandsIn (InDoubt s t) image) → InTurn device old cs acks new
+      → ((image : List ℕ) → IsImage (device old.disk).now image → MayStandFor (InDoubt s t) image) → InTurn device old cs acks new
       → AreAnswered (device old.disk) (InDoubt s t) cs acks (device new.disk)
-  closed_answered s t old [] [] new shut all turn = rests_in (device old.disk) (device new.disk) (StandsIn (InDoubt s t)) (turn.rests shut) all
+  closed_answered s t old [] [] new shut all turn = rests_in (device old.disk) (device new.disk) (MayStandFor (InDoubt s t)) (turn.rests shut) all
   closed_answered s t old (c ∷ cs) (a ∷ acks) new shut all turn =
       let ready : Stored D = turn.0 in
       let mid : Stored D = turn.2 in
-      let P : List ℕ → Type 0 = StandsIn (InDoubt s t) in
+      let P : List ℕ → Type 0 = MayStandFor (InDoubt s t) in
       let idle = turn.1.rests shut in
       let still : ready.is_closed ≡ true = turn.1.is_closed ∙ shut in
       let there : (image : List ℕ) → IsImage (device ready.disk).now image → P image = λ image is. all image (subst (λ (m : Medium). IsImage m image) idle.now is) in
@@ -124,16 +124,16 @@ module _ {D : Type 0} (device : D → DiskState) (sound : (disk : D) → IsMediu
     -- what its disk sees of it
     seen_by : (reply : Result Reply Refusal) → Answers device ready mid c.0 c.1 reply
         → ((t : Source) → Holds device mid t → AreAnswered (device mid.disk) (Holding t) cs acks (device new.disk))
-        → Leaves (device ready.disk) (device mid.disk) (λ _ image. StandsFor image s ⊎ StandsIn (condition_after (Holding s) c reply) image)
+        → Leaves (device ready.disk) (device mid.disk) (λ _ image. StandsFor image s ⊎ MayStandFor (condition_after (Holding s) c reply) image)
         × AreAnswered (device mid.disk) (condition_after (Holding s) c reply) cs acks (device new.disk)
     seen_by (Ok reply) answers rest =
         let lead = answers.leads s kept in
         subst (λ (t : Source). Leaves (device ready.disk) (device mid.disk) (λ _ image. StandsFor image s ⊎ StandsFor image t) × AreAnswered (device mid.disk) (Holding t) cs acks (device new.disk))
         (sym (ap (state_after s) lead.1)) (lead.3, rest lead.0 lead.2)
     seen_by (Err Device) answers rest =
-        let within : Leaves (device ready.disk) (device mid.disk) (λ _. StandsIn (InDoubt s next)) = answers.leads s kept in (
-          weaker (device ready.disk) (device mid.disk) (λ _. StandsIn (InDoubt s next)) (λ _ image. StandsFor image s ⊎ StandsIn (InDoubt s next) image) (λ m image stands. inr stands) within,
-          closed_answered s next mid cs acks new (answers.closes refl) (exit_images (device ready.disk) (device mid.disk) (λ _. StandsIn (InDoubt s next)) within) turn.5,
+        let within : Leaves (device ready.disk) (device mid.disk) (λ _. MayStandFor (InDoubt s next)) = answers.leads s kept in (
+          weaker (device ready.disk) (device mid.disk) (λ _. MayStandFor (InDoubt s next)) (λ _ image. StandsFor image s ⊎ MayStandFor (InDoubt s next) image) (λ m image stands. inr stands) within,
+          closed_answered s next mid cs acks new (answers.closes refl) (exit_images (device ready.disk) (device mid.disk) (λ _. MayStandFor (InDoubt s next)) within) turn.5,
         )
     seen_by (Err refusal) answers rest =
         let lead = answers.leads s kept in

@@ -3,7 +3,7 @@ use Rattle.std.proofs.Common.{◌≡◌, ◌<◌, ℕ, true, false, true≢false
 use Rattle.std.specs.Prelude.{is_err, OnOk, OnErr}
 use Rattle.rs_disk.specs.Medium.{DiskState, IsMedium}
 use Rattle.rs_disk.specs.Runs.{RunsWriting}
-use Rattle.rs_store.proofs.FromBelow.{writing_none, writing_as, advances, some_first, outside_none}
+use Rattle.rs_store.proofs.FromBelow.{writing_none, writing_as, some_first, outside_none}
 use Rattle.rs_extent.specs.declared.Extent.{Extent}
 use Rattle.rs_extent.specs.Extents.{AreBeside, IsOnDisk, AreOnDisk}
 use Rattle.rs_body.specs.Blocks.{part, IsSized}
@@ -112,7 +112,7 @@ module _ {D : Type 0} (device : D → DiskState) (medium : (disk : D) → IsMedi
     broken_body failed =
         broken_off device medium start command now p (bodies_of_command command) was_whole free refl planned mid (outside planned.free)
         (record { disk = mid; slots = o.slots; contents = o.contents; is_closed = true }) refl refl
-        (went.runs.failed failed) (advances (device start.disk) (device mid) went)
+        failed went
 
     -- it stopped for another cause, as want of memory
     pub stopped_body : ¬ A

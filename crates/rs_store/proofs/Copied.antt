@@ -1,5 +1,5 @@
 -- What a source answers when it is copied, by what copying its root leaves.
-use Rattle.std.proofs.Common.{true≢false, ◌≡◌, ◌⊎◌, inl, inr, ⊎_elim, ℕ, true, false, List, [], ◌∷◌, map, refl, sym, ◌∙◌, ap, Result, Ok, Err}
+use Rattle.std.proofs.Common.{true≢false, ◌≡◌, ◌⊎◌, inl, inr, ⊎_elim, ℕ, true, false, List, [], ◌∷◌, map, refl, sym, ◌∙◌, ap, arith, Result, Ok, Err}
 use Rattle.std.specs.Prelude.{All}
 use Rattle.std.proofs.lemmas.List.Elements.{All-nil, All-cons, All-head, All-tail}
 use Rattle.rs_disk.specs.Medium.{DiskState, IsMedium}
@@ -9,15 +9,16 @@ use Rattle.rs_catalogue.specs.Catalogue.{records_of}
 use Rattle.rs_model.specs.declared.value.Held.{Held}
 use Rattle.rs_model.specs.State.{Source}
 use Rattle.rs_image.specs.StateOfImage.{Tells, held_in}
-use Rattle.rs_copy.specs.Copies.{Copies, HasItsBody}
+use Rattle.rs_copy.specs.Copies.{Copies, HasItsBody, calls_for}
 use Rattle.rs_copy.specs.declared.copying.Copied.{Copied}
 use Rattle.rs_copy.specs.declared.faults.CopyFault.{CopyFault}
 use Rattle.rs_copy.specs.declared.faults.CopyFault.TheVariants.{TooSmall, Full, Device, Damaged}
 use Rattle.rs_store.specs.declared.copying.CopyRefusal.TheVariants.{Closed, Fault}
 use Rattle.rs_store.specs.OnlyReads.{OnlyReads}
-use Rattle.rs_store.specs.Shows.{HasItsDigest}
-use Rattle.rs_store.specs.Source.{Stored, Holds, rooted_in}
+use Rattle.rs_store.specs.Shows.{HasItsDigest, calls_for_held}
+use Rattle.rs_store.specs.Source.{Stored, Holds, rooted_in, state_of}
 use Rattle.rs_store.specs.Copied.{AnswersCopy, IsCopying}
+use Rattle.rs_store.proofs.Damaged.{calls_for_records}
 
 -- the fault of a copy is not Closed, and is refused as itself
 never_closed : (fault : CopyFault) → Fault fault ≡ Closed → ⊥
@@ -63,7 +64,13 @@ module _ {D E : Type 0} (device : D → DiskState) (other : E → DiskState) (ol
     holds = λ s holds honest. tt;
     meanwhile = record {
       reads_only = record { slots = refl; contents = refl; is_closed = refl; rests = rests (device old.disk) (device old.disk) (reading_none {A = ⊥} (device old.disk) (λ none. none)) };
+      once = omega arith;
       advances = advances (other to) (other to) (writing_none {A = ⊥} (other to) (λ none. none));
+      stops = record {
+        from = (reading_none {A = ⊥} (device old.disk) (λ none. none)).stops;
+        to = (writing_none {A = ⊥} (other to) (λ none. none)).stops;
+        one = λ rose. refl;
+      };
       any_moment = λ s holds honest cut. absurd (true≢false (sym shut ∙ holds.is_open));
     };
   }
@@ -79,7 +86,11 @@ module _ {D E : Type 0} (device : D → DiskState) (other : E → DiskState) (ol
     copying : (result : Result Copied CopyFault) → Copied_so result → IsCopying device other old new to disk
     copying result made = record {
       reads_only = only;
+      once =
+          (let same : calls_for_held (state_of device old).held ≡ calls_for (records_of old.contents.catalogue) = calls_for_records (device old.disk).now.seen (records_of old.contents.catalogue) in
+          omega (arith, same, made.once));
       advances = made.advances;
+      stops = made.stops;
       any_moment = λ s holds honest cut. made.any_moment s honest (tells s holds) cut;
     }
 

@@ -2,8 +2,8 @@
 use Rattle.std.proofs.Common.{◌≡◌, ℕ, true, List, refl, sym, ◌∙◌, ap, subst, None, Ok, Err, Result}
 use Rattle.rs_disk.specs.Medium.{DiskState, IsMedium, resting}
 use Rattle.rs_disk.specs.Leaves.{Leaves}
-use Rattle.rs_disk.specs.Runs.{Advances, HasFailed, RunsWriting}
-use Rattle.rs_store.proofs.FromBelow.{writing_on, advances, advances_on, outside_on}
+use Rattle.rs_disk.specs.Runs.{RunsWriting}
+use Rattle.rs_store.proofs.FromBelow.{writing_as, writing_then, outside_on}
 use Rattle.rs_body.specs.Outside.{WritesOutside, WritesOnly}
 use Rattle.rs_commit.specs.declared.root.Root.{Root}
 use Rattle.rs_commit.specs.Slots.{Standing}
@@ -23,7 +23,6 @@ use Rattle.rs_store.specs.Source.{Stored, rooted_in, state_of}
 use Rattle.rs_store.specs.Refusals.{decided}
 use Rattle.rs_store.specs.Writing.{AreStoredLists, HasWrittenBodies}
 use Rattle.rs_store.specs.Answered.{Answers}
-use Rattle.rs_store.proofs.Opened.{failed_behind}
 use Rattle.rs_store.proofs.Answered.{stopped, broken_off, not_committed, committed}
 
 -- what the end of a command promises, for every command that has the plan and every beginning of its bodies
@@ -45,13 +44,11 @@ module _ {D : Type 0} (device : D → DiskState) (medium : (disk : D) → IsMedi
         outside_on (is_kept start.slots.root start.contents) (device start.disk) (device now.disk) (device mid) begun.outside
         (writes.outside (is_kept start.slots.root start.contents) planned.free)
 
-    all_goes : Advances (device start.disk) (device mid)
-    all_goes =
-        advances_on (device start.disk) (device now.disk) (device mid) (advances (device start.disk) (device now.disk) begun.runs)
-        (advances (device now.disk) (device mid) writes.runs)
+    all_runs : RunsWriting A (device start.disk) (device mid)
+    all_runs = writing_then (device start.disk) (device now.disk) (device mid) (λ none. none) begun.runs writes.runs
 
     all_unmet : ¬ A → RunsWriting ⊥ (device start.disk) (device mid)
-    all_unmet well = writing_on (device start.disk) (device now.disk) (device mid) (λ none. none) well (λ none. absurd none) begun.runs writes.runs
+    all_unmet well = writing_as (device start.disk) (device mid) well (λ none. absurd none) all_runs
 
     was_whole : IsWhole (device start.disk).size start.slots.root start.contents
     was_whole =
@@ -70,9 +67,8 @@ module _ {D : Type 0} (device : D → DiskState) (medium : (disk : D) → IsMedi
 
     broken_so : (new : Stored D) → new.disk ≡ mid → new.is_closed ≡ true → A → Answers device start new command moment (Err Device)
     broken_so new disk closed failed =
-        broken_off device medium start command moment p (bodies_of_command command) was_whole free refl planned mid all_outside new disk closed
-        (subst (λ (d : D). HasFailed (device start.disk) (device d)) (sym disk) (failed_behind (device start.disk) (device now.disk) (device mid) begun.runs.runs.faults (writes.runs.runs.failed failed)))
-        (subst (λ (d : D). Advances (device start.disk) (device d)) (sym disk) all_goes)
+        broken_off device medium start command moment p (bodies_of_command command) was_whole free refl planned mid all_outside new disk closed failed
+        (subst (λ (d : D). RunsWriting A (device start.disk) (device d)) (sym disk) all_runs)
 
     module _ (p' : Plan) (stored : AreStoredLists p p' (device now.disk).now.seen (device mid).now.seen) (root : Root) (root_is : root ≡ planned_root now.slots.root p)
         (new : Stored D) (any : IsReady now.slots (device mid).now → Leaves (device mid) (device new.disk) (λ _. OldOrNew (device mid).now now.slots.root root))
@@ -84,12 +80,11 @@ module _ {D : Type 0} (device : D → DiskState) (medium : (disk : D) → IsMedi
       was_next : root ≡ planned_root start.slots.root p
       was_next = root_is ∙ ap (λ (s : Standing). planned_root s.root p) begun.slots
 
-      not_committed_so : new.is_closed ≡ true → B → Answers device start new command moment (Err Device)
-      not_committed_so closed failed =
+      not_committed_so : ¬ A → new.is_closed ≡ true → B → Answers device start new command moment (Err Device)
+      not_committed_so unmet closed failed =
           not_committed device medium start command moment p (bodies_of_command command) was_whole free refl planned mid all_outside
-          (stored.reads (bodies_of_command command) planned.bodies begun.stand) stored.lists all_goes.runs.size root was_next new was_any closed
-          (failed_behind (device start.disk) (device mid) (device new.disk) all_goes.runs.faults (further.runs.failed failed))
-          (advances_on (device start.disk) (device mid) (device new.disk) all_goes (advances (device mid) (device new.disk) further))
+          (stored.reads (bodies_of_command command) planned.bodies begun.stand) stored.lists all_runs.runs.size root was_next new was_any closed
+          failed (writing_then (device start.disk) (device mid) (device new.disk) unmet all_runs further)
 
       committed_so : (reply : Reply) (settled : List ℕ) → new.slots.root ≡ root → new.contents ≡ once_stored p.contents → new.is_closed ≡ now.is_closed
           → (IsReady now.slots (device mid).now → IsReady new.slots (device new.disk).now)
@@ -98,10 +93,11 @@ module _ {D : Type 0} (device : D → DiskState) (medium : (disk : D) → IsMedi
           → Answers device start new command moment (Ok reply)
       committed_so reply settled at lists closed ready behind rests replied unmet further_unmet =
           committed device medium start command moment p (bodies_of_command command) was_whole free refl planned mid all_outside
-          (stored.reads (bodies_of_command command) planned.bodies begun.stand) stored.lists all_goes.runs.size root was_next new reply settled was_any at lists
+          (stored.reads (bodies_of_command command) planned.bodies begun.stand) stored.lists all_runs.runs.size root was_next new reply settled was_any at lists
           (closed ∙ begun.is_closed) (subst (λ (s : Standing). IsReady s (device mid).now → IsReady new.slots (device new.disk).now) begun.slots ready)
           behind rests (replied ∙ planned.reply (device start.disk).now.seen)
-          (writing_on (device start.disk) (device mid) (device new.disk) (λ none. none) further_unmet (λ none. absurd none) (all_unmet unmet) further)
+          (writing_as (device start.disk) (device new.disk) further_unmet (λ none. absurd none)
+          (writing_then (device start.disk) (device mid) (device new.disk) unmet all_runs further))
 
   -- memory ran out
   pub stopped_behind : ¬ A
@@ -116,9 +112,9 @@ module _ {D : Type 0} (device : D → DiskState) (medium : (disk : D) → IsMedi
   module _ (p' : Plan) (stored : AreStoredLists p p' (device now.disk).now.seen (device mid).now.seen) (root : Root) (root_is : root ≡ planned_root now.slots.root p)
       (new : Stored D) (any : IsReady now.slots (device mid).now → Leaves (device mid) (device new.disk) (λ _. OldOrNew (device mid).now now.slots.root root))
       (B : Type 0) (further : RunsWriting B (device mid) (device new.disk)) where
-    pub not_committed_behind : new.is_closed ≡ true → B → Promised device p new (Err Device) now
-    not_committed_behind closed failed start command moment begun free planned =
-        not_committed_so start command moment begun free planned p' stored root root_is new any B further closed failed
+    pub not_committed_behind : ¬ A → new.is_closed ≡ true → B → Promised device p new (Err Device) now
+    not_committed_behind unmet closed failed start command moment begun free planned =
+        not_committed_so start command moment begun free planned p' stored root root_is new any B further unmet closed failed
 
     pub committed_behind : (reply : Reply) (settled : List ℕ) → new.slots.root ≡ root → new.contents ≡ once_stored p.contents → new.is_closed ≡ now.is_closed
         → (IsReady now.slots (device mid).now → IsReady new.slots (device new.disk).now)

@@ -2,21 +2,19 @@
 use Rattle.std.proofs.Common.{true≢false, ◌≡◌, ◌⊎◌, inl, inr, ⊎_elim, ℕ, Bool, true, false, List, [], ◌∷◌, ◌++◌, map, filter, length, refl, sym, ◌∙◌, ap, ap₂, subst, Option, Some, None}
 use Rattle.std.specs.Prelude.{All, IfSome, is_some}
 use Rattle.std.proofs.lemmas.List.Elements.{All-nil, All-cons, All-head, All-tail, All-filter}
-use Rattle.rs_extent.specs.declared.Extent.{Extent}
 use Rattle.rs_commit.specs.declared.root.Root.{Root}
 use Rattle.rs_record.specs.declared.record.Record.{Record}
 use Rattle.rs_record.specs.declared.change.Change.{Change}
 use Rattle.rs_model.specs.State.{Source}
 use Rattle.rs_model.specs.Step.{next_state}
 use Rattle.rs_model.specs.declared.command.Command.{Command}
-use Rattle.rs_model.specs.declared.command.Command.TheVariants.{Put, Delete, Publish, Group}
 use Rattle.rs_page.specs.declared.place.PageRef.{PageRef}
 use Rattle.rs_page.specs.Format.{ItemFormat}
 use Rattle.rs_page.specs.Items.{record_format, change_format}
 use Rattle.rs_page.specs.Pages.{Page, stored_ref, stored_refs, stored, items_of}
 use Rattle.rs_page.specs.DiskPages.{IsPage, Stands}
 use Rattle.rs_page.specs.SharedPages.{IsSublist, stored_pages, KeepsPages}
-use Rattle.rs_store.proofs.FromBelow.{written_stand, pages_stand, held_catalogue, held_history}
+use Rattle.rs_store.proofs.FromBelow.{written_stand, pages_stand, held_catalogue, held_history, IsPublished, published_is}
 use Rattle.rs_catalogue.specs.Catalogue.{HoldsCatalogue}
 use Rattle.rs_image.specs.declared.contents.Contents.{Contents}
 use Rattle.rs_image.specs.Rooted.{rooted}
@@ -24,7 +22,7 @@ use Rattle.rs_image.specs.Whole.{IsWhole}
 use Rattle.rs_image.specs.StateOfImage.{Tells, state_in, held_in, AreLists}
 use Rattle.rs_plan.specs.declared.plan.Plan.{Plan}
 use Rattle.rs_plan.specs.Room.{bodies_of_command}
-use Rattle.rs_plan.specs.Plans.{AreBodies, ArePagesAfter, once_stored, planned_root, IsPlanned, AreWritten}
+use Rattle.rs_plan.specs.Plans.{AreBodies, lists_after, once_stored, planned_root, IsPlanned, AreWritten}
 
 -- A property of a list is one of each part of it, ..
 all_sub : {A : Type 0} (P : A → Type 0) (xs ys : List A) → All P ys → IsSublist xs ys → All P xs
@@ -81,16 +79,10 @@ once_state image c =
 abbrev HoldsPagesInMemory : List (Page Record) → List ℕ → Type 0
 HoldsPagesInMemory pages image = HoldsCatalogue (stored_refs pages) image (map (λ page. page.items) pages)
 
-held_published : (command : Command) (moment : ℕ) (bodies : List Extent) (old c : Contents) (image : List ℕ) → ArePagesAfter old command moment bodies c
-    → HoldsPagesInMemory old.catalogue image → HoldsPagesInMemory old.published image → HoldsPagesInMemory c.published image
-held_published (Put name kind bytes) moment bodies old c image after catalogue published =
-    subst (λ (l : List (Page Record)). HoldsPagesInMemory l image) (sym after.2) published
-held_published (Delete name) moment bodies old c image after catalogue published =
-    subst (λ (l : List (Page Record)). HoldsPagesInMemory l image) (sym after.2) published
-held_published (Group items) moment bodies old c image after catalogue published =
-    subst (λ (l : List (Page Record)). HoldsPagesInMemory l image) (sym after.2) published
-held_published Publish moment bodies old c image after catalogue published =
-    subst (λ (l : List (Page Record)). HoldsPagesInMemory l image) (sym after.2) catalogue
+held_published : (old c : Contents) (image : List ℕ) → IsPublished old c → HoldsPagesInMemory old.catalogue image → HoldsPagesInMemory old.published image
+    → HoldsPagesInMemory c.published image
+held_published old c image (inl same) catalogue published = subst (λ (l : List (Page Record)). HoldsPagesInMemory l image) (sym same) published
+held_published old c image (inr listed) catalogue published = subst (λ (l : List (Page Record)). HoldsPagesInMemory l image) (sym listed.0) catalogue
 
 -- The state of the lists is the next one, where the bodies stand.
 pub state_follows : (size : ℕ) (root : Root) (old : Contents) (command : Command) (moment : ℕ) (p : Plan) (bodies : List (List ℕ)) (image : List ℕ)
@@ -117,7 +109,8 @@ tells_next size root old command moment p bodies image s planned are there lists
           (written_stand record_format c.catalogue image (kept_stand record_format old.catalogue c.catalogue image planned.next.catalogue records) there.catalogue);
       history = held_history (stored change_format c.history.pages) image lists.history planned.whole.history
           (written_stand change_format c.history.pages image (kept_stand change_format old.history.pages c.history.pages image planned.next.history changes) there.history);
-      published = held_published command moment p.bodies.items old c image planned.next.pages told.catalogue told.published;
+      published = subst (λ (l : List (Page Record)). HoldsPagesInMemory l image) (sym planned.in_turn.placed.lists.published)
+          (held_published old (lists_after old command moment p.bodies.items) image (published_is old command moment p.bodies.items) told.catalogue told.published);
       whole = subst (λ (n : ℕ). IsWhole n (planned_root root p) (once_stored c)) (sym long) planned.whole;
       state = state_follows size root old command moment p bodies image planned are there ∙ ap (λ (t : Source). next_state t command moment) told.state;
     }

@@ -16,7 +16,7 @@ use Rattle.rs_store.specs.Commands.{Leads}
 use Rattle.rs_store.specs.Answered.{Answers}
 use Rattle.rs_store.specs.declared.running.Ack.{Ack}
 use Rattle.rs_store.specs.Counted.{is_accepted, is_device, is_in_doubt, answered, counted_commands, acknowledged, begun}
-use Rattle.rs_store.specs.Runs.{InTurn, StandsForPrefix, Condition, Holding, InDoubt, StandsIn, condition_after, AreAnswered}
+use Rattle.rs_store.specs.Runs.{InTurn, StandsForPrefix, Condition, Holding, InDoubt, MayStandFor, condition_after, AreAnswered}
 use Rattle.rs_store.specs.Laws.{AreClosed}
 use Rattle.rs_store.proofs.Turns.{Commands, Acks, one, one_at_most, and_false, not_yet, by_then, acknowledged_cons, closed_run, none_counts, none_acknowledged, closed_is_no_ok, closed_is_no_device}
 
@@ -60,10 +60,10 @@ all_closed old s t (c ∷ cs) (a ∷ acks) new all = (all.1.reply, all_closed al
 all_closed old s t cs acks new all = absurd all
 
 stays_in_doubt : (old : DiskState) (s t : Source) (cs : Commands) (acks : Acks) (new : DiskState) → AreAnswered old (InDoubt s t) cs acks new
-    → Leaves old new (λ _. StandsIn (InDoubt s t))
+    → Leaves old new (λ _. MayStandFor (InDoubt s t))
 stays_in_doubt old s t [] [] new all = all
 stays_in_doubt old s t (c ∷ cs) (a ∷ acks) new all =
-    let P : ℕ → List ℕ → Type 0 = λ _. StandsIn (InDoubt s t) in
+    let P : ℕ → List ℕ → Type 0 = λ _. MayStandFor (InDoubt s t) in
     let Either : ℕ → List ℕ → Type 0 = λ m image. P m image ⊎ P m image in
     goes_further old all.1.ready new P P all.1.idle (λ m image lt stands. stands)
     (goes_further all.1.ready all.0 new Either P all.1.within (λ m image lt either. ⊎_elim (λ x. x) (λ x. x) either) (stays_in_doubt all.0 s t cs acks new all.2))
@@ -123,12 +123,12 @@ module _ (s : Source) (old mid new : DiskState) (c : Command × ℕ) (cs : Comma
       (record { later = rest.later; before = rest.before; each = λ m image ge le left. still refusal other m image (omega (arith, ge, at)) (rest.each m image ge le left) })
 
   -- the device failed, and each later answer is Closed
-  failed : Leaves old mid (λ _ image. StandsFor image s ⊎ StandsIn (InDoubt s next) image) → AreAnswered mid (InDoubt s next) cs acks new
+  failed : Leaves old mid (λ _ image. StandsFor image s ⊎ MayStandFor (InDoubt s next) image) → AreAnswered mid (InDoubt s next) cs acks new
       → Leaves old new (Before (Err Device))
   failed within rest =
-      goes_further old mid new (λ _ image. StandsFor image s ⊎ StandsIn (InDoubt s next) image) (Before (Err Device)) within
+      goes_further old mid new (λ _ image. StandsFor image s ⊎ MayStandFor (InDoubt s next) image) (Before (Err Device)) within
       (λ m image lt either. ⊎_elim (at_first (Err Device) m image (none m)) (both m image) either)
-      (weaker mid new (λ _. StandsIn (InDoubt s next)) (Before (Err Device)) both (stays_in_doubt mid s next cs acks new rest))
+      (weaker mid new (λ _. MayStandFor (InDoubt s next)) (Before (Err Device)) both (stays_in_doubt mid s next cs acks new rest))
     where
       closed : AreClosed acks
       closed = all_closed mid s next cs acks new rest
@@ -139,7 +139,7 @@ module _ (s : Source) (old mid new : DiskState) (c : Command × ℕ) (cs : Comma
       alone : counted_commands (c ∷ cs) (ack (Err Device) n ∷ acks) ≡ c ∷ []
       alone = λ i. none_counts is_accepted closed_is_no_ok cs acks closed i ++ c ∷ none_counts is_in_doubt closed_is_no_device cs acks closed i
 
-      both : (m : ℕ) (image : List ℕ) → StandsIn (InDoubt s next) image → Before (Err Device) m image
+      both : (m : ℕ) (image : List ℕ) → MayStandFor (InDoubt s next) image → Before (Err Device) m image
       both m image (inl stands) = at_first (Err Device) m image (none m) stands
       both m image (inr stands) = record {
         j = 1;
@@ -152,7 +152,7 @@ module _ (s : Source) (old mid new : DiskState) (c : Command × ℕ) (cs : Comma
 pub answered_leave_prefixes : (s : Source) (old : DiskState) (cs : Commands) (acks : Acks) (new : DiskState) → AreAnswered old (Holding s) cs acks new
     → Leaves old new (StandsForPrefix s cs acks)
 answered_leave_prefixes s old [] [] new all =
-    weaker old new (λ _. StandsIn (Holding s)) (StandsForPrefix s [] []) (λ m image stands. record { j = 0; least = omega arith; most = omega arith; stands = stands }) all
+    weaker old new (λ _. MayStandFor (Holding s)) (StandsForPrefix s [] []) (λ m image stands. record { j = 0; least = omega arith; most = omega arith; stands = stands }) all
 answered_leave_prefixes s old (c ∷ cs) (a ∷ acks) new all =
     by a.reply all.1.within all.2 (λ t rest. answered_leave_prefixes t mid cs acks new rest) (λ m lt. none_before m mid (condition_after (Holding s) c a.reply) cs acks new all.2 lt)
   where
@@ -162,10 +162,10 @@ answered_leave_prefixes s old (c ∷ cs) (a ∷ acks) new all =
     mid : DiskState
     mid = all.0
 
-    within : (k : Condition) → Leaves ready mid (λ _ image. StandsFor image s ⊎ StandsIn k image) → Leaves old mid (λ _ image. StandsFor image s ⊎ StandsIn k image)
-    within k meanwhile = goes_further old ready mid (λ _. StandsIn (Holding s)) (λ _ image. StandsFor image s ⊎ StandsIn k image) all.1.idle (λ m image lt stands. inl stands) meanwhile
+    within : (k : Condition) → Leaves ready mid (λ _ image. StandsFor image s ⊎ MayStandFor k image) → Leaves old mid (λ _ image. StandsFor image s ⊎ MayStandFor k image)
+    within k meanwhile = goes_further old ready mid (λ _. MayStandFor (Holding s)) (λ _ image. StandsFor image s ⊎ MayStandFor k image) all.1.idle (λ m image lt stands. inl stands) meanwhile
 
-    by : (reply : Result Reply Refusal) → Leaves ready mid (λ _ image. StandsFor image s ⊎ StandsIn (condition_after (Holding s) c reply) image)
+    by : (reply : Result Reply Refusal) → Leaves ready mid (λ _ image. StandsFor image s ⊎ MayStandFor (condition_after (Holding s) c reply) image)
         → AreAnswered mid (condition_after (Holding s) c reply) cs acks new
         → ((t : Source) → AreAnswered mid (Holding t) cs acks new → Leaves mid new (StandsForPrefix t cs acks))
         → ((m : ℕ) → m < mid.calls → acknowledged m acks ≡ 0)

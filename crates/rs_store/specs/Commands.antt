@@ -13,15 +13,15 @@ use Rattle.rs_store.specs.declared.refusal.Refusal.{Refusal}
 use Rattle.rs_store.specs.declared.refusal.Refusal.TheVariants.{Full, ReadFault, ShortBody, Device, Damaged, NoMemory}
 use Rattle.rs_store.specs.Source.{Stored, Holds, rooted_in, state_of}
 use Rattle.rs_store.specs.Refusals.{decided}
-use Rattle.rs_plan.specs.Plans.{LacksRoom}
+use Rattle.rs_plan.specs.Plans.{IsFullFor}
 
 -- A refusal of a command has its cause.
 abbrev pub IsCause : {D : Type 0} → (D → DiskState) → Stored D → Stored D → Command → ℕ → Refusal → Type 0
 IsCause device old new command now Full =
-    (decided old (state_of device old) command now ≡ None) × LacksRoom (rooted_in device old) command (moment_at (state_of device old) now)
+    (decided old (state_of device old) command now ≡ None) × IsFullFor (rooted_in device old) command (moment_at (state_of device old) now)
 IsCause device old new command now Device =
     (decided old (state_of device old) command now ≡ None)
-    × (¬ LacksRoom (rooted_in device old) command (moment_at (state_of device old) now)) × HasFailed (device old.disk) (device new.disk)
+    × (¬ IsFullFor (rooted_in device old) command (moment_at (state_of device old) now)) × HasFailed (device old.disk) (device new.disk)
 IsCause device old new command now Damaged = ⊥
 IsCause device old new command now ReadFault = ⊥
 IsCause device old new command now ShortBody = ⊥

@@ -2,7 +2,7 @@
 use Rattle.std.specs.Prelude.{◌≡◌, ◌⊎◌, ◌↔◌, ◌<◌, ◌≤◌, ◌+◌, ℕ, Bool, false, List, All, None, Result, IfOk, IsErrAnd, IsTrue}
 use Rattle.rs_disk.specs.Medium.{DiskState}
 use Rattle.rs_disk.specs.Leaves.{Leaves}
-use Rattle.rs_disk.specs.Runs.{Advances, HasFailed}
+use Rattle.rs_disk.specs.Runs.{Advances, CallsAtMost, HasFailed}
 use Rattle.rs_commit.specs.Slots.{current, written_version}
 use Rattle.rs_commit.specs.Commit.{IsReady}
 use Rattle.rs_commit.specs.Format.{fresh}
@@ -12,14 +12,14 @@ use Rattle.rs_image.specs.Reach.{blocks_of_disk}
 use Rattle.rs_image.specs.StateOfImage.{StandsFor}
 use Rattle.rs_model.specs.State.{Source}
 use Rattle.rs_copy.specs.Laying.{LacksCopyRoom}
-use Rattle.rs_copy.specs.Copies.{HasItsBody, LiesCopied}
+use Rattle.rs_copy.specs.Copies.{HasItsBody, LiesCopied, StopsCopying}
 use Rattle.rs_copy.specs.declared.faults.CopyFault.{CopyFault}
 use Rattle.rs_copy.specs.declared.faults.CopyFault.TheVariants.{TooSmall, Full, Device, Damaged}
 use Rattle.rs_store.specs.declared.copying.CopyRefusal.{CopyRefusal}
 use Rattle.rs_store.specs.declared.copying.CopyRefusal.TheVariants.{Closed, Fault}
 use Rattle.rs_store.specs.OnlyReads.{OnlyReads}
 use Rattle.rs_store.specs.Opening.{disk_of}
-use Rattle.rs_store.specs.Shows.{HasItsDigest}
+use Rattle.rs_store.specs.Shows.{HasItsDigest, calls_for_held}
 use Rattle.rs_store.specs.Source.{Stored, Holds, state_of}
 
 -- the answer is this refusal
@@ -72,12 +72,16 @@ pub record RefusesCopy {D E : Type 0} (device : D → DiskState) (other : E → 
 
 -- Both disks while a source is copied, whatever the answer is.
 -- `reads_only`: the source stays open, and only the counts of its disk change. So a stop leaves of it what one before would have left.
+-- `once`: it reads each body at most once, also a damaged one.
 -- `advances`: the new disk keeps its size, and its counts do not fall.
+-- `stops`: no call of a disk comes behind a failed one of that disk, and at most one call fails.
 -- `any_moment`: once a first sync of the new disk has succeeded, which is its third call, each of its images tells no root, or
 -- represents the state that the source holds.
 pub record IsCopying {D E : Type 0} (device : D → DiskState) (other : E → DiskState) (old new : Stored D) (to disk : E) : Type 0 where
   pub reads_only : OnlyReads device old new
+  pub once : CallsAtMost (calls_for_held (state_of device old).held) (device old.disk) (device new.disk)
   pub advances : Advances (other to) (other disk)
+  pub stops : StopsCopying (record { from = device old.disk; to = other to }) (record { from = device new.disk; to = other disk })
   pub any_moment : (s : Source) → Holds device old s → IsTrue (device new.disk).honest
       → ((other to).calls + 3 < (other disk).calls) ⊎ ((other disk).faults ≡ (other to).faults)
       → Leaves (other to) (other disk) (λ m image. (other to).calls + 3 ≤ m → (current image ≡ None) ⊎ StandsFor image s)

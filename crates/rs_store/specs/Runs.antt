@@ -63,10 +63,10 @@ pub data Condition : Type 0 where
   Holding : Source → Condition
   InDoubt : Source → Source → Condition
 
--- what an image of its disk represents then
-abbrev pub StandsIn : Condition → List ℕ → Type 0
-StandsIn (Holding s) image = StandsFor image s
-StandsIn (InDoubt s t) image = StandsFor image s ⊎ StandsFor image t
+-- the states for which an image of its disk may stand then
+abbrev pub MayStandFor : Condition → List ℕ → Type 0
+MayStandFor (Holding s) image = StandsFor image s
+MayStandFor (InDoubt s t) image = StandsFor image s ⊎ StandsFor image t
 
 -- What the source may answer to a command. A closed source answers only Closed.
 abbrev pub MayReply : Condition → Command × ℕ → Result Reply Refusal → Type 0
@@ -94,15 +94,15 @@ condition_behind is commands acks = is
 -- `at_call`: the answer has the disk's count of calls.
 pub record AnswersOne (old : DiskState) (is : Condition) (c : Command × ℕ) (a : Ack) (new : DiskState) : Type 0 where
   pub ready : DiskState
-  pub idle : Leaves old ready (λ _. StandsIn is)
-  pub within : Leaves ready new (λ _ image. StandsIn is image ⊎ StandsIn (condition_after is c a.reply) image)
+  pub idle : Leaves old ready (λ _. MayStandFor is)
+  pub within : Leaves ready new (λ _ image. MayStandFor is image ⊎ MayStandFor (condition_after is c a.reply) image)
   pub reply : MayReply is c a.reply
   pub at_call : a.at_call ≡ new.calls
 
 -- Commands are answered in their order, as the disk sees it. `mid` is the disk after the first answer. After the last one, too, the
 -- source may be read.
 abbrev pub AreAnswered : DiskState → Condition → List (Command × ℕ) → List Ack → DiskState → Type 0
-AreAnswered old is [] [] new = Leaves old new (λ _. StandsIn is)
+AreAnswered old is [] [] new = Leaves old new (λ _. MayStandFor is)
 AreAnswered old is (c ∷ commands) (a ∷ acks) new =
     (mid : DiskState) × AnswersOne old is c a mid × AreAnswered mid (condition_after is c a.reply) commands acks new
 AreAnswered old is commands acks new = ⊥

@@ -1,9 +1,9 @@
 -- What a source shows of its state.
-use Rattle.std.specs.Prelude.{◌≡◌, ℕ, List, length, Option, option_map}
+use Rattle.std.specs.Prelude.{◌≡◌, ◌+◌, ◌/◌, ℕ, List, length, Option, option_map, sum_by}
 use Rattle.rs_fixity.specs.Digests.{digests}
 use Rattle.rs_record.specs.declared.facts.Facts.{Facts}
 use Rattle.rs_model.specs.declared.value.Held.{Held}
-use Rattle.rs_model.specs.Names.{value_of}
+use Rattle.rs_model.specs.Names.{Names, value_of}
 use Rattle.rs_model.specs.State.{Source}
 use Rattle.rs_store.specs.declared.reading.Status.{Status}
 use Rattle.rs_store.specs.declared.refusal.Refusal.{Refusal}
@@ -17,6 +17,10 @@ pub record AreAsRecorded (facts : Facts) (bytes : List ℕ) : Type 0 where
 -- the bytes of a held resource have their recorded SHA-256
 abbrev pub HasItsDigest : Held → Type 0
 HasItsDigest held = (digests held.bytes).sha256 ≡ held.entry.facts.digests.sha256
+
+-- the calls that read each held body once, in pieces of 16,384 bytes
+abbrev pub calls_for_held : Names Held → ℕ
+calls_for_held all = sum_by (λ held. (held.1.entry.facts.length + 16383) / 16384) all
 
 -- the refusals of the question for a body
 abbrev pub IsOfBody : Refusal → Type 0

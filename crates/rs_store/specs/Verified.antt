@@ -4,7 +4,7 @@ use Rattle.std.specs.List.{filter}
 use Rattle.std.specs.Cmp.Lexicographic.{pointwise}
 use Rattle.std.specs.Global.{Global}
 use Rattle.rs_disk.specs.Medium.{DiskState}
-use Rattle.rs_disk.specs.Runs.{RunsReading}
+use Rattle.rs_disk.specs.Runs.{RunsReading, CallsAtMost}
 use Rattle.rs_fixity.specs.Digests.{digests}
 use Rattle.rs_extent.specs.Blocks.{block_size}
 use Rattle.rs_extent.specs.Extents.{IsOnDisk}
@@ -15,6 +15,7 @@ use Rattle.rs_model.specs.State.{Source}
 use Rattle.rs_store.specs.declared.refusal.Refusal.{Refusal}
 use Rattle.rs_store.specs.declared.refusal.Refusal.TheVariants.{Closed, Device, NoMemory}
 use Rattle.rs_store.specs.OnlyReads.{OnlyReads}
+use Rattle.rs_store.specs.Shows.{calls_for_held}
 use Rattle.rs_store.specs.Source.{Stored, state_of}
 
 -- the bytes of a held resource have their recorded SHA-256
@@ -47,13 +48,16 @@ IsOfVerify refusal = IsOfLook refusal
 -- What a source answers to the question for damaged bodies, and what it is then.
 -- `names`: exactly the held names whose bytes lack their recorded SHA-256, in ascending order, if the device has followed the model.
 -- `few`: from every device, at most as many names as are held.
--- `closed`: Closed comes exactly from a closed source; `runs`: Device comes exactly where a device call failed; `others`: the only
+-- `once`: it reads each body at most once, also a damaged one.
+-- `closed`, `unread`: Closed comes exactly from a closed source, whose disk is not read; `runs`: Device comes exactly where a device call failed; `others`: the only
 -- other refusal is NoMemory.
 -- `reads_only`: only the counts of the disk change, and the source stays open, also after Device.
 pub record AnswersVerify {D : Type 0} (device : D → DiskState) (old new : Stored D) (result : Result (Vec (List ℕ) Global) Refusal) : Type 0 where
   pub names : IfOk result (λ names. IsTrue (device new.disk).honest → names.items ≡ damaged_names (state_of device old))
   pub few : IfOk result (λ names. length names.items ≤ length (state_of device old).held)
+  pub once : CallsAtMost (calls_for_held (state_of device old).held) (device old.disk) (device new.disk)
   pub closed : IsErrOf result Closed ↔ IsTrue old.is_closed
+  pub unread : IsErrOf result Closed → new ≡ old
   pub runs : RunsReading (IsErrOf result Device) (device old.disk) (device new.disk)
   pub others : IfErr result IsOfVerify
   pub reads_only : OnlyReads device old new

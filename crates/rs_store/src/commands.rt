@@ -9,7 +9,7 @@ ghost use Rattle.rs_store.specs.Refusals.{decided};
 ghost use Rattle.rs_plan.specs.Room.{bodies_of_command};
 ghost use Rattle.rs_plan.specs.Allowed.{MayPut};
 ghost use Rattle.rs_plan.specs.declared.planning.PlanFault.{PlanFault};
-ghost use Rattle.rs_plan.specs.Plans.{IsPlanned, LacksRoom};
+ghost use Rattle.rs_plan.specs.Plans.{IsPlanned, IsFullFor};
 ghost use Rattle.rs_store.specs.Writing.{of_plan, IsPlanOfSome, HasWrittenBodies};
 ghost use Rattle.rs_store.specs.Answered.{Answers};
 ghost use Rattle.rs_store.specs.Received.{IsLate};
@@ -96,7 +96,7 @@ impl<D: Disk> Source<D> {
         ensures planned { IfOk result (IsPlanned (rooted_in D.state self.old)
             (Put name.now kind.now bytes.now) moment) }
         ensures full { IsErrOf result PlanFault.Full
-            → LacksRoom (rooted_in D.state self.old) (Put name.now kind.now bytes.now) moment }
+            → IsFullFor (rooted_in D.state self.old) (Put name.now kind.now bytes.now) moment }
     {
         let rooted = rooted_by(&self.disk, &self.slots, &self.contents);
         plan_put(

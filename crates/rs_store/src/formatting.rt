@@ -23,7 +23,7 @@ use rs_disk::{Disk, Fault};
 use rs_extent::{Extent, Used};
 use rs_fixity::sha256_of;
 use rs_image::{Contents, Rooted, used_of};
-use rs_record::{Base, BaseError};
+use rs_record::{Base, ValueFault};
 use rs_time::Moment;
 use std::alloc::{AllocError, Global};
 use thiserror::Error;
@@ -201,7 +201,7 @@ fn first_header(
     ensures device { ¬ IsErrOf result FormatFault.Device }
 {
     let base = match Base::new(alloc, base) {
-        Err(BaseError::BadBase) => return Err(FormatFault::BadBase),
+        Err(ValueFault::Malformed) => return Err(FormatFault::BadBase),
         made => made,
     };
     let Some(limit) = Limit::new(limit) else {

@@ -12,7 +12,7 @@ ghost use Rattle.rs_model.specs.Step.{is_held, moment_at, refusal_of};
 ghost use Rattle.rs_model.specs.declared.command.Command.TheVariants.{Group};
 ghost use Rattle.rs_plan.specs.Allowed.{MayGroup};
 ghost use Rattle.rs_plan.specs.declared.planning.PlanFault.{PlanFault};
-ghost use Rattle.rs_plan.specs.Plans.{AreBodies, IsPlanned, LacksRoom};
+ghost use Rattle.rs_plan.specs.Plans.{AreBodies, IsPlanned, IsFullFor};
 ghost use Rattle.rs_plan.specs.Room.{bodies_kept};
 ghost use Rattle.rs_store.specs.Source.{rooted_in, state_of};
 ghost use Rattle.rs_store.specs.Refusals.{decided};
@@ -57,7 +57,7 @@ impl<D: Disk> Source<D> {
         ensures planned { IfOk result
             (IsPlanned (rooted_in D.state self.old) (Group items.now) moment) }
         ensures full { IsErrOf result PlanFault.Full
-            → LacksRoom (rooted_in D.state self.old) (Group items.now) moment }
+            → IsFullFor (rooted_in D.state self.old) (Group items.now) moment }
     {
         let rooted = rooted_by(&self.disk, &self.slots, &self.contents);
         plan_group(self.alloc, &mut self.used, &rooted, items, moment)

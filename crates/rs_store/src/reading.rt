@@ -1,7 +1,7 @@
 //! What a source shows.
 
-ghost use Rattle.std.specs.Prelude.{◌≡◌, ◌↔◌, false, map, IfOk, IfErr, IfSome, IsErrOf, IsOkUnless, Some, IsTrue};
-ghost use Rattle.rs_disk.specs.Runs.{RunsReading};
+ghost use Rattle.std.specs.Prelude.{◌≡◌, ◌⊎◌, ◌↔◌, ◌+◌, ◌/◌, false, map, IfOk, IfErr, IfSome, IsErrOf, IsOkUnless, Some, IsTrue};
+ghost use Rattle.rs_disk.specs.Runs.{RunsReading, CallsAtMost};
 ghost use Rattle.rs_model.specs.Names.{value_of, is_ordered};
 ghost use Rattle.rs_model.specs.State.{body_of, entries};
 ghost use Rattle.rs_model.specs.Step.{is_held};
@@ -66,8 +66,8 @@ impl<D: Disk> Source<D> {
         self.disk
     }
 
-    /// Reads the body of a name from the disk, with its recorded length and SHA-256. Only the counts of
-    /// the disk change.
+    /// Reads the body of a name from the disk, with its recorded length and SHA-256: once, in pieces of
+    /// 262,144 bytes. Only the counts of the disk change.
     ///
     /// # Errors
     ///
@@ -100,6 +100,11 @@ impl<D: Disk> Source<D> {
             → IsTrue (D.state self.new.disk).honest
             → IfSome (value_of name.now (state_of D.state self.old).held)
             (λ held. ¬ HasItsDigest held) }
+        ensures once { IfSome (value_of name.now (state_of D.state self.old).held)
+            (λ held. CallsAtMost ((held.entry.facts.length + 262143) / 262144)
+            (D.state self.old.disk) (D.state self.new.disk)) }
+        ensures unread { IsErrOf result Refusal.Closed ⊎ IsErrOf result Refusal.NotHeld
+            → self.new ≡ self.old }
         ensures runs { RunsReading (IsErrOf result Refusal.Device)
             (D.state self.old.disk) (D.state self.new.disk) }
         ensures others { IfErr result IsOfBody }

@@ -11,7 +11,7 @@ ghost use Rattle.rs_body.specs.Outside.{WritesOnly};
 ghost use Rattle.rs_model.specs.declared.command.Command.TheVariants.{Put};
 ghost use Rattle.rs_plan.specs.declared.planning.PlanFault.{PlanFault};
 ghost use Rattle.rs_plan.specs.Allowed.{MayPut};
-ghost use Rattle.rs_plan.specs.Plans.{LacksRoom};
+ghost use Rattle.rs_plan.specs.Plans.{IsFullFor};
 ghost use Rattle.rs_plan.specs.Drafts.{AwaitsBody, IsDraft, IsDraftOf};
 ghost use Rattle.rs_model.specs.Step.{moment_at};
 ghost use Rattle.rs_store.specs.Source.{rooted_in, state_of};
@@ -84,7 +84,7 @@ impl<D: Disk> Source<D> {
             (IsDraft (rooted_in D.state self.old) name.now kind.now body_length moment) }
         ensures full { IsErrOf result PlanFault.Full
             → (bytes : List ℕ) → length bytes ≡ body_length
-            → LacksRoom (rooted_in D.state self.old) (Put name.now kind.now bytes) moment }
+            → IsFullFor (rooted_in D.state self.old) (Put name.now kind.now bytes) moment }
     {
         let rooted = rooted_by(&self.disk, &self.slots, &self.contents);
         draft_put(

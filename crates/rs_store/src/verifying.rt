@@ -1,9 +1,10 @@
 //! The search for damaged bodies.
 
-ghost use Rattle.std.specs.Prelude.{◌≡◌, ◌∷◌, ◌++◌, [], ◌≤◌, ◌+◌, length, map, All, IfErr, IfOk, OnOk, IsErrOf, IsTrue};
-ghost use Rattle.rs_disk.specs.Runs.{RunsReading};
+ghost use Rattle.std.specs.Prelude.{◌≡◌, ◌∷◌, ◌++◌, [], ◌≤◌, ◌+◌, ◌/◌, length, map, All, IfErr, IfOk, OnOk, IsErrOf, IsTrue};
+ghost use Rattle.rs_disk.specs.Runs.{RunsReading, CallsAtMost};
 ghost use Rattle.rs_catalogue.specs.Catalogue.{records_of};
 ghost use Rattle.rs_image.specs.StateOfImage.{held_in};
+ghost use Rattle.rs_store.specs.Shows.{calls_for_held};
 ghost use Rattle.rs_store.specs.Verified.{AnswersVerify, HasItsPlace, IsOfLook, damaged_among};
 
 use crate::{Refusal, Source};
@@ -43,6 +44,8 @@ fn damaged_in<D: Disk>(
     ensures names { IfOk result (λ names. IsTrue (D.state disk.new).honest → names.items
         ≡ damaged_among (map (held_in (D.state disk.old).now.seen) (records_of catalogue.now))) }
     ensures few { IfOk result (λ names. length names.items ≤ length (records_of catalogue.now)) }
+    ensures once { CallsAtMost (calls_for_held (map (held_in (D.state disk.old).now.seen) (records_of catalogue.now)))
+        (D.state disk.old) (D.state disk.new) }
     ensures others { IfErr result IsOfLook }
     ensures runs { RunsReading (IsErrOf result Refusal.Device) (D.state disk.old) (D.state disk.new) }
 {
@@ -64,6 +67,7 @@ fn note_damage<D: Disk>(
     ensures names { OnOk result (IsTrue (D.state disk.new).honest → names.new.items
         ≡ names.old.items ++ damaged_among (held_in (D.state disk.old).now.seen held.now ∷ [])) }
     ensures few { OnOk result (length names.new.items ≤ length names.old.items + 1) }
+    ensures once { CallsAtMost ((held.now.length + 16383) / 16384) (D.state disk.old) (D.state disk.new) }
     ensures others { IfErr result IsOfLook }
     ensures runs { RunsReading (IsErrOf result Refusal.Device) (D.state disk.old) (D.state disk.new) }
 {

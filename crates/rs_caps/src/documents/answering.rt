@@ -12,7 +12,7 @@ use crate::documents::state_view::StateView;
 use rs_io::Watched;
 use rs_lists::{Doc, ListError};
 use rs_model::{State, states_are_lawful};
-use rs_record::{Name, NameError};
+use rs_record::{Name, ValueFault};
 use std::alloc::{AllocError, Global};
 
 /// The answer at this path: the text of the document that has it, or the bytes of the resource that has it. `None`
@@ -64,8 +64,8 @@ fn body(alloc: Global, state: &State, name: &[u8]) -> Result<Option<Vec<u8>>, Al
     states_are_lawful(state);
     match Name::new(alloc, name) {
         Ok(name) => copied(alloc, state.body(&name)),
-        Err(NameError::BadName) => Ok(None),
-        Err(NameError::NoMemory) => Err(AllocError),
+        Err(ValueFault::Malformed) => Ok(None),
+        Err(ValueFault::NoMemory) => Err(AllocError),
     }
 }
 

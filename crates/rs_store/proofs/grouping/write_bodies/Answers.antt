@@ -1,4 +1,4 @@
-use Rattle.std.proofs.Common.{rules, ◌≡◌, ◌⊎◌, inr, ◌∷◌, ℕ, ◌+◌, ◌<◌, length, drop, take, get_or, List, [], refl, ◌∙◌, ap, arith, Option, None, Bor}
+use Rattle.std.proofs.Common.{rules, ◌≡◌, ◌∷◌, ℕ, ◌+◌, ◌<◌, length, drop, take, get_or, List, [], refl, ◌∙◌, ap, arith, Option, None, Bor}
 use Rattle.std.specs.List.{cons_option}
 use Rattle.std.specs.Option.{option_copied}
 use Rattle.std.proofs.lemmas.List.{drop_all}
@@ -6,7 +6,7 @@ use Rattle.rs_disk.specs.Medium.{DiskState}
 use Rattle.rs_extent.specs.declared.Extent.{Extent}
 use Rattle.rs_extent.specs.Extents.{in_some, IsSubset}
 use Rattle.rs_body.specs.Outside.{WritesOnly, WritesPart}
-use Rattle.rs_store.proofs.FromBelow.{only_on, part_only, fits_sized}
+use Rattle.rs_store.proofs.FromBelow.{only_as, only_then, part_only, fits_sized}
 use Rattle.rs_model.specs.declared.command.Item.{Item}
 use Rattle.rs_plan.specs.Room.{bodies_kept}
 use Rattle.rs_plan.specs.Turned.{no_body}
@@ -50,10 +50,10 @@ write_body-requires-clause-fits g c =
     (sized_at extents (bodies_kept items) c.requires.sized n bytes (bodies_kept (drop (i + 1) items)) next no_body (get_or extents n no_body) refl)
 
 -- a body more, written to the extent at hand
-further : {A B C : Type 0} (extents : List Extent) (e : Extent) (n : ℕ) (old mid new : DiskState) → IsSubset (in_some (e ∷ [])) (in_some extents)
-    → (A → C) → (B → C) → (C → A ⊎ B) → WritesOnly extents A old mid → WritesPart e 0 n B mid new → WritesOnly extents C old new
-further extents e n old mid new among left right split one two =
-    only_on extents (e ∷ []) extents old mid new (λ b is. is) among left right split one (part_only e 0 n mid new two)
+further : {B C : Type 0} (extents : List Extent) (e : Extent) (n : ℕ) (old mid new : DiskState) → IsSubset (in_some (e ∷ [])) (in_some extents)
+    → (B → C) → (C → B) → WritesOnly extents ⊥ old mid → WritesPart e 0 n B mid new → WritesOnly extents C old new
+further extents e n old mid new among to from one two =
+    only_as extents old new to from (only_then extents (e ∷ []) extents old mid new (λ b is. is) among (λ none. none) one (part_only e 0 n mid new two))
 
 pub returns-in_err-write_body-clause-writes : goal.returns-in_err-write_body-clause-writes
 returns-in_err-write_body-clause-writes g c =
@@ -65,7 +65,7 @@ returns-in_err-write_body-clause-writes g c =
     let e = get_or extents n no_body in
     let among = among_all extents (bodies_kept items) c.requires.sized n c.in-Some.bytes.now (bodies_kept (drop (i + 1) items)) next no_body e refl in
     let both = further extents e (length c.in-Some.bytes.now) (g.D.Disk.state c.args.disk.now) (g.D.Disk.state c.loop-i.disk) (g.D.Disk.state c.write_body.new.disk) among
-    (λ none. absurd none) (λ is. is) (λ is. inr is) c.loop-i.invariant.writes c.in_err-write_body.ensures.writes in
+    (λ is. is) (λ is. is) c.loop-i.invariant.writes c.in_err-write_body.ensures.writes in
     record { runs = search rules; outside = both.outside }
 
 pub loop-i-preserved : goal.loop-i-preserved
@@ -92,7 +92,7 @@ loop-i-preserved g c =
           rw (w.written-is, w.disk-is) (record {
             left = others_left extents bodies sized n bytes later next;
             stand = one_more extents bodies sized n bytes later next no_body e refl mid.now.seen new.now.seen kept.stand written.seen w.in_ok-write_body.ensures.reads;
-            writes = further extents e (length bytes) old mid new among (λ none. none) (λ is. absurd cc) (λ none. absurd none) kept.writes w.in_ok-write_body.ensures.writes;
+            writes = further extents e (length bytes) old mid new among (λ is. absurd cc) (λ none. absurd none) kept.writes w.in_ok-write_body.ensures.writes;
           })
       | in_default w ↦
           rw (w.written-is, w.disk-is) (record {

@@ -5,7 +5,7 @@ use Rattle.std.proofs.lemmas.Result.{err_from_is_err_and}
 use Rattle.std.specs.Io.KnownBytes.{Consumes}
 use Rattle.rs_fixity.specs.Hashed.{HasTaken}
 use Rattle.rs_body.specs.Blocks.{part}
-use Rattle.rs_store.proofs.FromBelow.{only_on, only_then}
+use Rattle.rs_store.proofs.FromBelow.{went_well, only_on, only_then}
 use Rattle.rs_io.specs.Watch.{watched}
 use Rattle.rs_store.proofs.Received.{stops_behind}
 use Rattle.rs_store.proofs.ReaderCounts.{reads_behind}
@@ -62,5 +62,5 @@ loop-at-preserved g c =
       reads = omega (arith, inv.reads, e.called, same);
       whole = ap length joined ∙ omega (arith, length-append front piece, same, inv.whole);
       hashed = subst (λ (came : List ℕ). HasTaken c.add.new.self came) (sym joined) (c.add.ensures front inv.hashed);
-      writes = only_on alone alone alone old mid new (λ b is. is) (λ b is. is) (λ none. none) (λ is. absurd cc) (λ none. absurd none) inv.writes e.writes;
+      writes = only_on alone alone alone old mid new (λ b is. is) (λ b is. is) (λ none. none) (λ is. absurd cc) (λ none. absurd none) (went_well old mid new (λ none. none) inv.writes.runs.runs) inv.writes e.writes;
     }

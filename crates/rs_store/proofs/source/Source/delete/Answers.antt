@@ -3,7 +3,7 @@ use Rattle.std.proofs.lemmas.Result.{err_from_is_err_and}
 use Rattle.rs_model.specs.declared.command.Command.TheVariants.{Delete}
 use Rattle.rs_image.specs.Rooted.{Rooted}
 use Rattle.rs_plan.specs.declared.planning.PlanFault.{PlanFault}
-use Rattle.rs_plan.specs.Plans.{IsPlanned, LacksRoom}
+use Rattle.rs_plan.specs.Plans.{IsPlanned, IsFullFor}
 use Rattle.rs_store.specs.Source.{Stored, rooted_in}
 use Rattle.rs_store.proofs.Answered.{at_once, not_planned, carried_on}
 use Rattle.rs_store.proofs.Begun.{begun_with_none}
@@ -21,7 +21,7 @@ returns-in_err-plan g c =
     let given = err_from_is_err_and c.from_residual-in_err-plan.result c.from_residual-in_err-plan.ensures.1 in
     rw (given.1, given.2)
     (not_planned g.D.Disk.state g.met.D.Disk.holds old (Delete c.args.name.now) c.args.now _ c.self.view_is c.in_ok-moment.moment c.in_ok-moment.ensures.decided c.in_err-plan.field-0.0
-    (λ full. subst (λ (r : Rooted). LacksRoom r (Delete c.args.name.now) c.in_ok-moment.moment) rooted (c.in_err-plan.ensures.full (ap (λ (x : PlanFault). Err x) full))))
+    (λ full. subst (λ (r : Rooted). IsFullFor r (Delete c.args.name.now) c.in_ok-moment.moment) rooted (c.in_err-plan.ensures.full (ap (λ (x : PlanFault). Err x) full))))
 
 pub returns : goal.returns
 returns g c =

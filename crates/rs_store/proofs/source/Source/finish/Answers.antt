@@ -133,7 +133,7 @@ returns-in-Err-clause-answers g c =
     (not_committed_behind device g.met.D.Disk.holds o p c.self.invariant.rooted.whole c.write_lists.new.disk _ c.in-Ok.ensures.writes
     c.write_lists.new.plan c.in-Ok.ensures.stored root
     (same_root o.slots.root p c.write_lists.new.plan.directory c.in-Ok.written c.write_lists.ensures.stays.directory c.in-Ok.ensures.written)
-    new c.commit-committed.ensures.any_moment _ c.commit-committed.ensures.runs.writes refl (commit_failed c.commit-committed.result _ c.in-Err.is spare))
+    new c.commit-committed.ensures.any_moment _ c.commit-committed.ensures.runs.writes (λ is. absurd cc) refl (commit_failed c.commit-committed.result _ c.in-Err.is spare))
 
 pub returns-clause-answers : goal.returns-clause-answers
 returns-clause-answers g c =

@@ -1,7 +1,8 @@
-use Rattle.std.proofs.Common.{◌≡◌, false, Option, Some, option_map, length, sym, ap, subst, refl, ◌∙◌, rules}
+use Rattle.std.proofs.Common.{◌≡◌, ◌+◌, ◌/◌, false, Option, Some, option_map, length, sym, ap, subst, refl, ◌∙◌, rules}
 use Rattle.std.specs.Prelude.{IfSome}
 use Rattle.std.proofs.lemmas.Bool.{false≢true}
 use Rattle.std.proofs.lemmas.Result.{err_from_is_err_and}
+use Rattle.rs_disk.specs.Runs.{CallsAtMost}
 use Rattle.rs_body.specs.declared.read.LoadFault.TheVariants as faults
 use Rattle.rs_model.specs.declared.value.Held.{Held}
 use Rattle.rs_model.specs.Names.{value_of}
@@ -50,6 +51,18 @@ returns-in_err-read_in_pieces-clause-damaged g c is honest =
     (subst Q (sym (held_found seen name (records_of c.self.inside.contents.catalogue) c.in-Some.record.now (sym c.in-Some.ensures)))
     (λ digest. c.in_err-read_in_pieces.ensures.body.damaged (cc) honest digest))
 
+pub returns-in_err-read_in_pieces-clause-once : goal.returns-in_err-read_in_pieces-clause-once
+returns-in_err-read_in_pieces-clause-once g c =
+    let name = c.args.name.now in
+    let seen = (g.D.Disk.state c.self.inside.disk).now.seen in
+    let new = g.D.Disk.state c.read_in_pieces.new.disk in
+    let P : Stored g.row.D.Denot → Type 0 = λ s.
+    IfSome (value_of name (state_of g.D.Disk.state s).held) (λ held. CallsAtMost ((held.entry.facts.length + 262143) / 262144) (g.D.Disk.state s.disk) new) in
+    let Q : Option Held → Type 0 = λ o. IfSome o (λ held. CallsAtMost ((held.entry.facts.length + 262143) / 262144) (g.D.Disk.state c.self.inside.disk) new) in
+    subst P c.self.view_is
+    (subst Q (sym (held_found seen name (records_of c.self.inside.contents.catalogue) c.in-Some.record.now (sym c.in-Some.ensures)))
+    c.in_err-read_in_pieces.ensures.calls)
+
 pub returns-clause-reads : goal.returns-clause-reads
 returns-clause-reads g c honest =
     let name = c.args.name.now in
@@ -75,3 +88,15 @@ pub returns-clause-not_held : goal.returns-clause-not_held
 returns-clause-not_held g c =
     let held = holds_name g.D.Disk.state _ c.args.self.now c.args.name.now c.in-Some.record.now c.self.view_is (sym c.in-Some.ensures) in
     (λ is. cc, λ none. absurd (false≢true (sym none.1 ∙ held)))
+
+pub returns-clause-once : goal.returns-clause-once
+returns-clause-once g c =
+    let name = c.args.name.now in
+    let seen = (g.D.Disk.state c.self.inside.disk).now.seen in
+    let new = g.D.Disk.state c.read_in_pieces.new.disk in
+    let P : Stored g.row.D.Denot → Type 0 = λ s.
+    IfSome (value_of name (state_of g.D.Disk.state s).held) (λ held. CallsAtMost ((held.entry.facts.length + 262143) / 262144) (g.D.Disk.state s.disk) new) in
+    let Q : Option Held → Type 0 = λ o. IfSome o (λ held. CallsAtMost ((held.entry.facts.length + 262143) / 262144) (g.D.Disk.state c.self.inside.disk) new) in
+    subst P c.self.view_is
+    (subst Q (sym (held_found seen name (records_of c.self.inside.contents.catalogue) c.in-Some.record.now (sym c.in-Some.ensures)))
+    c.in_ok-read_in_pieces.ensures.calls)
