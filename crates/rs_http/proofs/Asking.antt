@@ -1,6 +1,8 @@
 -- The outcomes by the answers of the source.
-use Rattle.std.proofs.Common.{◌≡◌, ℕ, List, [], ◌++◌, append_assoc, append-nil, codes, Option, Some, None, Result, Ok, Err, Vec, Global, Bool, true, false, ◌↔◌, length, refl, ap, sym, subst, ◌∙◌, if◌then◌else◌, IsErrOf, IsTrue}
+use Rattle.std.proofs.Common.{◌≡◌, ℕ, List, [], ◌++◌, append_assoc, append-nil, codes, Option, Some, Result, Ok, Err, Vec, Global, Bool, true, false, ◌↔◌, ◌⊎◌, inl, inr, length, refl, ap, sym, subst, ◌∙◌, if◌then◌else◌, IsErrOf, IsTrue}
 use Rattle.rs_disk.specs.Medium.{DiskState}
+use Rattle.rs_http.specs.declared.status.StatusCode.{StatusCode}
+use Rattle.rs_http.specs.declared.status.StatusCode.TheVariants as statuses
 use Rattle.rs_http.proofs.FromBelow.{reading_as}
 use Rattle.rs_model.specs.Step.{is_held}
 use Rattle.rs_lists.specs.declared.doc.Doc.{Doc}
@@ -15,14 +17,14 @@ use Rattle.rs_store.specs.declared.refusal.Refusal as stored
 use Rattle.rs_store.specs.declared.refusal.Refusal.TheVariants.{Closed, NotHeld, Device, Damaged, NoMemory}
 use Rattle.rs_recovery.specs.Documents.{DocumentsAreOfTheState}
 use Rattle.rs_io.specs.declared.watch.Watched.{Watched}
-use Rattle.rs_http.specs.declared.fault.FrontFault.{FrontFault}
+use Rattle.rs_io.specs.declared.fault.StreamFault.{StreamFault}
 use Rattle.rs_http.specs.declared.response.Framing.{Framing}
 use Rattle.httpdate.specs.Date.{date_text}
 use Rattle.rs_http.specs.Turn.{Turn}
 use Rattle.rs_http.specs.Responses.{RequestOutcome, shown, refused, response_text, first_lines, content_lines, sent_body, framed}
 use Rattle.rs_http.specs.Outcomes.{ReadComesTo, document_or_none, document_shown, Sends, Responds}
 
-module _ {W : Type 0} {contents : W → Option (List ℕ)} {before after : Watched W} {framing : Framing} {result : Result ℕ FrontFault} where
+module _ {W : Type 0} {contents : W → Option (List ℕ)} {before after : Watched W} {framing : Framing} {result : Result StatusCode StreamFault} where
   -- an outcome is answered
   pub answered : {comes : RequestOutcome → Type 0} (outcome : RequestOutcome) → comes outcome → Sends contents before after framing outcome result
       → Responds contents before after framing comes result
@@ -76,25 +78,43 @@ module _ {D : Type 0} {device : D → DiskState} (turn : Turn device) (name : Li
     outcome_is = (k, ap (kind_of name) (sym same_state) ∙ e ∙ ap Some (sym type_is), ap (shown k) is);
   }
 
+  -- no refusal says that nothing was read
+  unread_of : (refusal : stored.Refusal) → IsErrOf {T = Vec ℕ Global} (Err refusal) Closed ↔ IsTrue old.is_closed
+      → IsErrOf {T = Vec ℕ Global} (Err refusal) NotHeld ↔ ((old.is_closed ≡ false) × (is_held (state_of device old) name ≡ false))
+      → IsErrOf {T = Vec ℕ Global} (Err refusal) Closed ⊎ IsErrOf {T = Vec ℕ Global} (Err refusal) NotHeld → new ≡ old
+  unread_of refusal closed not_held (inl is) =
+      let no : IsErrOf {E = stored.Refusal} (Ok bytes) Closed = a.closed.1 (closed.0 is) in
+      absurd cc
+  unread_of refusal closed not_held (inr is) =
+      let no : IsErrOf {E = stored.Refusal} (Ok bytes) NotHeld = a.not_held.1 (not_held.0 is) in
+      absurd cc
+
   -- or there is no memory for its type, and the body is refused
   pub kind_refused : (refusal : stored.Refusal) → IsErrOf {T = List ℕ} (Err refusal) Closed ↔ IsTrue new.is_closed
       → IsErrOf {T = List ℕ} (Err refusal) NotHeld ↔ ((new.is_closed ≡ false) × (is_held (state_of device new) name ≡ false)) → IsOfKind refusal → ReadComesTo turn name (refused refusal)
-  kind_refused refusal closed not_held is = record {
-    result = Err refusal;
-    answers = record {
-      reads = tt;
-      recorded = tt;
-      closed = elsewhere refusal Closed (IsTrue old.is_closed) (subst (λ b. IsErrOf {T = List ℕ} (Err refusal) Closed ↔ IsTrue b) a.reads_only.is_closed closed);
-      not_held = elsewhere refusal NotHeld ((old.is_closed ≡ false) × (is_held (state_of device old) name ≡ false))
-          (subst (λ b. IsErrOf {T = List ℕ} (Err refusal) NotHeld ↔ ((b ≡ false) × (is_held (state_of device old) name ≡ false))) a.reads_only.is_closed
-          (subst (λ s. IsErrOf {T = List ℕ} (Err refusal) NotHeld ↔ ((new.is_closed ≡ false) × (is_held s name ≡ false))) same_state not_held));
-      damaged = λ e. let no : refusal ≡ Damaged = cc in absurd (subst IsOfKind no is);
-      runs = reading_as (device old.disk) (device new.disk) (λ e. absurd cc) (λ e. let no : refusal ≡ Device = cc in absurd (subst IsOfKind no is)) a.runs;
-      others = of_kind refusal is;
-      reads_only = a.reads_only;
-    };
-    outcome_is = refl;
-  }
+  kind_refused refusal closed not_held is =
+      let shut : IsErrOf {T = Vec ℕ Global} (Err refusal) Closed ↔ IsTrue old.is_closed =
+      elsewhere refusal Closed (IsTrue old.is_closed) (subst (λ b. IsErrOf {T = List ℕ} (Err refusal) Closed ↔ IsTrue b) a.reads_only.is_closed closed) in
+      let lacks : IsErrOf {T = Vec ℕ Global} (Err refusal) NotHeld ↔ ((old.is_closed ≡ false) × (is_held (state_of device old) name ≡ false)) =
+      elsewhere refusal NotHeld ((old.is_closed ≡ false) × (is_held (state_of device old) name ≡ false))
+      (subst (λ b. IsErrOf {T = List ℕ} (Err refusal) NotHeld ↔ ((b ≡ false) × (is_held (state_of device old) name ≡ false))) a.reads_only.is_closed
+      (subst (λ s. IsErrOf {T = List ℕ} (Err refusal) NotHeld ↔ ((new.is_closed ≡ false) × (is_held s name ≡ false))) same_state not_held)) in
+      record {
+        result = Err refusal;
+        answers = record {
+          reads = tt;
+          recorded = tt;
+          closed = shut;
+          not_held = lacks;
+          damaged = λ e. let no : refusal ≡ Damaged = cc in absurd (subst IsOfKind no is);
+          once = a.once;
+          unread = unread_of refusal shut lacks;
+          runs = reading_as (device old.disk) (device new.disk) (λ e. absurd cc) (λ e. let no : refusal ≡ Device = cc in absurd (subst IsOfKind no is)) a.runs;
+          others = of_kind refusal is;
+          reads_only = a.reads_only;
+        };
+        outcome_is = refl;
+      }
 
 no_body : (b : Bool) (text : List ℕ) → text ≡ [] → (if b then [] else text) ≡ []
 no_body true text none = refl
@@ -102,12 +122,12 @@ no_body false text none = none
 
 -- the head of its response, and then its text, which a HEAD leaves out
 pub document_head : (framing : Framing) (text : List ℕ) (count : ℕ) → length text ≡ count
-    → framed framing 200 (content_lines (codes "application/xml") count) [] ++ sent_body framing text ≡ response_text framing (shown (codes "application/xml") text)
+    → framed framing statuses.Ok (content_lines (codes "application/xml") count) [] ++ sent_body framing text ≡ response_text framing (shown (codes "application/xml") text)
 document_head framing text count same =
-    let first = first_lines 200 (date_text framing.date) in
+    let first = first_lines statuses.Ok (date_text framing.date) in
     let lines = content_lines (codes "application/xml") count in
     let none : sent_body framing [] ≡ [] = no_body framing.is_head [] refl in
-    let bare : framed framing 200 lines [] ≡ first ++ lines = ap (λ (l : List ℕ). first ++ (lines ++ l)) none ∙ ap (λ (l : List ℕ). first ++ l) (append-nil lines) in
+    let bare : framed framing statuses.Ok lines [] ≡ first ++ lines = ap (λ (l : List ℕ). first ++ (lines ++ l)) none ∙ ap (λ (l : List ℕ). first ++ l) (append-nil lines) in
     ap (λ (l : List ℕ). l ++ sent_body framing text) bare ∙ append_assoc first lines (sent_body framing text)
     ∙ ap (λ (n : ℕ). first ++ (content_lines (codes "application/xml") n ++ sent_body framing text)) (sym same)
 

@@ -17,7 +17,7 @@ use Rattle.rs_recovery.specs.Prefixes.{counted_as, IsRunOf, IdleIsRun, CommandIs
 use Rattle.rs_recovery.specs.Turns.{ReadingsIdle, CutPutsIdle}
 use Rattle.rs_http.specs.declared.request.RequestPlan.{RequestPlan}
 use Rattle.rs_http.specs.declared.request.RequestPlan.TheVariants.{ShowBody, ShowDocument, Put, Delete, Publish, Group}
-use Rattle.rs_http.specs.declared.request.NoPlan.{NoPlan}
+use Rattle.rs_http.specs.declared.request.RequestFault.{RequestFault}
 use Rattle.rs_http.specs.Groups.{items_asked}
 use Rattle.rs_http.specs.Outcomes.{GroupComesTo, RequestGives, outcome_replied}
 use Rattle.rs_http.specs.Turn.{Turn}
@@ -79,7 +79,7 @@ module _ {D : Type 0} (device : D → DiskState) (rest : RestIsIdle device) (rea
       (command_run (commands.Group asked.items) asked.comes.result outcome asked.comes.outcome_is asked.comes.answers)
 
   -- the outcomes of a request
-  pub request_run : (plan : Result RequestPlan NoPlan) (more : List ℕ) (left : Option (List ℕ)) (outcome : RequestOutcome)
+  pub request_run : (plan : Result RequestPlan RequestFault) (more : List ℕ) (left : Option (List ℕ)) (outcome : RequestOutcome)
       → RequestGives turn plan more left outcome → (counted : List (Command × ℕ)) → Counts turn.now plan more outcome counted → IsRunOf device turn.old counted turn.new
   request_run (Ok (ShowBody name)) more left outcome gives counted is = recounted counted [] is (idles (reading turn.old turn.new gives.1.answers.reads_only))
   request_run (Ok (ShowDocument doc)) more left outcome gives counted is = recounted counted [] is (still_run gives.2)
@@ -93,7 +93,7 @@ module _ {D : Type 0} (device : D → DiskState) (rest : RestIsIdle device) (rea
   request_run (Err reason) more left outcome gives counted is = recounted counted [] is (still_run gives.2)
 
   -- a put or a group whose reader failed
-  pub broken_run : (plan : Result RequestPlan NoPlan) (more : List ℕ) → IsBroken turn plan more → IsRunOf device turn.old [] turn.new
+  pub broken_run : (plan : Result RequestPlan RequestFault) (more : List ℕ) → IsBroken turn plan more → IsRunOf device turn.old [] turn.new
   broken_run (Ok (Put name kind n waits)) more broken = idles (cut turn.old turn.new name kind n turn.now more (inl broken))
   broken_run (Ok (Group n waits)) more broken = still_run broken.1
   broken_run plan more broken = absurd broken

@@ -10,18 +10,19 @@ use Rattle.httpdate.specs.declared.date.HttpDate.{HttpDate}
 use Rattle.rs_disk.specs.Medium.{DiskState}
 use Rattle.rs_io.specs.declared.watch.Watched.{Watched}
 use Rattle.rs_io.specs.Watch.{watched, calls, seen_by, failures, EndFailed, FlushFailed, Wrote, FailedWithin, TellsEnd, End, Ends, ends_of}
+use Rattle.rs_http.specs.declared.status.StatusCode.{StatusCode}
 use Rattle.rs_http.proofs.FromBelow.{later_fault, later_put_fault, no_reads, reads_behind}
 use Rattle.rs_model.specs.declared.command.Reply.{Reply}
 use Rattle.rs_store.specs.Received.{AnswersFrom, ReadsFor, coming_put, empty_reads_of}
 use Rattle.rs_store.specs.declared.refusal.Refusal.{Refusal}
 use Rattle.rs_store.specs.declared.refusal.Refusal.TheVariants.{ReadFault, ShortBody}
-use Rattle.rs_http.specs.declared.fault.FrontFault.{FrontFault}
-use Rattle.rs_http.specs.declared.fault.FrontFault.TheVariants.{Read, Write}
+use Rattle.rs_io.specs.declared.fault.StreamFault.{StreamFault}
+use Rattle.rs_io.specs.declared.fault.StreamFault.TheVariants.{Read, Write}
 use Rattle.rs_http.specs.declared.head.HeadRead.{HeadRead}
 use Rattle.rs_http.specs.declared.head.HeadRead.TheVariants.{Whole, TooLong, Ended}
 use Rattle.rs_http.specs.declared.request.RequestPlan.{RequestPlan}
 use Rattle.rs_http.specs.declared.request.RequestPlan.TheVariants.{Put, Group}
-use Rattle.rs_http.specs.declared.request.NoPlan.{NoPlan}
+use Rattle.rs_http.specs.declared.request.RequestFault.{RequestFault}
 use Rattle.rs_http.specs.declared.request.Request.{Request}
 use Rattle.rs_http.specs.declared.response.Framing.{Framing}
 use Rattle.rs_http.specs.declared.serve.Served.TheVariants.{Answered}
@@ -35,13 +36,13 @@ use Rattle.rs_http.specs.Serving.{bytes_of, PlanEnds, RequestEnds, TakesPart, pr
 use Rattle.rs_http.proofs.Asking.{answered}
 
 -- a response that was sent is not answered as unread
-pub unread : (result : Result ℕ FrontFault) → IfErr result (λ fault. fault ≡ Write) → IsErrOf result Read → ⊥
+pub unread : (result : Result StatusCode StreamFault) → IfErr result (λ fault. fault ≡ Write) → IsErrOf result Read → ⊥
 unread (Ok status) is e = absurd cc
 unread (Err fault) is e = absurd cc
 
 module _ {W : Type 0} (contents : W → Option (List ℕ)) (before after : Watched W) where
   -- a response that was sent, as its bytes show it
-  seen_sends : (framing : Framing) (outcome : RequestOutcome) (result : Result ℕ FrontFault) → Sends contents before after framing outcome result
+  seen_sends : (framing : Framing) (outcome : RequestOutcome) (result : Result StatusCode StreamFault) → Sends contents before after framing outcome result
       → Sends bytes_of (seen_by contents before) (seen_by contents after) framing outcome result
   seen_sends framing outcome (Ok status) s = s
   seen_sends framing outcome (Err fault) s =
@@ -51,9 +52,9 @@ module _ {W : Type 0} (contents : W → Option (List ℕ)) (before after : Watch
   pub took_part : (text : List ℕ) → FailedWithin contents before after text → TakesPart (seen_by contents before) (seen_by contents after) [] text
   took_part text w = record { part = w.part; left_out = w.left_out; bytes_are = w.bytes_are; took = w.took; failed = inl w.failed }
 
-module _ {D R W : Type 0} {device : D → DiskState} {turn : Turn device} {plan : Result RequestPlan NoPlan} {framing : Framing} {contents : W → Option (List ℕ)}
-    {before after : Watched W} {comes : RequestOutcome → Type 0} {result : Result ℕ FrontFault}
-    (asked : Result RequestPlan NoPlan) (remaining : R → Option (List ℕ)) where
+module _ {D R W : Type 0} {device : D → DiskState} {turn : Turn device} {plan : Result RequestPlan RequestFault} {framing : Framing} {contents : W → Option (List ℕ)}
+    {before after : Watched W} {comes : RequestOutcome → Type 0} {result : Result StatusCode StreamFault}
+    (asked : Result RequestPlan RequestFault) (remaining : R → Option (List ℕ)) where
   -- an answer that was sent ends a plan that read these bytes
   pub sent_ends : (reader left : Watched R) (more : List ℕ) → plan ≡ asked → Consumes (remaining (watched reader)) (remaining (watched left)) more → failures left ≡ failures reader
       → ReadsFor (empty_reads_for asked) reader left more → Responds contents before after framing comes result
@@ -85,7 +86,7 @@ few_empty (Err ReadFault) = omega arith
 few_empty (Err ShortBody) = omega arith
 few_empty (Err refusal) = omega arith
 
-few_for : (plan : Result RequestPlan NoPlan) → empty_reads_for plan ≤ 1
+few_for : (plan : Result RequestPlan RequestFault) → empty_reads_for plan ≤ 1
 few_for (Ok (Put name kind n waits)) = omega arith
 few_for (Ok (Group n waits)) = omega arith
 few_for plan = omega arith
@@ -94,7 +95,7 @@ one_read_more : {R : Type 0} (n : ℕ) (reader left : Watched R) (came : List �
 one_read_more n reader left came few reads = record { reads = omega (arith, few, reads.reads); once = reads.once }
 
 -- what the source answered to a put is answered, unless the reader failed
-pub put_ends : {D R W : Type 0} {device : D → DiskState} {turn : Turn device} {framing : Framing} {result : Result ℕ FrontFault} {name kind : List ℕ} {n : ℕ} {waits : Bool}
+pub put_ends : {D R W : Type 0} {device : D → DiskState} {turn : Turn device} {framing : Framing} {result : Result StatusCode StreamFault} {name kind : List ℕ} {n : ℕ} {waits : Bool}
     (remaining : R → Option (List ℕ)) (reader left : Watched R) (contents : W → Option (List ℕ)) (before after : Watched W) (answer : Result Reply Refusal)
     → (came : List ℕ) × Consumes (remaining (watched reader)) (remaining (watched left)) came × AnswersFrom device turn.old turn.new (coming_put name kind n turn.now) came answer
     × ReadsFor (empty_reads_of answer) reader left came
@@ -106,8 +107,31 @@ put_ends {turn = turn} {name = name} {kind = kind} {n = n} {waits = waits} remai
     (answered {contents = contents} {before = before} {after = after} {comes = λ outcome. RequestGives turn (Ok (Put name kind n waits)) came.0 (remaining (watched left)) outcome}
     (outcome_replied answer) (record { result = answer; answers = came.2; unbroken = unbroken; outcome_is = refl }, ended) sends) (λ o h. h)
 
+-- what the source answered to a put ends its plan, whether the reader failed or not
+pub put_answered : {D R W : Type 0} {device : D → DiskState} {turn : Turn device} {framing : Framing} {result : Result StatusCode StreamFault} {name kind : List ℕ} {n : ℕ} {waits : Bool}
+    (remaining : R → Option (List ℕ)) (reader left : Watched R) (contents : W → Option (List ℕ)) (before after : Watched W) (answer : Result Reply Refusal)
+    → (came : List ℕ) × Consumes (remaining (watched reader)) (remaining (watched left)) came × AnswersFrom device turn.old turn.new (coming_put name kind n turn.now) came answer
+    × ReadsFor (empty_reads_of answer) reader left came
+    → TellsEnd (IsErrOf answer ReadFault) reader left → (IsErrOf answer ShortBody → IsAtEnd (remaining (watched left)))
+    → ((IsErrOf answer ReadFault → ⊥) → Sends contents before after framing (outcome_replied answer) result)
+    → (IsErrOf answer ReadFault → result ≡ Err Read) → (IsErrOf result Read → after ≡ before)
+    → PlanEnds turn (Ok (Put name kind n waits)) framing (ends_of remaining reader left contents before after) result
+put_answered remaining reader left contents before after (Ok reply) came tells ended sends broken silent =
+    put_ends remaining reader left contents before after (Ok reply) came (λ e. absurd cc) tells ended (sends (λ e. absurd cc))
+put_answered {result = result} remaining reader left contents before after (Err ReadFault) came tells ended sends broken silent =
+    let read : IsErrOf result Read = broken refl in record {
+      more = came.0;
+      came = came.1;
+      reads = record { reads = came.3.reads; once = came.3.once };
+      reader = record { failed = λ _. tells.failed refl; sound = λ no. absurd (no read) };
+      broken = λ _. (ap (seen_by contents) (silent read), came.2);
+      answered = λ no. absurd (no read);
+    }
+put_answered remaining reader left contents before after (Err refusal) came tells ended sends broken silent =
+    put_ends remaining reader left contents before after (Err refusal) came (λ e. absurd cc) tells ended (sends (λ e. absurd cc))
+
 -- the result of `?` at a fault
-pub passes : {T : Type 0} (r : Result T FrontFault) (fault : FrontFault) → IsErr r × IsErrAnd r (λ made. made ≡ fault) → r ≡ Err fault
+pub passes : {T : Type 0} (r : Result T StreamFault) (fault : StreamFault) → IsErr r × IsErrAnd r (λ made. made ≡ fault) → r ≡ Err fault
 passes (Ok v) fault is = absurd is.1
 passes (Err made) fault is = ap Err is.1
 
@@ -159,7 +183,7 @@ module _ {D : Type 0} {device : D → DiskState} (turn : Turn device) (request :
   cut more last outcome gives took = inr (record { outcome = outcome; date = date; dated = dated; gives = gives; took = took })
 
   -- the plan was answered, and then the writer was flushed
-  pub finished : (kept : End) (status : ℕ) (out : Result ℕ FrontFault) → PlanEnds turn request.plan framing asked (Ok status)
+  pub finished : (kept : End) (status : StatusCode) (out : Result StatusCode StreamFault) → PlanEnds turn request.plan framing asked (Ok status)
       → OnOk out (failures kept ≡ failures after) → OnErr out (EndFailed after kept) → Keeps (watched after) (watched kept) → OnErr out (FlushFailed after kept)
       → MatchResult out (λ given. given ≡ status) (λ fault. fault ≡ Write)
       → RequestEnds turn request (record { left = left; rest = rest; before = before; after = kept }) out
@@ -194,7 +218,7 @@ module _ {D : Type 0} {device : D → DiskState} (turn : Turn device) (request :
       }
 
   -- it was not
-  pub passed_on : (fault : FrontFault) → PlanEnds turn request.plan framing asked (Err fault)
+  pub passed_on : (fault : StreamFault) → PlanEnds turn request.plan framing asked (Err fault)
       → RequestEnds turn request (record { left = left; rest = rest; before = before; after = after }) (Err fault)
   passed_on Read e =
       let broken = e.broken refl in record {
@@ -283,7 +307,7 @@ module _ {D : Type 0} {device : D → DiskState} (turn : Turn device) (recovers 
   all_reads more then = reads_behind_head read bytes more request asks ends.left behind ends.rest few sound then
 
   -- a request that was read was answered
-  pub served : (status : ℕ) → RequestEnds turn request later (Ok status) → Serves turn ends (Answered status)
+  pub served : (status : StatusCode) → RequestEnds turn request later (Ok status) → Serves turn ends (Answered status)
   served status e =
       let is = e.answered.2 in record {
         input = bytes ++ e.more;
@@ -304,7 +328,7 @@ module _ {D : Type 0} {device : D → DiskState} (turn : Turn device) (recovers 
       }
 
   -- the reader failed in its body
-  pub broken : (fault : FrontFault) → fault ≡ Read → RequestEnds turn request later (Err fault) → Breaks turn ends
+  pub broken : (fault : StreamFault) → fault ≡ Read → RequestEnds turn request later (Err fault) → Breaks turn ends
   broken Write is e = absurd cc
   broken Read is_read e =
       let is = e.broken refl in record {
@@ -327,7 +351,7 @@ module _ {D : Type 0} {device : D → DiskState} (turn : Turn device) (recovers 
   )
 
   -- the writer failed
-  pub halted : (fault : FrontFault) → fault ≡ Write → RequestEnds turn request later (Err fault) → Halts turn ends
+  pub halted : (fault : StreamFault) → fault ≡ Write → RequestEnds turn request later (Err fault) → Halts turn ends
   halted Read is e = absurd cc
   halted Write is e = record {
     input = bytes ++ e.more;

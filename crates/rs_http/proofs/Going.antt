@@ -17,11 +17,12 @@ use Rattle.rs_store.specs.Source.{Stored, Holds, state_of}
 use Rattle.rs_io.specs.Watch.{watched, Ends}
 use Rattle.rs_store.specs.declared.refusal.Refusal as stored
 use Rattle.rs_store.specs.declared.refusal.Refusal.TheVariants.{Closed, ReadFault, ShortBody, Device}
-use Rattle.rs_http.specs.declared.fault.FrontFault.{FrontFault}
-use Rattle.rs_http.specs.declared.fault.FrontFault.TheVariants.{Read, Write}
+use Rattle.rs_http.specs.declared.status.StatusCode.{StatusCode}
+use Rattle.rs_io.specs.declared.fault.StreamFault.{StreamFault}
+use Rattle.rs_io.specs.declared.fault.StreamFault.TheVariants.{Read, Write}
 use Rattle.rs_http.specs.declared.request.RequestPlan.{RequestPlan}
 use Rattle.rs_http.specs.declared.request.RequestPlan.TheVariants.{ShowBody, ShowDocument, Put, Delete, Publish, Group}
-use Rattle.rs_http.specs.declared.request.NoPlan.{NoPlan}
+use Rattle.rs_http.specs.declared.request.RequestFault.{RequestFault}
 use Rattle.rs_http.specs.declared.request.Request.{Request}
 use Rattle.rs_http.specs.Outcomes.{GroupComesTo, RequestGives}
 use Rattle.rs_store.specs.Advancing.{GoesOnBy, GoesOnOnce}
@@ -137,7 +138,7 @@ module _ {D : Type 0} {device : D → DiskState} (turn : Turn device) where
   group_goes n more rest outcome (inr asked) = run_goes (commands.Group asked.items) asked.comes.result asked.comes.answers
 
   -- the outcomes of a request
-  gives_goes : (plan : Result RequestPlan NoPlan) (more : List ℕ) (rest : Option (List ℕ)) (outcome : RequestOutcome)
+  gives_goes : (plan : Result RequestPlan RequestFault) (more : List ℕ) (rest : Option (List ℕ)) (outcome : RequestOutcome)
       → RequestGives turn plan more rest outcome → GoesOnOnce device turn.old turn.now turn.new
   gives_goes (Ok (ShowBody name)) more rest outcome gives = read_goes gives.1.answers.reads_only gives.1.answers.runs.now
   gives_goes (Ok (ShowDocument doc)) more rest outcome gives = same_goes gives.2
@@ -148,7 +149,7 @@ module _ {D : Type 0} {device : D → DiskState} (turn : Turn device) where
   gives_goes (Err reason) more rest outcome gives = same_goes gives.2
 
   -- a put or a group whose reader failed
-  broken_goes : (plan : Result RequestPlan NoPlan) (more : List ℕ) → IsBroken turn plan more → GoesOnOnce device turn.old turn.now turn.new
+  broken_goes : (plan : Result RequestPlan RequestFault) (more : List ℕ) → IsBroken turn plan more → GoesOnOnce device turn.old turn.now turn.new
   broken_goes (Ok (Put name kind n waits)) more broken = left_goes broken.left
   broken_goes (Ok (Group n waits)) more broken = same_goes broken.1
   broken_goes plan more broken = absurd broken
@@ -159,7 +160,7 @@ module _ {D : Type 0} {device : D → DiskState} (turn : Turn device) where
   stands_goes request more ends (inr cut) = gives_goes request.plan more (watched ends.rest) cut.outcome cut.gives
 
   -- each outcome of a request
-  pub request_goes : (request : Request) (ends : Ends) (result : Result ℕ FrontFault) → RequestEnds turn request ends result → GoesOnOnce device turn.old turn.now turn.new
+  pub request_goes : (request : Request) (ends : Ends) (result : Result StatusCode StreamFault) → RequestEnds turn request ends result → GoesOnOnce device turn.old turn.now turn.new
   request_goes request ends (Ok status) e = gives_goes request.plan e.more (watched ends.rest) e.answered.2.outcome e.answered.2.gives
   request_goes request ends (Err Read) e = broken_goes request.plan e.more (e.broken refl).1
   request_goes request ends (Err Write) e = stands_goes request e.more ends (e.stands refl)

@@ -14,6 +14,7 @@ use Rattle.rs_model.specs.declared.command.Refusal as model
 use Rattle.rs_model.specs.declared.command.Refusal.TheVariants as decides
 use Rattle.rs_model.specs.declared.command.Reply.{Reply}
 use Rattle.rs_items.specs.declared.item.ItemFault.{ItemFault}
+use Rattle.rs_items.specs.declared.item.ItemFault.TheVariants as faults
 use Rattle.rs_store.specs.Answered.{Answers}
 use Rattle.rs_store.specs.Commands.{IsCause, Leads}
 use Rattle.rs_store.specs.Refusals.{decided, or_spent, is_spent}
@@ -23,10 +24,9 @@ use Rattle.rs_store.specs.declared.refusal.Refusal.TheVariants.{Closed, BadGroup
 use Rattle.rs_http.specs.Turn.{Turn}
 use Rattle.rs_http.specs.Counted.{counted_group}
 use Rattle.rs_http.specs.Groups.{items_in, items_asked, IsUnread}
-use Rattle.rs_http.specs.Outcomes.{RunComesTo, UnaskedGroup, unplanned, reason_of_fault}
+use Rattle.rs_http.specs.Outcomes.{RunComesTo, UnaskedGroup, unplanned}
 use Rattle.rs_http.specs.Responses.{RequestOutcome, refused}
-use Rattle.rs_http.specs.declared.request.NoPlan.{NoPlan}
-use Rattle.rs_http.specs.declared.request.NoPlan.TheVariants as reasons
+use Rattle.rs_http.specs.declared.request.RequestFault.TheVariants.{Line}
 
 fewer : (m n : ℕ) → m < n → nat_eq m n ≡ false
 fewer m n l = grind (arith, nat_tests)
@@ -72,11 +72,11 @@ unread_unasked n came rest ShortBody other_than short = inl (short.0, short.1, r
 unread_unasked n came rest ReadFault other_than few = absurd (other_than refl)
 unread_unasked n came rest refusal other_than none = absurd none
 
--- items that were not read, by the reason
-pub faulty_unasked : (came : List ℕ) (rest : Option (List ℕ)) (reason : NoPlan) → (reason ≡ reasons.NoMemory) ⊎ ((fault : ItemFault) × (items_in came ≡ Err fault) × (reason ≡ reason_of_fault fault))
-    → UnaskedGroup (length came) came rest (unplanned reason)
-faulty_unasked came rest reason (inl lacking) = inr (inr (inr (refl, ap unplanned lacking)))
-faulty_unasked came rest reason (inr (fault, is, same)) = inr (inl (refl, fault, is, ap unplanned same))
+-- items that were not read, by the fault
+pub faulty_unasked : (came : List ℕ) (rest : Option (List ℕ)) (fault : ItemFault) → (fault ≡ faults.NoMemory) ⊎ (items_in came ≡ Err fault)
+    → UnaskedGroup (length came) came rest (unplanned (Line fault))
+faulty_unasked came rest fault (inl lacking) = inr (inr (inr (refl, ap (λ f. unplanned (Line f)) lacking)))
+faulty_unasked came rest fault (inr is) = inr (inl (refl, fault, is, refl))
 
 too_many : (n : ℕ) → 17 ≤ n → not (nat_le 1 n && nat_le n 16) ≡ true
 too_many n l = grind (arith, nat_tests)

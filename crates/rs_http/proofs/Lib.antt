@@ -12,5 +12,7 @@ pub mod Counting
 pub mod NamedDocuments
 pub mod Walks
 pub mod Running
+pub mod Seeing
 pub mod Replying
 pub mod CountedExamples
+pub mod ToldExamples

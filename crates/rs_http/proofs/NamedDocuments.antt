@@ -12,7 +12,7 @@ use Rattle.rs_http.specs.declared.head.HeadRead.{HeadRead}
 use Rattle.rs_http.specs.declared.head.HeadRead.TheVariants.{Whole, TooLong, Ended}
 use Rattle.rs_http.specs.declared.request.RequestPlan.{RequestPlan}
 use Rattle.rs_http.specs.declared.request.RequestPlan.TheVariants.{ShowBody, ShowDocument, Delete, Publish}
-use Rattle.rs_http.specs.declared.request.NoPlan.{NoPlan}
+use Rattle.rs_http.specs.declared.request.RequestFault.{RequestFault}
 use Rattle.rs_http.specs.declared.request.Request.{Request}
 use Rattle.rs_http.specs.Fields.{Parts, head_parts, values_of}
 use Rattle.rs_http.specs.Checks.{is_put, is_delete, stated_in, expects_word, put_plan, group_plan, resource_plan, plan_at, place_in, causes_of}
@@ -20,7 +20,7 @@ use Rattle.rs_http.specs.Requests.{IsPlanFor, Asks}
 use Rattle.rs_http.specs.Targets.{path_of_target, resource_place, document_place, place_of}
 
 -- a path can name each document that a request asks for
-abbrev pub HasPath : Result RequestPlan NoPlan → Type 0
+abbrev pub HasPath : Result RequestPlan RequestFault → Type 0
 HasPath (Ok (ShowDocument doc)) = HasCounts doc
 HasPath plan = Unit {0}
 
@@ -64,7 +64,7 @@ asked_at Grouping p plan h is =
 asked_at Unlawful p plan h is = absurd cc
 asked_at Nowhere p plan h is = absurd cc
 
-planned_has : (p : Parts) (plan : Result RequestPlan NoPlan) → IsPlanFor (causes_of p) (plan_at (place_in p) p) plan → HasPath plan
+planned_has : (p : Parts) (plan : Result RequestPlan RequestFault) → IsPlanFor (causes_of p) (plan_at (place_in p) p) plan → HasPath plan
 planned_has p (Ok plan) is = asked_at (place_in p) p plan (place_has (path_of_target p.target)) is.1
 planned_has p (Err reason) is = tt
 

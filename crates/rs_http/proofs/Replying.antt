@@ -1,7 +1,8 @@
 -- The reply that the outcome of a request tells.
 use Rattle.std.proofs.Common.{◌≡◌, ◌⊎◌, inl, inr, ◌≤◌, ℕ, Bool, true, false, List, [], ◌∷◌, ◌++◌, length, Option, Some, None, Result, Ok, Err, Vec, Global, refl, sym, ap, ◌∙◌, subst, cond, append-nil, append_assoc}
-use Rattle.std.proofs.KnownBytes.{Appends-nil}
-use Rattle.std.specs.Io.KnownBytes.{Appends}
+use Rattle.std.proofs.KnownBytes.{Consumes-trans, Appends-nil}
+use Rattle.std.proofs.lemmas.List.Elements.{All-nil, All-cons}
+use Rattle.std.specs.Io.KnownBytes.{Consumes, Appends}
 use Rattle.rs_disk.specs.Medium.{DiskState}
 use Rattle.rs_io.specs.Watch.{watched, End, Ends}
 use Rattle.rs_model.specs.State.{Source}
@@ -16,28 +17,33 @@ use Rattle.rs_store.specs.declared.refusal.Refusal as stored
 use Rattle.rs_store.specs.declared.refusal.Refusal.TheVariants.{Closed, ReadFault, ShortBody, NoMemory}
 use Rattle.rs_recovery.specs.Replies.{reply_in, RepliesInTurn, HasReplied, IdleHasNoReply, CommandHasReply, RepliesAreSeen}
 use Rattle.rs_recovery.specs.Turns.{ReadingsIdle, CutPutsIdle}
-use Rattle.rs_http.specs.declared.fault.FrontFault.{FrontFault}
-use Rattle.rs_http.specs.declared.fault.FrontFault.TheVariants.{Read, Write}
+use Rattle.rs_http.specs.declared.status.StatusCode.{StatusCode}
+use Rattle.rs_io.specs.declared.fault.StreamFault.{StreamFault}
+use Rattle.rs_io.specs.declared.fault.StreamFault.TheVariants.{Read, Write}
 use Rattle.rs_http.specs.declared.request.RequestPlan.{RequestPlan}
 use Rattle.rs_http.specs.declared.request.RequestPlan.TheVariants.{ShowBody, ShowDocument, Put, Delete, Publish, Group}
-use Rattle.rs_http.specs.declared.request.NoPlan.{NoPlan}
-use Rattle.rs_http.specs.declared.request.NoPlan.TheVariants.{Refused, NoMemory as NoPlanMemory}
+use Rattle.rs_http.specs.declared.request.RequestFault.{RequestFault}
+use Rattle.rs_items.specs.declared.item.ItemFault.TheVariants as faults
+use Rattle.rs_http.specs.declared.request.RequestFault.TheVariants.{Line}
+use Rattle.rs_http.specs.declared.head.HeadRead.{HeadRead}
 use Rattle.rs_http.specs.declared.request.Request.{Request}
 use Rattle.rs_http.specs.declared.response.Framing.{Framing}
 use Rattle.rs_http.specs.Outcomes.{outcome_replied, IsShownAs, RunComesTo, UnaskedGroup, GroupComesTo, document_or_none, unplanned, RequestGives}
+use Rattle.rs_http.specs.Requests.{Asks}
 use Rattle.rs_http.specs.Responses.{RequestOutcome, refused, response_text, go_on}
 use Rattle.rs_http.specs.Serving.{preface_of, IsBroken, IsUnsaid, IsCutOff, RequestEnds}
-use Rattle.rs_http.specs.Told.{told_by, TellsReply, RequestsReply, BrokenBodiesReplyNothing}
+use Rattle.rs_http.specs.Told.{told_by, IsAsked, TellsReply, RequestsReply, BrokenBodiesReplyNothing}
 use Rattle.rs_http.specs.Turn.{Turn}
+use Rattle.rs_http.proofs.Seeing.{is_asked}
 use Rattle.rs_http.proofs.Walks.{begins_one, some_of}
 
 told_reply : (result : Result Reply stored.Refusal) → told_by (outcome_replied result) ≡ reply_in result
 told_reply (Ok reply) = refl
 told_reply (Err refusal) = refl
 
-told_unplanned : (reason : NoPlan) → told_by (unplanned reason) ≡ []
-told_unplanned (Refused fault) = refl
-told_unplanned NoPlanMemory = refl
+told_unplanned : (fault : RequestFault) → told_by (unplanned fault) ≡ []
+told_unplanned (Line faults.NoMemory) = refl
+told_unplanned fault = refl
 
 told_found : (found : Option (List ℕ)) → told_by (document_or_none found) ≡ []
 told_found None = refl
@@ -53,7 +59,7 @@ told_body s name (Err refusal) outcome is = ap told_by is
 
 told_unasked : (n : ℕ) (came : List ℕ) (rest : Option (List ℕ)) (outcome : RequestOutcome) → UnaskedGroup n came rest outcome → told_by outcome ≡ []
 told_unasked n came rest outcome (inl short) = ap told_by short.2
-told_unasked n came rest outcome (inr (inl faulty)) = ap told_by faulty.3 ∙ told_unplanned _
+told_unasked n came rest outcome (inr (inl faulty)) = ap told_by faulty.3 ∙ told_unplanned (Line faulty.1)
 told_unasked n came rest outcome (inr (inr (inl body))) = ap told_by body.1
 told_unasked n came rest outcome (inr (inr (inr items))) = ap told_by items.1
 
@@ -91,7 +97,7 @@ module _ {D : Type 0} (device : D → DiskState) (rest : RestIsIdle device) (rea
   group_tells n more left outcome (inr asked) = run_tells (commands.Group asked.items) outcome asked.comes
 
   -- the outcomes of a request
-  pub request_tells : (plan : Result RequestPlan NoPlan) (more : List ℕ) (left : Option (List ℕ)) (outcome : RequestOutcome)
+  pub request_tells : (plan : Result RequestPlan RequestFault) (more : List ℕ) (left : Option (List ℕ)) (outcome : RequestOutcome)
       → RequestGives turn plan more left outcome → RepliesInTurn device turn.old (told_by outcome) turn.new
   unfolding Tells
   request_tells (Ok (ShowBody name)) more left outcome gives =
@@ -108,80 +114,99 @@ module _ {D : Type 0} (device : D → DiskState) (rest : RestIsIdle device) (rea
   request_tells (Err reason) more left outcome gives = idle_tells outcome (ap told_by gives.1 ∙ told_unplanned reason) (still gives.2)
 
   -- a put or a group whose reader failed
-  pub broken_tells : (plan : Result RequestPlan NoPlan) (more : List ℕ) → IsBroken turn plan more → RepliesInTurn device turn.old [] turn.new
+  pub broken_tells : (plan : Result RequestPlan RequestFault) (more : List ℕ) → IsBroken turn plan more → RepliesInTurn device turn.old [] turn.new
   broken_tells (Ok (Put name kind n waits)) more broken = idle turn.old turn.new (cut turn.old turn.new name kind n turn.now more (inl broken))
   broken_tells (Ok (Group n waits)) more broken = idle turn.old turn.new (still broken.1)
   broken_tells plan more broken = absurd broken
 
-preface_is : (plan : Result RequestPlan NoPlan) → (preface_of plan ≡ []) ⊎ (preface_of plan ≡ go_on)
+preface_is : (plan : Result RequestPlan RequestFault) → (preface_of plan ≡ []) ⊎ (preface_of plan ≡ go_on)
 preface_is (Ok (Put name kind n true)) = inr refl
 preface_is (Ok (Group n true)) = inr refl
 preface_is plan = inl refl
 
 -- what was written of them
 module _ {D : Type 0} {device : D → DiskState} (seen : RepliesAreSeen device) (replies : RequestsReply device) (broken : BrokenBodiesReplyNothing device) (turn : Turn device) where
-  -- no response
-  tells_none : (before after : End) (first part left_out : List ℕ) → (first ≡ []) ⊎ (first ≡ go_on) → RepliesInTurn device turn.old [] turn.new → part ++ left_out ≡ first
-      → Appends (watched before) (watched after) part → TellsReply device turn.old turn.new before after
-  tells_none before after first part left_out is turned bytes took = record {
-    outcomes = [];
-    replied = seen turn.old turn.new [] turned;
-    first = first;
-    first_is = is;
-    text = [];
-    text_is = refl;
-    part = part;
-    left_out = left_out;
-    bytes_are = bytes ∙ sym (append-nil first);
-    took = took;
-  }
-
-  -- one response
-  tells_one : (before after : End) (plan : Result RequestPlan NoPlan) (more : List ℕ) (rest : Option (List ℕ)) (outcome : RequestOutcome) (framing : Framing) (part left_out : List ℕ)
-      → RequestGives turn plan more rest outcome → part ++ left_out ≡ preface_of plan ++ response_text framing outcome
-      → Appends (watched before) (watched after) part → TellsReply device turn.old turn.new before after
-  tells_one before after plan more rest outcome framing part left_out gives bytes took = record {
-    outcomes = outcome ∷ [];
-    replied = subst (λ (l : List Reply). HasReplied device turn.old l turn.new) (sym (append-nil (told_by outcome)))
-        (seen turn.old turn.new (told_by outcome) (replies turn plan more rest outcome gives));
-    first = preface_of plan;
-    first_is = preface_is plan;
-    text = response_text framing outcome;
-    text_is = (framing, refl);
-    part = part;
-    left_out = left_out;
-    bytes_are = bytes;
-    took = took;
-  }
-
   quiet : turn.new ≡ turn.old → RepliesInTurn device turn.old [] turn.new
-  quiet same = replies turn (Err NoPlanMemory) [] None (refused NoMemory) (refl, refl, same)
+  quiet same = replies turn (Err (Line faults.NoMemory)) [] None (refused NoMemory) (refl, refl, same)
+
+  -- these bytes came
+  module _ (ends : Ends) (input : List ℕ) (came : Consumes (watched ends.left) (watched ends.rest) input) where
+    -- no response
+    tells_none : (first part left_out : List ℕ) → (first ≡ []) ⊎ (first ≡ go_on) → RepliesInTurn device turn.old [] turn.new → part ++ left_out ≡ first
+        → Appends (watched ends.before) (watched ends.after) part → TellsReply device turn.old turn.new ends
+    tells_none first part left_out is turned bytes took = record {
+      outcomes = [];
+      replied = seen turn.old turn.new [] turned;
+      input = input;
+      came = came;
+      asked = All-nil (IsAsked input);
+      first = first;
+      first_is = is;
+      text = [];
+      text_is = refl;
+      part = part;
+      left_out = left_out;
+      bytes_are = bytes ∙ sym (append-nil first);
+      took = took;
+    }
+
+    -- one response
+    tells_one : (plan : Result RequestPlan RequestFault) (more : List ℕ) (rest : Option (List ℕ)) (outcome : RequestOutcome) (framing : Framing) (part left_out : List ℕ)
+        → RequestGives turn plan more rest outcome → IsAsked input outcome → part ++ left_out ≡ preface_of plan ++ response_text framing outcome
+        → Appends (watched ends.before) (watched ends.after) part → TellsReply device turn.old turn.new ends
+    tells_one plan more rest outcome framing part left_out gives asked bytes took = record {
+      outcomes = outcome ∷ [];
+      replied = subst (λ (l : List Reply). HasReplied device turn.old l turn.new) (sym (append-nil (told_by outcome)))
+          (seen turn.old turn.new (told_by outcome) (replies turn plan more rest outcome gives));
+      input = input;
+      came = came;
+      asked = All-cons (IsAsked input) outcome [] asked (All-nil (IsAsked input));
+      first = preface_of plan;
+      first_is = preface_is plan;
+      text = response_text framing outcome;
+      text_is = (framing, refl);
+      part = part;
+      left_out = left_out;
+      bytes_are = bytes;
+      took = took;
+    }
 
   -- nothing was written
-  pub silent_tells : (end : End) → turn.new ≡ turn.old → TellsReply device turn.old turn.new end end
-  silent_tells end same = tells_none end end [] [] [] (inl refl) (quiet same) refl (Appends-nil (watched end))
+  pub silent_tells : (left rest end : End) (input : List ℕ) → Consumes (watched left) (watched rest) input → turn.new ≡ turn.old
+      → TellsReply device turn.old turn.new (record { left = left; rest = rest; before = end; after = end })
+  silent_tells left rest end input came same =
+      tells_none (record { left = left; rest = rest; before = end; after = end }) input came [] [] [] (inl refl) (quiet same) refl (Appends-nil (watched end))
 
-  stands_tells : (request : Request) (more : List ℕ) (ends : Ends) → IsUnsaid turn request more ends ⊎ IsCutOff turn request more ends
-      → TellsReply device turn.old turn.new ends.before ends.after
-  stands_tells request more ends (inl unsaid) =
-      let took = unsaid.3 in
-      tells_none ends.before ends.after go_on took.part took.left_out (inr refl) (quiet unsaid.2) took.bytes_are took.took
-  stands_tells request more ends (inr off) =
-      let took = off.took in
-      let framing : Framing = record { date = off.date; is_head = request.is_head } in
-      let first = preface_of request.plan in
-      tells_one ends.before ends.after request.plan more (watched ends.rest) off.outcome framing (first ++ took.part) took.left_out off.gives
-      (append_assoc first took.part took.left_out ∙ ap (λ l. first ++ l) took.bytes_are) took.took
+  -- a request was read from a head
+  module _ (ends : Ends) (behind : End) (request : Request) (bytes : List ℕ) (read : HeadRead) (came : Consumes (watched ends.left) (watched behind) bytes)
+      (asks : Asks bytes read (Some request)) where
+    abbrev later : Ends
+    later = record { left = behind; rest = ends.rest; before = ends.before; after = ends.after }
 
-  -- each outcome of a request
-  pub ends_tell : (request : Request) (ends : Ends) (result : Result ℕ FrontFault) → RequestEnds turn request ends result
-      → TellsReply device turn.old turn.new ends.before ends.after
-  ends_tell request ends (Ok status) e =
-      let is = e.answered.2 in
-      tells_one ends.before ends.after request.plan e.more (watched ends.rest) is.outcome (record { date = is.date; is_head = request.is_head }) e.answered.0 []
-      is.gives (append-nil e.answered.0 ∙ is.written) e.answered.1
-  ends_tell request ends (Err Read) e =
-      let is = e.broken refl in
-      let first = preface_of request.plan in
-      tells_none ends.before ends.after first first [] (preface_is request.plan) (broken turn request.plan e.more is.1) (append-nil first) is.0
-  ends_tell request ends (Err Write) e = stands_tells request e.more ends (e.stands refl)
+    all_came : (more : List ℕ) → Consumes (watched behind) (watched ends.rest) more → Consumes (watched ends.left) (watched ends.rest) (bytes ++ more)
+    all_came more then = Consumes-trans (watched ends.left) (watched behind) (watched ends.rest) bytes more came then
+
+    stands_tells : (more : List ℕ) → Consumes (watched behind) (watched ends.rest) more → IsUnsaid turn request more later ⊎ IsCutOff turn request more later
+        → TellsReply device turn.old turn.new ends
+    stands_tells more then (inl unsaid) =
+        let took = unsaid.3 in
+        tells_none ends (bytes ++ more) (all_came more then) go_on took.part took.left_out (inr refl) (quiet unsaid.2) took.bytes_are took.took
+    stands_tells more then (inr off) =
+        let took = off.took in
+        let framing : Framing = record { date = off.date; is_head = request.is_head } in
+        let first = preface_of request.plan in
+        tells_one ends (bytes ++ more) (all_came more then) request.plan more (watched ends.rest) off.outcome framing (first ++ took.part) took.left_out off.gives
+        (is_asked turn bytes read request asks more (watched ends.rest) off.outcome off.gives)
+        (append_assoc first took.part took.left_out ∙ ap (λ l. first ++ l) took.bytes_are) took.took
+
+    -- each outcome of a request
+    pub ends_tell : (result : Result StatusCode StreamFault) → RequestEnds turn request later result → TellsReply device turn.old turn.new ends
+    ends_tell (Ok status) e =
+        let is = e.answered.2 in
+        tells_one ends (bytes ++ e.more) (all_came e.more e.came) request.plan e.more (watched ends.rest) is.outcome (record { date = is.date; is_head = request.is_head }) e.answered.0 []
+        is.gives (is_asked turn bytes read request asks e.more (watched ends.rest) is.outcome is.gives) (append-nil e.answered.0 ∙ is.written) e.answered.1
+    ends_tell (Err Read) e =
+        let is = e.broken refl in
+        let first = preface_of request.plan in
+        tells_none ends (bytes ++ e.more) (all_came e.more e.came) first first [] (preface_is request.plan) (broken turn request.plan e.more is.1) (append-nil first) is.0
+    ends_tell (Err Write) e = stands_tells e.more e.came (e.stands refl)

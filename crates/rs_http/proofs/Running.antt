@@ -6,13 +6,13 @@ use Rattle.rs_model.specs.declared.command.Command.{Command}
 use Rattle.rs_model.specs.declared.command.Command.TheVariants as commands
 use Rattle.rs_model.specs.declared.command.Item.{Item}
 use Rattle.rs_store.specs.declared.refusal.Refusal.TheVariants.{Device}
-use Rattle.rs_http.specs.declared.fault.FrontFault.{FrontFault}
-use Rattle.rs_http.specs.declared.fault.FrontFault.TheVariants.{Read, Write}
+use Rattle.rs_http.specs.declared.status.StatusCode.{StatusCode}
+use Rattle.rs_io.specs.declared.fault.StreamFault.{StreamFault}
+use Rattle.rs_io.specs.declared.fault.StreamFault.TheVariants.{Read, Write}
 use Rattle.rs_http.specs.declared.request.RequestFault.TheVariants.{BadHead}
 use Rattle.rs_http.specs.declared.request.RequestPlan.{RequestPlan}
 use Rattle.rs_http.specs.declared.request.RequestPlan.TheVariants.{ShowBody, ShowDocument, Put, Delete, Publish, Group}
-use Rattle.rs_http.specs.declared.request.NoPlan.{NoPlan}
-use Rattle.rs_http.specs.declared.request.NoPlan.TheVariants.{Refused}
+use Rattle.rs_http.specs.declared.request.RequestFault.{RequestFault}
 use Rattle.rs_http.specs.declared.request.Request.{Request}
 use Rattle.rs_http.specs.Groups.{items_asked}
 use Rattle.rs_http.specs.Outcomes.{RequestGives}
@@ -34,7 +34,7 @@ few_grouped (Some items) now outcome = few (commands.Group items) now outcome
 
 module _ {D : Type 0} {device : D → DiskState} (runs : RequestsAreRuns device) (cut : BrokenBodiesAreRuns device) (turn : Turn device) where
   -- the command that counts, or none
-  some_counted : (plan : Result RequestPlan NoPlan) (more : List ℕ) (rest : Option (List ℕ)) (outcome : RequestOutcome) → RequestGives turn plan more rest outcome
+  some_counted : (plan : Result RequestPlan RequestFault) (more : List ℕ) (rest : Option (List ℕ)) (outcome : RequestOutcome) → RequestGives turn plan more rest outcome
       → (counted : List (Command × ℕ)) × (length counted ≤ 1) × Counts turn.now plan more outcome counted
   some_counted (Ok (ShowBody name)) more rest outcome gives = ([], omega arith, refl)
   some_counted (Ok (ShowDocument doc)) more rest outcome gives = ([], omega arith, refl)
@@ -49,7 +49,7 @@ module _ {D : Type 0} {device : D → DiskState} (runs : RequestsAreRuns device)
       (counted_group (items_asked n more) turn.now outcome, few_grouped (items_asked n more) turn.now outcome, refl)
   some_counted (Err reason) more rest outcome gives = ([], omega arith, refl)
 
-  gives_runs : (plan : Result RequestPlan NoPlan) (more : List ℕ) (rest : Option (List ℕ)) (outcome : RequestOutcome) → RequestGives turn plan more rest outcome
+  gives_runs : (plan : Result RequestPlan RequestFault) (more : List ℕ) (rest : Option (List ℕ)) (outcome : RequestOutcome) → RequestGives turn plan more rest outcome
       → RunsAtMost device turn.old 1 turn.new
   gives_runs plan more rest outcome gives =
       let some = some_counted plan more rest outcome gives in
@@ -57,14 +57,14 @@ module _ {D : Type 0} {device : D → DiskState} (runs : RequestsAreRuns device)
 
   -- nothing was done, as for a head that asks for nothing
   pub still_runs : turn.new ≡ turn.old → RunsAtMost device turn.old 1 turn.new
-  still_runs same = gives_runs (Err (Refused BadHead)) [] None (faulted BadHead) (refl, refl, same)
+  still_runs same = gives_runs (Err BadHead) [] None (faulted BadHead) (refl, refl, same)
 
   stands_runs : (request : Request) (more : List ℕ) (ends : Ends) → IsUnsaid turn request more ends ⊎ IsCutOff turn request more ends → RunsAtMost device turn.old 1 turn.new
   stands_runs request more ends (inl unsaid) = still_runs unsaid.2
   stands_runs request more ends (inr off) = gives_runs request.plan more (watched ends.rest) off.outcome off.gives
 
   -- each outcome of a request
-  pub request_runs : (request : Request) (ends : Ends) (result : Result ℕ FrontFault) → RequestEnds turn request ends result → RunsAtMost device turn.old 1 turn.new
+  pub request_runs : (request : Request) (ends : Ends) (result : Result StatusCode StreamFault) → RequestEnds turn request ends result → RunsAtMost device turn.old 1 turn.new
   request_runs request ends (Ok status) e = gives_runs request.plan e.more (watched ends.rest) e.answered.2.outcome e.answered.2.gives
   request_runs request ends (Err Read) e = ([], omega arith, cut turn request.plan e.more (e.broken refl).1)
   request_runs request ends (Err Write) e = stands_runs request e.more ends (e.stands refl)

@@ -32,7 +32,7 @@ use Rattle.rs_recovery.specs.Walked.{CommandEvents, LeavesWalk, CommandsMakeWalk
 use Rattle.rs_http.proofs.FromBelow.{told, walked}
 use Rattle.rs_http.specs.declared.request.RequestPlan.{RequestPlan}
 use Rattle.rs_http.specs.declared.request.RequestPlan.TheVariants.{ShowBody, ShowDocument, Put, Delete, Publish, Group}
-use Rattle.rs_http.specs.declared.request.NoPlan.{NoPlan}
+use Rattle.rs_http.specs.declared.request.RequestFault.{RequestFault}
 use Rattle.rs_http.specs.Turn.{Turn}
 use Rattle.rs_http.specs.Groups.{items_asked}
 use Rattle.rs_http.specs.Outcomes.{outcome_replied, IsShownAs, RunComesTo, UnaskedGroup, GroupComesTo, document_or_none, document_shown, RequestGives}
@@ -81,7 +81,7 @@ module _ {D : Type 0} {device : D → DiskState} (turn : Turn device) where
   some_of name kind n came (Err ShortBody) a = omega (arith, a.fewer)
   some_of name kind n came (Err refusal) a = may_fit n came refusal a.0
 
-  pub some_body : (plan : Result RequestPlan NoPlan) (more : List ℕ) (rest : Option (List ℕ)) (outcome : RequestOutcome) → RequestGives turn plan more rest outcome
+  pub some_body : (plan : Result RequestPlan RequestFault) (more : List ℕ) (rest : Option (List ℕ)) (outcome : RequestOutcome) → RequestGives turn plan more rest outcome
       → (body : List ℕ) × IsBodyFor plan more body
   some_body (Ok (Put name kind n waits)) more rest outcome gives = begins_one n more (some_of name kind n more gives.0.result gives.0.answers)
   some_body (Ok (Group n waits)) more rest outcome gives = (more, refl)
@@ -187,7 +187,7 @@ module _ {D : Type 0} (device : D → DiskState) (sound : (disk : D) → IsMediu
       let P : RequestOutcome → Type 0 = λ o. LeavesWalk device s (ShowEvents is_head s (body_path name) o) turn.new in
       subst P (sym is) (unshown_walk is_head (body_path name) refusal ((reading turn.old turn.new a.reads_only).holds s holds).0)
 
-  plan_walk : (is_head : Bool) (plan : Result RequestPlan NoPlan) (more : List ℕ) (rest : Option (List ℕ)) (outcome : RequestOutcome) (body : List ℕ) → HasPath plan
+  plan_walk : (is_head : Bool) (plan : Result RequestPlan RequestFault) (more : List ℕ) (rest : Option (List ℕ)) (outcome : RequestOutcome) (body : List ℕ) → HasPath plan
       → RequestGives turn plan more rest outcome → IsTrue (device turn.new.disk).honest → IsBodyFor plan more body
       → LeavesWalk device s (PlanEvents is_head s turn.now plan body outcome) turn.new
   plan_walk is_head (Ok (ShowBody name)) more rest outcome body has gives honest is =
@@ -203,7 +203,7 @@ module _ {D : Type 0} (device : D → DiskState) (sound : (disk : D) → IsMediu
   plan_walk is_head (Err reason) more rest outcome body has gives honest is =
       nothing (PlanEvents is_head s turn.now (Err reason) body outcome) refl (same_held gives.2)
 
-  broken_walk : (plan : Result RequestPlan NoPlan) (more : List ℕ) → IsBroken turn plan more → LeavesWalk device s (λ events. events ≡ []) turn.new
+  broken_walk : (plan : Result RequestPlan RequestFault) (more : List ℕ) → IsBroken turn plan more → LeavesWalk device s (λ events. events ≡ []) turn.new
   broken_walk (Ok (Put name kind n waits)) more broken = nothing (λ events. events ≡ []) refl (broken.left.holds s holds).0
   broken_walk (Ok (Group n waits)) more broken = nothing (λ events. events ≡ []) refl (same_held broken.1)
   broken_walk plan more broken = absurd broken

@@ -5,11 +5,12 @@ use Rattle.std.specs.Str.{str_eq_ignore_ascii_case}
 use Rattle.rs_record.specs.Decimal.{number_in}
 use Rattle.rs_record.specs.MediaType.{is_media_type}
 use Rattle.rs_record.specs.Limits.{longest_body}
+use Rattle.rs_items.specs.declared.item.ItemFault.TheVariants.{BadName, BadType}
 use Rattle.rs_http.specs.declared.target.Place.{Place}
 use Rattle.rs_http.specs.declared.target.Place.TheVariants.{Resource, Unlawful, Document, Publishing, Grouping, Nowhere}
 use Rattle.rs_http.specs.declared.target.Methods.TheVariants.{OfResources, OfDocuments, OfPosts}
 use Rattle.rs_http.specs.declared.request.RequestFault.{RequestFault}
-use Rattle.rs_http.specs.declared.request.RequestFault.TheVariants.{ManyFields, BadHost, TransferEncoding, BadLength, BadName, NoSuchDocument, BadMethod, NoLength, BadType, TooLong}
+use Rattle.rs_http.specs.declared.request.RequestFault.TheVariants.{ManyFields, BadHost, TransferEncoding, BadLength, NoSuchDocument, BadMethod, NoLength, TooLong, Line}
 use Rattle.rs_http.specs.declared.request.RequestPlan.{RequestPlan}
 use Rattle.rs_http.specs.declared.request.RequestPlan.TheVariants.{ShowBody, ShowDocument, Put, Delete, Publish, Group}
 use Rattle.rs_http.specs.Fields.{Pairs, Parts, values_of}
@@ -105,7 +106,7 @@ field_causes p =
 
 -- the causes of a PUT, in their order: no length, an unlawful type or a second one, and too long a body
 abbrev pub put_head_causes : Option ℕ → List (List ℕ) → Causes
-put_head_causes stated kinds = (is_none stated, NoLength) ∷ (is_bad_type kinds, BadType) ∷ (is_too_long stated, TooLong) ∷ []
+put_head_causes stated kinds = (is_none stated, NoLength) ∷ (is_bad_type kinds, Line BadType) ∷ (is_too_long stated, TooLong) ∷ []
 
 abbrev pub put_head_causes_in : Parts → Causes
 put_head_causes_in p = put_head_causes (stated_in p) (kinds_in p.fields)
@@ -118,7 +119,7 @@ group_head_causes stated = (is_none stated, NoLength) ∷ (is_too_long stated, T
 abbrev pub place_causes : Place → Parts → Causes
 place_causes (Resource name) p =
     (not (is_get p.method || is_put p.method || is_delete p.method), BadMethod OfResources) ∷ (if is_put p.method then put_head_causes_in p else [])
-place_causes Unlawful p = (true, BadName) ∷ []
+place_causes Unlawful p = (true, Line BadName) ∷ []
 place_causes (Document doc) p = (not (is_get p.method), BadMethod OfDocuments) ∷ []
 place_causes Publishing p = (not (is_post p.method), BadMethod OfPosts) ∷ []
 place_causes Grouping p = (not (is_post p.method), BadMethod OfPosts) ∷ group_head_causes (stated_in p)

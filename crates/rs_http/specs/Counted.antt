@@ -10,7 +10,7 @@ use Rattle.rs_store.specs.Source.{Stored}
 use Rattle.rs_recovery.specs.Prefixes.{IsRunOf, Recovers}
 use Rattle.rs_http.specs.declared.request.RequestPlan.{RequestPlan}
 use Rattle.rs_http.specs.declared.request.RequestPlan.TheVariants.{ShowBody, ShowDocument, Put, Delete, Publish, Group}
-use Rattle.rs_http.specs.declared.request.NoPlan.{NoPlan}
+use Rattle.rs_http.specs.declared.request.RequestFault.{RequestFault}
 use Rattle.rs_http.specs.Groups.{items_asked}
 use Rattle.rs_http.specs.Turn.{Turn}
 use Rattle.rs_http.specs.Responses.{RequestOutcome, replied, refused}
@@ -28,7 +28,7 @@ counted_group (Some items) now outcome = counted_with (commands.Group items) now
 
 -- The commands of a request that count, one or none. Where a put was answered before its whole body was read, it counts
 -- with any body that begins so.
-abbrev pub Counts : ℕ → Result RequestPlan NoPlan → List ℕ → RequestOutcome → List (Command × ℕ) → Type 0
+abbrev pub Counts : ℕ → Result RequestPlan RequestFault → List ℕ → RequestOutcome → List (Command × ℕ) → Type 0
 Counts now (Ok (Put name kind n waits)) more outcome counted =
     (body : List ℕ) × IsBodyOf n more body × (counted ≡ counted_with (commands.Put name kind body) now outcome)
 Counts now (Ok (Delete name)) more outcome counted = counted ≡ counted_with (commands.Delete name) now outcome
@@ -40,7 +40,7 @@ Counts now (Err reason) more outcome counted = counted ≡ []
 
 -- Whenever the disk stops within a request, it holds the state before, or the state after the command of the request
 -- that counts.
-abbrev pub RequestRecovers : {D : Type 0} {device : D → DiskState} → Turn device → Result RequestPlan NoPlan → List ℕ → RequestOutcome → Type 0
+abbrev pub RequestRecovers : {D : Type 0} {device : D → DiskState} → Turn device → Result RequestPlan RequestFault → List ℕ → RequestOutcome → Type 0
 RequestRecovers {device = device} turn plan more outcome =
     (counted : List (Command × ℕ)) → Counts turn.now plan more outcome counted → Recovers device turn.old counted turn.new
 

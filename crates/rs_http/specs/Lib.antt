@@ -4,6 +4,7 @@ pub mod Targets
 pub mod Checks
 pub mod Groups
 pub mod Requests
+pub mod Statuses
 pub mod Responses
 pub mod Outcomes
 pub mod Counted

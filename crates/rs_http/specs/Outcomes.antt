@@ -22,17 +22,17 @@ use Rattle.rs_store.specs.declared.refusal.Refusal as stored
 use Rattle.rs_store.specs.declared.refusal.Refusal.TheVariants.{Closed, ReadFault, ShortBody, NoMemory}
 use Rattle.rs_io.specs.declared.watch.Watched.{Watched}
 use Rattle.rs_io.specs.Watch.{WritesOut}
-use Rattle.rs_http.specs.declared.fault.FrontFault.{FrontFault}
-use Rattle.rs_http.specs.declared.fault.FrontFault.TheVariants.{Write}
+use Rattle.rs_io.specs.declared.fault.StreamFault.{StreamFault}
+use Rattle.rs_io.specs.declared.fault.StreamFault.TheVariants.{Write}
 use Rattle.rs_http.specs.declared.request.RequestPlan.{RequestPlan}
 use Rattle.rs_http.specs.declared.request.RequestPlan.TheVariants.{ShowBody, ShowDocument, Put, Delete, Publish, Group}
-use Rattle.rs_http.specs.declared.request.NoPlan.{NoPlan}
-use Rattle.rs_http.specs.declared.request.NoPlan.TheVariants.{Refused, NoMemory as NoPlanMemory}
-use Rattle.rs_http.specs.declared.request.RequestFault.TheVariants.{NoSuchDocument, BadLine, BadName, BadHex, BadType}
+use Rattle.rs_http.specs.declared.request.RequestFault.{RequestFault}
+use Rattle.rs_http.specs.declared.request.RequestFault.TheVariants.{NoSuchDocument, Line}
 use Rattle.rs_http.specs.declared.response.Framing.{Framing}
+use Rattle.rs_http.specs.declared.status.StatusCode.{StatusCode}
 use Rattle.rs_http.specs.Groups.{items_in}
 use Rattle.rs_http.specs.Turn.{Turn}
-use Rattle.rs_http.specs.Responses.{RequestOutcome, faulted, replied, shown, refused, status_code, response_text}
+use Rattle.rs_http.specs.Responses.{RequestOutcome, faulted, replied, shown, refused, status_of, response_text}
 
 -- the outcome by the answer to a command
 abbrev pub outcome_replied : Result Reply stored.Refusal → RequestOutcome
@@ -73,18 +73,10 @@ abbrev pub document_shown : {D : Type 0} → (D → DiskState) → Stored D → 
 document_shown device old doc =
     if old.is_closed then refused Closed else document_or_none (document_text (shown_of (state_of device old)) doc)
 
--- why a group has no plan, by the fault of a line
-abbrev pub reason_of_fault : ItemFault → NoPlan
-reason_of_fault faults.BadLine = Refused BadLine
-reason_of_fault faults.BadName = Refused BadName
-reason_of_fault faults.BadHex = Refused BadHex
-reason_of_fault faults.BadType = Refused BadType
-reason_of_fault faults.NoMemory = NoPlanMemory
-
 -- the outcome of a request that has no plan
-abbrev pub unplanned : NoPlan → RequestOutcome
-unplanned (Refused fault) = faulted fault
-unplanned NoPlanMemory = refused NoMemory
+abbrev pub unplanned : RequestFault → RequestOutcome
+unplanned (Line faults.NoMemory) = refused NoMemory
+unplanned fault = faulted fault
 
 -- the input ended within a body of n bytes, of which these came
 abbrev pub BodyIsShort : ℕ → List ℕ → Option (List ℕ) → RequestOutcome → Type 0
@@ -92,7 +84,7 @@ BodyIsShort n came rest outcome = (length came < n) × IsAtEnd rest × (outcome 
 
 -- the body of n bytes came whole, and this is the first fault of its lines
 abbrev pub BodyIsFaulty : ℕ → List ℕ → RequestOutcome → Type 0
-BodyIsFaulty n came outcome = (length came ≡ n) × (fault : ItemFault) × (items_in came ≡ Err fault) × (outcome ≡ unplanned (reason_of_fault fault))
+BodyIsFaulty n came outcome = (length came ≡ n) × (fault : ItemFault) × (items_in came ≡ Err fault) × (outcome ≡ unplanned (Line fault))
 
 -- there was no memory for the body, and no byte of it was read
 abbrev pub BodyLacksMemory : List ℕ → RequestOutcome → Type 0
@@ -133,20 +125,20 @@ PlanGives turn Publish more rest outcome = (more ≡ []) × RunComesTo turn comm
 PlanGives turn (Group n waits) more rest outcome = GroupComesTo turn n more rest outcome
 
 -- the possible outcomes of a request; without a plan nothing is read or done
-abbrev pub RequestGives : {D : Type 0} {device : D → DiskState} → Turn device → Result RequestPlan NoPlan → List ℕ → Option (List ℕ) → RequestOutcome → Type 0
+abbrev pub RequestGives : {D : Type 0} {device : D → DiskState} → Turn device → Result RequestPlan RequestFault → List ℕ → Option (List ℕ) → RequestOutcome → Type 0
 RequestGives turn (Ok plan) more rest outcome = PlanGives turn plan more rest outcome
 RequestGives turn (Err reason) more rest outcome = (more ≡ []) × (outcome ≡ unplanned reason) × (turn.new ≡ turn.old)
 
 -- the response to an outcome was written, and this is its status; or the writer failed within it
-abbrev pub Sends : {W : Type 0} → (W → Option (List ℕ)) → Watched W → Watched W → Framing → RequestOutcome → Result ℕ FrontFault → Type 0
+abbrev pub Sends : {W : Type 0} → (W → Option (List ℕ)) → Watched W → Watched W → Framing → RequestOutcome → Result StatusCode StreamFault → Type 0
 Sends contents old new framing outcome result =
-    IfOk result (λ status. status ≡ status_code outcome)
+    IfOk result (λ status. status ≡ status_of outcome)
     × WritesOut contents old new result (response_text framing outcome)
     × IfErr result (λ fault. fault ≡ Write)
 
 -- an outcome with this property is answered
 pub record Responds {W : Type 0} (contents : W → Option (List ℕ)) (old new : Watched W) (framing : Framing) (comes : RequestOutcome → Type 0)
-    (result : Result ℕ FrontFault) : Type 0 where
+    (result : Result StatusCode StreamFault) : Type 0 where
   pub outcome : RequestOutcome
   pub comes_of_it : comes outcome
   pub sends : Sends contents old new framing outcome result

@@ -5,11 +5,12 @@ use Rattle.rs_http.specs.declared.head.HeadRead.{HeadRead}
 use Rattle.rs_http.specs.declared.head.HeadRead.TheVariants.{Whole, TooLong, Ended}
 use Rattle.rs_http.specs.declared.target.Place.{Place}
 use Rattle.rs_http.specs.declared.request.RequestFault.{RequestFault}
-use Rattle.rs_http.specs.declared.request.RequestFault.TheVariants.{HeadTooLong, BadHead, BadType}
+use Rattle.rs_http.specs.declared.request.RequestFault.TheVariants.{HeadTooLong, BadHead, Line}
 use Rattle.rs_http.specs.declared.request.RequestPlan.{RequestPlan}
 use Rattle.rs_http.specs.declared.request.RequestPlan.TheVariants.{ShowBody, Put, Delete}
-use Rattle.rs_http.specs.declared.request.NoPlan.{NoPlan}
-use Rattle.rs_http.specs.declared.request.NoPlan.TheVariants.{Refused, NoMemory}
+use Rattle.rs_record.specs.declared.fault.ValueFault.{ValueFault}
+use Rattle.rs_record.specs.declared.fault.ValueFault.TheVariants as types
+use Rattle.rs_items.specs.declared.item.ItemFault.TheVariants.{NoMemory}
 use Rattle.rs_http.specs.declared.request.Request.{Request}
 use Rattle.rs_http.specs.Fields.{Parts, head_parts}
 use Rattle.rs_http.specs.Checks.{Causes, first_fault, causes_of, put_head_causes, place_causes, is_bad_type, stated_type, place_in, put_plan, plan_at}
@@ -23,26 +24,26 @@ TakesMemory plan = ⊥
 
 -- A request with these causes is refused for the first that applies, or has this plan. Where none applies, there may be
 -- no memory for a plan that takes some.
-abbrev pub IsPlanFor : Causes → Option RequestPlan → Result RequestPlan NoPlan → Type 0
+abbrev pub IsPlanFor : Causes → Option RequestPlan → Result RequestPlan RequestFault → Type 0
 IsPlanFor causes plan (Ok made) = (first_fault causes ≡ None) × (plan ≡ Some made)
-IsPlanFor causes plan (Err (Refused fault)) = first_fault causes ≡ Some fault
-IsPlanFor causes plan (Err NoMemory) = (first_fault causes ≡ None) × TakesMemory plan
+IsPlanFor causes plan (Err fault) =
+    (first_fault causes ≡ Some fault) ⊎ ((fault ≡ Line NoMemory) × (first_fault causes ≡ None) × TakesMemory plan)
 
 -- the plan of a put to this name, by the length and the types that the fields state, and by whether the client expects
 -- the word to go on
-abbrev pub IsPutPlan : List ℕ → Option ℕ → List (List ℕ) → Bool → Result RequestPlan NoPlan → Type 0
+abbrev pub IsPutPlan : List ℕ → Option ℕ → List (List ℕ) → Bool → Result RequestPlan RequestFault → Type 0
 IsPutPlan name stated kinds expects made =
     IsPlanFor (put_head_causes stated kinds) (Some (put_plan name kinds (unwrap_or stated 0) expects)) made
 
 -- the plan of a request for this place, by the parts of its head
-abbrev pub IsPlanAt : Place → Parts → Result RequestPlan NoPlan → Type 0
+abbrev pub IsPlanAt : Place → Parts → Result RequestPlan RequestFault → Type 0
 IsPlanAt place p made = IsPlanFor (place_causes place p) (plan_at place p) made
 
 -- the type that the fields state for a body, or why there is none; there may be no memory for a lawful type
-abbrev pub TypeIs : List (List ℕ) → Result (List ℕ) NoPlan → Type 0
+abbrev pub TypeIs : List (List ℕ) → Result (List ℕ) ValueFault → Type 0
 TypeIs kinds (Ok kind) = (is_bad_type kinds ≡ false) × (kind ≡ stated_type kinds)
-TypeIs kinds (Err (Refused fault)) = (is_bad_type kinds ≡ true) × (fault ≡ BadType)
-TypeIs kinds (Err NoMemory) = is_bad_type kinds ≡ false
+TypeIs kinds (Err types.Malformed) = is_bad_type kinds ≡ true
+TypeIs kinds (Err types.NoMemory) = is_bad_type kinds ≡ false
 
 -- what this head asks for: whether its method is HEAD, and its plan
 pub record IsRequestOf (p : Parts) (request : Request) : Type 0 where
@@ -51,7 +52,7 @@ pub record IsRequestOf (p : Parts) (request : Request) : Type 0 where
 
 -- a request that is refused before its head is known
 abbrev pub refused_for : RequestFault → Request
-refused_for fault = record { is_head = false; plan = Err (Refused fault) }
+refused_for fault = record { is_head = false; plan = Err fault }
 
 -- what a head asks for, by the grammar of RFC 9112
 abbrev pub AsksFor : List ℕ → Request → Type 0

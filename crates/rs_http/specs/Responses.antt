@@ -1,5 +1,5 @@
 -- The outcomes of requests, and the texts of the responses (RFC 9110 and RFC 9112).
-use Rattle.std.specs.Prelude.{ℕ, ◌==◌, List, [], ◌∷◌, ◌++◌, length, codes, if◌then◌else◌}
+use Rattle.std.specs.Prelude.{ℕ, List, [], ◌∷◌, ◌++◌, length, codes, if◌then◌else◌}
 use Rattle.std.specs.Fmt.{decimal}
 use Rattle.httpdate.specs.Date.{date_text}
 use Rattle.rs_time.specs.Moment.{moment_text}
@@ -8,11 +8,16 @@ use Rattle.rs_model.specs.declared.command.Reply.TheVariants.{Created, Updated, 
 use Rattle.rs_store.specs.declared.refusal.Refusal as stored
 use Rattle.rs_store.specs.declared.refusal.Refusal.TheVariants as refusals
 use Rattle.rs_store.specs.Refusals.{refusal_word}
+use Rattle.rs_items.specs.declared.item.ItemFault.TheVariants as items
+use Rattle.rs_items.specs.Items.{fault_word as item_word}
 use Rattle.rs_http.specs.declared.target.Methods.{Methods}
 use Rattle.rs_http.specs.declared.target.Methods.TheVariants.{OfResources, OfDocuments, OfPosts}
 use Rattle.rs_http.specs.declared.request.RequestFault.{RequestFault}
-use Rattle.rs_http.specs.declared.request.RequestFault.TheVariants.{HeadTooLong, BadHead, ManyFields, BadHost, TransferEncoding, BadLength, BadName, NoSuchDocument, BadMethod, NoLength, BadType, TooLong, BadLine, BadHex}
+use Rattle.rs_http.specs.declared.request.RequestFault.TheVariants.{HeadTooLong, BadHead, ManyFields, BadHost, TransferEncoding, BadLength, NoSuchDocument, BadMethod, NoLength, TooLong, Line}
 use Rattle.rs_http.specs.declared.response.Framing.{Framing}
+use Rattle.rs_http.specs.declared.status.StatusCode.{StatusCode}
+use Rattle.rs_http.specs.declared.status.StatusCode.TheVariants as statuses
+use Rattle.rs_http.specs.Statuses.{code_of, phrase_of}
 
 -- the outcome of a request
 pub data RequestOutcome : Type 0 where
@@ -25,67 +30,48 @@ pub data RequestOutcome : Type 0 where
   -- the source refused it
   refused : stored.Refusal → RequestOutcome
 
-abbrev pub fault_status : RequestFault → ℕ
-fault_status HeadTooLong = 431
-fault_status BadHead = 400
-fault_status ManyFields = 431
-fault_status BadHost = 400
-fault_status TransferEncoding = 501
-fault_status BadLength = 400
-fault_status BadName = 400
-fault_status NoSuchDocument = 404
-fault_status (BadMethod methods) = 405
-fault_status NoLength = 411
-fault_status BadType = 400
-fault_status TooLong = 413
-fault_status BadLine = 400
-fault_status BadHex = 400
+abbrev pub fault_status : RequestFault → StatusCode
+fault_status HeadTooLong = statuses.RequestHeaderFieldsTooLarge
+fault_status BadHead = statuses.BadRequest
+fault_status ManyFields = statuses.RequestHeaderFieldsTooLarge
+fault_status BadHost = statuses.BadRequest
+fault_status TransferEncoding = statuses.NotImplemented
+fault_status BadLength = statuses.BadRequest
+fault_status NoSuchDocument = statuses.NotFound
+fault_status (BadMethod methods) = statuses.MethodNotAllowed
+fault_status NoLength = statuses.LengthRequired
+fault_status TooLong = statuses.ContentTooLarge
+fault_status (Line items.NoMemory) = statuses.ServiceUnavailable
+fault_status (Line fault) = statuses.BadRequest
 
 -- where a reader fails, no response is sent: no client sees the status and the word of that refusal
-abbrev pub refusal_status : stored.Refusal → ℕ
-refusal_status refusals.BadGroup = 400
-refusal_status refusals.NotHeld = 404
-refusal_status refusals.TooLong = 413
-refusal_status refusals.TooManyResources = 507
-refusal_status refusals.TooManyChanges = 507
-refusal_status refusals.Full = 507
-refusal_status refusals.Exhausted = 500
-refusal_status refusals.ReadFault = 500
-refusal_status refusals.ShortBody = 400
-refusal_status refusals.Device = 500
-refusal_status refusals.Damaged = 500
-refusal_status refusals.Closed = 503
-refusal_status refusals.NoMemory = 503
+abbrev pub refusal_status : stored.Refusal → StatusCode
+refusal_status refusals.BadGroup = statuses.BadRequest
+refusal_status refusals.NotHeld = statuses.NotFound
+refusal_status refusals.TooLong = statuses.ContentTooLarge
+refusal_status refusals.TooManyResources = statuses.InsufficientStorage
+refusal_status refusals.TooManyChanges = statuses.InsufficientStorage
+refusal_status refusals.Full = statuses.InsufficientStorage
+refusal_status refusals.Exhausted = statuses.InternalServerError
+refusal_status refusals.ReadFault = statuses.InternalServerError
+refusal_status refusals.ShortBody = statuses.BadRequest
+refusal_status refusals.Device = statuses.InternalServerError
+refusal_status refusals.Damaged = statuses.InternalServerError
+refusal_status refusals.Closed = statuses.ServiceUnavailable
+refusal_status refusals.NoMemory = statuses.ServiceUnavailable
 
-abbrev pub reply_status : Reply → ℕ
-reply_status (Created moment) = 201
-reply_status (Updated moment) = 204
-reply_status (Deleted moment) = 204
-reply_status (Published number moment) = 200
-reply_status (Grouped count moment) = 200
+abbrev pub reply_status : Reply → StatusCode
+reply_status (Created moment) = statuses.Created
+reply_status (Updated moment) = statuses.NoContent
+reply_status (Deleted moment) = statuses.NoContent
+reply_status (Published number moment) = statuses.Ok
+reply_status (Grouped count moment) = statuses.Ok
 
-abbrev pub status_code : RequestOutcome → ℕ
-status_code (faulted fault) = fault_status fault
-status_code (replied reply) = reply_status reply
-status_code (shown kind bytes) = 200
-status_code (refused refusal) = refusal_status refusal
-
--- the reason phrase of a status (RFC 9110, section 15; 507 is of RFC 4918)
-abbrev pub reason_of : ℕ → List ℕ
-reason_of status =
-    if status == 200 then codes "OK"
-    else if status == 201 then codes "Created"
-    else if status == 204 then codes "No Content"
-    else if status == 400 then codes "Bad Request"
-    else if status == 404 then codes "Not Found"
-    else if status == 405 then codes "Method Not Allowed"
-    else if status == 411 then codes "Length Required"
-    else if status == 413 then codes "Content Too Large"
-    else if status == 431 then codes "Request Header Fields Too Large"
-    else if status == 500 then codes "Internal Server Error"
-    else if status == 501 then codes "Not Implemented"
-    else if status == 503 then codes "Service Unavailable"
-    else codes "Insufficient Storage"
+abbrev pub status_of : RequestOutcome → StatusCode
+status_of (faulted fault) = fault_status fault
+status_of (replied reply) = reply_status reply
+status_of (shown kind bytes) = statuses.Ok
+status_of (refused refusal) = refusal_status refusal
 
 -- the word of a request that is refused before the source sees it
 abbrev pub fault_word : RequestFault → List ℕ
@@ -95,14 +81,11 @@ fault_word ManyFields = codes "ManyFields"
 fault_word BadHost = codes "BadHost"
 fault_word TransferEncoding = codes "TransferEncoding"
 fault_word BadLength = codes "BadLength"
-fault_word BadName = codes "BadName"
 fault_word NoSuchDocument = codes "NoSuchDocument"
 fault_word (BadMethod methods) = codes "BadMethod"
 fault_word NoLength = codes "NoLength"
-fault_word BadType = codes "BadType"
 fault_word TooLong = codes "TooLong"
-fault_word BadLine = codes "BadLine"
-fault_word BadHex = codes "BadHex"
+fault_word (Line fault) = item_word fault
 
 -- the body of a refusal: its word, and a line feed
 abbrev pub refusal_line : List ℕ → List ℕ
@@ -163,20 +146,20 @@ header_lines (shown kind bytes) = content_lines kind (length bytes)
 header_lines (refused refusal) = content_lines plain (length (refusal_line (refusal_word refusal)))
 
 -- the status line, the date (an IMF-fixdate of RFC 9110, section 5.6.7), and `Connection: close`
-unfoldable pub first_lines : ℕ → List ℕ → List ℕ
+unfoldable pub first_lines : StatusCode → List ℕ → List ℕ
 first_lines status date =
-    codes "HTTP/1.1 " ++ (decimal status ++ (codes " " ++ (reason_of status ++ (codes "\r\nDate: " ++ (date ++ codes "\r\nConnection: close\r\n")))))
+    codes "HTTP/1.1 " ++ (decimal (code_of status) ++ (codes " " ++ (phrase_of status ++ (codes "\r\nDate: " ++ (date ++ codes "\r\nConnection: close\r\n")))))
 
 -- a body, which the response to a HEAD leaves out
 abbrev pub sent_body : Framing → List ℕ → List ℕ
 sent_body framing body = if framing.is_head then [] else body
 
 -- the whole response, by the header lines that describe its body
-abbrev pub framed : Framing → ℕ → List ℕ → List ℕ → List ℕ
+abbrev pub framed : Framing → StatusCode → List ℕ → List ℕ → List ℕ
 framed framing status lines body = first_lines status (date_text framing.date) ++ (lines ++ sent_body framing body)
 
 abbrev pub response_text : Framing → RequestOutcome → List ℕ
-response_text framing outcome = framed framing (status_code outcome) (header_lines outcome) (content_of outcome)
+response_text framing outcome = framed framing (status_of outcome) (header_lines outcome) (content_of outcome)
 
 -- the word to go on
 abbrev pub go_on : List ℕ

@@ -7,39 +7,40 @@ use Rattle.rs_disk.specs.Medium.{DiskState}
 use Rattle.rs_io.specs.Watch.{watched, failures, EndFailed, PutFailed, FlushFailed, TellsEnd, End, Ends}
 use Rattle.rs_store.specs.Received.{IsCutShort, ReadsFor, coming_put}
 use Rattle.rs_recovery.specs.Prefixes.{Recovers}
-use Rattle.rs_http.specs.declared.fault.FrontFault.{FrontFault}
-use Rattle.rs_http.specs.declared.fault.FrontFault.TheVariants.{Read, Write}
+use Rattle.rs_io.specs.declared.fault.StreamFault.{StreamFault}
+use Rattle.rs_io.specs.declared.fault.StreamFault.TheVariants.{Read, Write}
 use Rattle.rs_http.specs.declared.head.HeadRead.{HeadRead}
 use Rattle.rs_http.specs.declared.head.HeadRead.TheVariants.{Ended}
 use Rattle.rs_http.specs.declared.request.RequestPlan.{RequestPlan}
 use Rattle.rs_http.specs.declared.request.RequestPlan.TheVariants.{Put, Group}
-use Rattle.rs_http.specs.declared.request.NoPlan.{NoPlan}
+use Rattle.rs_http.specs.declared.request.RequestFault.{RequestFault}
 use Rattle.rs_http.specs.declared.request.Request.{Request}
 use Rattle.rs_http.specs.declared.response.Framing.{Framing}
+use Rattle.rs_http.specs.declared.status.StatusCode.{StatusCode}
 use Rattle.rs_http.specs.declared.serve.Served.{Served}
 use Rattle.rs_http.specs.declared.serve.Served.TheVariants.{Answered, Nothing}
 use Rattle.rs_http.specs.Turn.{Turn}
 use Rattle.rs_http.specs.Head.{head_limit, HeadIs, HasNoEnd}
 use Rattle.rs_http.specs.Requests.{Asks}
-use Rattle.rs_http.specs.Responses.{RequestOutcome, status_code, response_text, go_on}
+use Rattle.rs_http.specs.Responses.{RequestOutcome, status_of, response_text, go_on}
 use Rattle.rs_http.specs.Outcomes.{RequestGives, Responds}
 use Rattle.rs_http.specs.Counted.{RequestRecovers}
 use Rattle.rs_http.specs.Walked.{MakesWalk, MakesNoEvent}
 
 -- what is written before the source sees the request: the word to go on, where the client waits for it
-abbrev pub preface_of : Result RequestPlan NoPlan → List ℕ
+abbrev pub preface_of : Result RequestPlan RequestFault → List ℕ
 preface_of (Ok (Put name kind n true)) = go_on
 preface_of (Ok (Group n true)) = go_on
 preface_of plan = []
 
 -- how many reads for a body may give no byte: one, where there is a body to read
-abbrev pub empty_reads_for : Result RequestPlan NoPlan → ℕ
+abbrev pub empty_reads_for : Result RequestPlan RequestFault → ℕ
 empty_reads_for (Ok (Put name kind n waits)) = 1
 empty_reads_for (Ok (Group n waits)) = 1
 empty_reads_for plan = 0
 
 -- a put or a group was not done: these bytes of its body came, and the reader failed
-abbrev pub IsBroken : {D : Type 0} {device : D → DiskState} → Turn device → Result RequestPlan NoPlan → List ℕ → Type 0
+abbrev pub IsBroken : {D : Type 0} {device : D → DiskState} → Turn device → Result RequestPlan RequestFault → List ℕ → Type 0
 IsBroken {device = device} turn (Ok (Put name kind n waits)) came = IsCutShort device turn.old turn.new (coming_put name kind n turn.now) came
 IsBroken turn (Ok (Group n waits)) came = (length came < n) × (turn.new ≡ turn.old)
 IsBroken turn plan came = ⊥
@@ -60,8 +61,8 @@ bytes_of bytes = bytes
 -- How the answer to a plan ends. These bytes were read past the head, each read but one gave some, and the result is `Read` only where the reader
 -- failed: then it failed in the body of a put or of a group, and nothing is written. Otherwise the outcome of the plan
 -- is answered: its response is written, or a beginning of it where the writer failed.
-pub record PlanEnds {D : Type 0} {device : D → DiskState} (turn : Turn device) (plan : Result RequestPlan NoPlan) (framing : Framing)
-    (ends : Ends) (result : Result ℕ FrontFault) : Type 0 where
+pub record PlanEnds {D : Type 0} {device : D → DiskState} (turn : Turn device) (plan : Result RequestPlan RequestFault) (framing : Framing)
+    (ends : Ends) (result : Result StatusCode StreamFault) : Type 0 where
   pub more : List ℕ
   pub came : Consumes (watched ends.left) (watched ends.rest) more
   pub reads : ReadsFor (empty_reads_for plan) ends.left ends.rest more
@@ -73,12 +74,12 @@ pub record PlanEnds {D : Type 0} {device : D → DiskState} (turn : Turn device)
 -- the outcome of a request is answered: this is its status, and its response is written, behind the word to go on where
 -- that was due
 pub record IsAnswered {D : Type 0} {device : D → DiskState} (turn : Turn device) (request : Request) (more : List ℕ) (rest : Option (List ℕ))
-    (output : List ℕ) (status : ℕ) : Type 0 where
+    (output : List ℕ) (status : StatusCode) : Type 0 where
   pub outcome : RequestOutcome
   pub date : HttpDate
   pub dated : unix_secs date ≡ turn.now / 1000
   pub gives : RequestGives turn request.plan more rest outcome
-  pub status_is : status ≡ status_code outcome
+  pub status_is : status ≡ status_of outcome
   pub written : output ≡ preface_of request.plan ++ response_text (record { date = date; is_head = request.is_head }) outcome
 
 -- the outcome of a request stands, and the writer failed in its response: it took a beginning of it, behind the word to
@@ -98,7 +99,7 @@ IsUnsaid turn request more ends =
 -- How the answer to a request ends. These bytes were read past the head, and the result is `Read` or `Write` only where
 -- that end failed. The outcome of the request is answered. Or the reader failed in a body, and at most the word to go
 -- on is written. Or the writer failed: in that word, or in the response to an outcome that stands.
-pub record RequestEnds {D : Type 0} {device : D → DiskState} (turn : Turn device) (request : Request) (ends : Ends) (result : Result ℕ FrontFault) : Type 0 where
+pub record RequestEnds {D : Type 0} {device : D → DiskState} (turn : Turn device) (request : Request) (ends : Ends) (result : Result StatusCode StreamFault) : Type 0 where
   pub more : List ℕ
   pub came : Consumes (watched ends.left) (watched ends.rest) more
   pub reads : ReadsFor (empty_reads_for request.plan) ends.left ends.rest more

@@ -16,7 +16,7 @@ use Rattle.rs_caps.specs.PathAnswers.{body_path}
 use Rattle.rs_caps.specs.Paths.{path_of}
 use Rattle.rs_http.specs.declared.request.RequestPlan.{RequestPlan}
 use Rattle.rs_http.specs.declared.request.RequestPlan.TheVariants.{ShowBody, ShowDocument, Put, Delete, Publish, Group}
-use Rattle.rs_http.specs.declared.request.NoPlan.{NoPlan}
+use Rattle.rs_http.specs.declared.request.RequestFault.{RequestFault}
 use Rattle.rs_http.specs.declared.request.Request.{Request}
 use Rattle.rs_http.specs.Groups.{items_asked}
 use Rattle.rs_http.specs.Turn.{Turn}
@@ -45,7 +45,7 @@ ShowEvents false s path (shown kind bytes) events = (answer s path ≡ Some byte
 ShowEvents is_head s path outcome events = events ≡ []
 
 -- the event of a plan in a state and at a moment, or none; a put has this body, and these bytes of a group came
-abbrev pub PlanEvents : Bool → Source → ℕ → Result RequestPlan NoPlan → List ℕ → RequestOutcome → (List Event → Type 0)
+abbrev pub PlanEvents : Bool → Source → ℕ → Result RequestPlan RequestFault → List ℕ → RequestOutcome → (List Event → Type 0)
 PlanEvents is_head s now (Ok (Put name kind n waits)) body outcome = PutEvents s (commands.Put name kind body) now outcome
 PlanEvents is_head s now (Ok (Delete name)) body outcome = RunEvents s (commands.Delete name) now outcome
 PlanEvents is_head s now (Ok Publish) body outcome = RunEvents s commands.Publish now outcome
@@ -55,7 +55,7 @@ PlanEvents is_head s now (Ok (ShowDocument doc)) body outcome = ShowEvents is_he
 PlanEvents is_head s now (Err reason) body outcome = (λ events. events ≡ [])
 
 -- a put may have this body, where these bytes of it came; the body of a group is the bytes that came
-abbrev pub IsBodyFor : Result RequestPlan NoPlan → List ℕ → List ℕ → Type 0
+abbrev pub IsBodyFor : Result RequestPlan RequestFault → List ℕ → List ℕ → Type 0
 IsBodyFor (Ok (Put name kind n waits)) more body = IsBodyOf n more body
 IsBodyFor (Ok (Group n waits)) more body = body ≡ more
 IsBodyFor plan more body = Unit {0}

@@ -7,20 +7,21 @@ ghost use Rattle.rs_io.specs.Watch.{watched, seen_by, failures, is_flushed, Stay
 ghost use Rattle.rs_http.specs.Turn.{turn};
 ghost use Rattle.rs_http.specs.Serving.{PlanEnds, RequestEnds, TakesPart, preface_of};
 ghost use Rattle.rs_http.specs.Responses.{go_on};
-ghost use Rattle.rs_http.specs.Outcomes.{unplanned, GroupComesTo, Sends, Responds};
+ghost use Rattle.rs_http.specs.Outcomes.{outcome_replied, unplanned, GroupComesTo, Sends, Responds};
 
 use crate::ask::{run, show_body, show_document};
 use crate::body::read_body;
-use crate::fault::FrontFault;
+use crate::exchange::Exchange;
 use crate::group::first_items;
 use crate::outcome::{write_fault, write_refusal, write_reply};
-use crate::request::{NoPlan, Request, RequestPlan};
+use crate::request::{Request, RequestFault, RequestPlan};
 use crate::response::Framing;
+use crate::status::StatusCode;
 use httpdate::HttpDate;
 use rs_disk::Disk;
-use rs_io::{Watched, WriteFault};
-use rs_model::{Command, Group};
-use rs_record::{MediaType, Name};
+use rs_io::{StreamFault, Watched, WriteFault};
+use rs_items::ItemFault;
+use rs_model::{Command, Group, Reply};
 use rs_store::{Refusal, Source};
 use rs_time::Moment;
 use std::alloc::Global;
@@ -30,36 +31,33 @@ use std::io::{Read, Write};
 fn write_unplanned<W: Write>(
     writer: &mut Watched<W>,
     framing: Framing,
-    reason: NoPlan,
-) -> Result<u16, FrontFault>
-    ensures { Sends W.contents writer.old writer.new framing (unplanned reason) result }
+    fault: RequestFault,
+) -> Result<StatusCode, StreamFault>
+    ensures { Sends W.contents writer.old writer.new framing (unplanned fault) result }
 {
-    match reason {
-        NoPlan::Refused(fault) => write_fault(writer, framing, fault),
-        NoPlan::NoMemory => write_refusal(writer, framing, Refusal::NoMemory),
+    match fault {
+        RequestFault::Line(ItemFault::NoMemory) => {
+            write_refusal(writer, framing, Refusal::NoMemory)
+        }
+        _ => write_fault(writer, framing, fault),
     }
 }
 
-/// Puts the next `body_length` bytes of the input, and writes the response.
-fn put<D: Disk, R: Read, W: Write>(
-    source: &mut Source<D>,
-    name: &Name,
-    kind: &MediaType,
-    body_length: u64,
-    reader: &mut Watched<R>,
+/// Writes the response to a put that the source answered, unless its reader failed.
+fn write_put<W: Write>(
     writer: &mut Watched<W>,
     framing: Framing,
-    now: Moment,
-) -> Result<u16, FrontFault>
-    ensures ends { (waits : Bool) → PlanEnds (turn D.state source.old now source.new)
-        (Ok (RequestPlan.Put name.now kind.now body_length waits)) framing
-        (ends_of R.remaining reader.old reader.new W.contents writer.old writer.new) result }
-    ensures silent { IsErrOf result FrontFault.Read → writer.new ≡ writer.old }
+    answered: Result<Reply, Refusal>,
+) -> Result<StatusCode, StreamFault>
+    ensures sends { ¬ IsErrOf answered Refusal.ReadFault
+        → Sends W.contents writer.old writer.new framing (outcome_replied answered) result }
+    ensures broken { IsErrOf answered Refusal.ReadFault → result ≡ Err StreamFault.Read }
+    ensures silent { IsErrOf result StreamFault.Read → writer.new ≡ writer.old }
 {
-    match source.put_from(name, kind, reader, body_length, now) {
+    match answered {
         Ok(reply) => write_reply(writer, framing, reply),
         Err(refusal) => match refusal {
-            Refusal::ReadFault => Err(FrontFault::Read),
+            Refusal::ReadFault => Err(StreamFault::Read),
             _ => write_refusal(writer, framing, refusal),
         },
     }
@@ -67,76 +65,64 @@ fn put<D: Disk, R: Read, W: Write>(
 
 /// Does what the lines of a body ask for, in one command, and writes the response.
 fn ask_group<D: Disk, W: Write>(
-    alloc: Global,
     source: &mut Source<D>,
     body: &[u8],
     writer: &mut Watched<W>,
-    framing: Framing,
-    now: Moment,
-) -> Result<u16, FrontFault>
-    ensures { (rest : Option (List ℕ)) → Responds W.contents writer.old writer.new framing
-        (GroupComesTo (turn D.state source.old now source.new) (length body.now) body.now rest)
-        result }
+    exchange: Exchange,
+) -> Result<StatusCode, StreamFault>
+    ensures { (rest : Option (List ℕ)) → Responds W.contents writer.old writer.new exchange.framing
+        (GroupComesTo (turn D.state source.old exchange.moment source.new)
+        (length body.now) body.now rest) result }
 {
-    let items = match first_items(alloc, body) {
+    let items = match first_items(exchange.alloc, body) {
         Ok(items) => items,
-        Err(reason) => return write_unplanned(writer, framing, reason),
+        Err(fault) => return write_unplanned(writer, exchange.framing, RequestFault::Line(fault)),
     };
-    run(
-        source,
-        &Command::Group(Group::new(items)),
-        now,
-        writer,
-        framing,
-    )
+    let command = Command::Group(Group::new(items));
+    run(source, &command, writer, exchange)
 }
 
 /// Reads the next `body_length` bytes of the input, does what their lines ask for, and writes the response.
 fn group<D: Disk, R: Read, W: Write>(
-    alloc: Global,
     source: &mut Source<D>,
     body_length: u64,
     reader: &mut Watched<R>,
     writer: &mut Watched<W>,
-    framing: Framing,
-    now: Moment,
-) -> Result<u16, FrontFault>
-    ensures ends { (waits : Bool) → PlanEnds (turn D.state source.old now source.new)
-        (Ok (RequestPlan.Group body_length waits)) framing
+    exchange: Exchange,
+) -> Result<StatusCode, StreamFault>
+    ensures ends { (waits : Bool) → PlanEnds (turn D.state source.old exchange.moment source.new)
+        (Ok (RequestPlan.Group body_length waits)) exchange.framing
         (ends_of R.remaining reader.old reader.new W.contents writer.old writer.new) result }
-    ensures silent { IsErrOf result FrontFault.Read → writer.new ≡ writer.old }
+    ensures silent { IsErrOf result StreamFault.Read → writer.new ≡ writer.old }
 {
-    match read_body(alloc, reader, body_length) {
-        Ok(body) => ask_group(alloc, source, body.as_slice(), writer, framing, now),
+    match read_body(exchange.alloc, reader, body_length) {
+        Ok(body) => ask_group(source, body.as_slice(), writer, exchange),
         Err(refusal) => match refusal {
-            Refusal::ReadFault => Err(FrontFault::Read),
-            _ => write_refusal(writer, framing, refusal),
+            Refusal::ReadFault => Err(StreamFault::Read),
+            _ => write_refusal(writer, exchange.framing, refusal),
         },
     }
 }
 
 /// Does what a request asks for, and writes the response.
 fn respond<D: Disk, R: Read, W: Write>(
-    alloc: Global,
     source: &mut Source<D>,
     reader: &mut Watched<R>,
     writer: &mut Watched<W>,
-    framing: Framing,
-    plan: Result<RequestPlan, NoPlan>,
-    now: Moment,
-) -> Result<u16, FrontFault>
-    ensures ends { PlanEnds (turn D.state source.old now source.new) plan framing
+    plan: Result<RequestPlan, RequestFault>,
+    exchange: Exchange,
+) -> Result<StatusCode, StreamFault>
+    ensures ends { PlanEnds (turn D.state source.old exchange.moment source.new) plan
+        exchange.framing
         (ends_of R.remaining reader.old reader.new W.contents writer.old writer.new) result }
-    ensures silent { IsErrOf result FrontFault.Read → writer.new ≡ writer.old }
+    ensures silent { IsErrOf result StreamFault.Read → writer.new ≡ writer.old }
 {
     match plan {
-        Err(reason) => write_unplanned(writer, framing, reason),
-        Ok(RequestPlan::ShowBody(name)) => show_body(source, &name, writer, framing),
-        Ok(RequestPlan::ShowDocument(doc)) => show_document(source, doc, writer, framing),
-        Ok(RequestPlan::Delete(name)) => {
-            run(source, &Command::Delete { name }, now, writer, framing)
-        }
-        Ok(RequestPlan::Publish) => run(source, &Command::Publish, now, writer, framing),
+        Err(fault) => write_unplanned(writer, exchange.framing, fault),
+        Ok(RequestPlan::ShowBody(name)) => show_body(source, &name, writer, exchange.framing),
+        Ok(RequestPlan::ShowDocument(doc)) => show_document(source, doc, writer, exchange.framing),
+        Ok(RequestPlan::Delete(name)) => run(source, &Command::Delete { name }, writer, exchange),
+        Ok(RequestPlan::Publish) => run(source, &Command::Publish, writer, exchange),
         Ok(
             RequestPlan::Put {
                 name,
@@ -144,10 +130,11 @@ fn respond<D: Disk, R: Read, W: Write>(
                 length,
                 ..
             },
-        ) => put(source, &name, &kind, length, reader, writer, framing, now),
-        Ok(RequestPlan::Group { length, .. }) => {
-            group(alloc, source, length, reader, writer, framing, now)
+        ) => {
+            let answered = source.put_from(&name, &kind, reader, length, exchange.moment);
+            write_put(writer, exchange.framing, answered)
         }
+        Ok(RequestPlan::Group { length, .. }) => group(source, length, reader, writer, exchange),
     }
 }
 
@@ -166,7 +153,7 @@ fn write_go_on<W: Write>(writer: &mut Watched<W>) -> Result<(), WriteFault>
 /// Writes what goes out before the source is asked.
 fn write_preface<W: Write>(
     writer: &mut Watched<W>,
-    plan: &Result<RequestPlan, NoPlan>,
+    plan: &Result<RequestPlan, RequestFault>,
 ) -> Result<(), WriteFault>
     ensures ok { OnOk result (Wrote W.contents writer.old writer.new (preface_of plan.now)) }
     ensures fault { OnErr result ((preface_of plan.now ≡ go_on) × TakesPart
@@ -193,9 +180,9 @@ fn date_of(now: Moment) -> HttpDate
 }
 
 /// Flushes the writer, and gives the status.
-fn finish<W: Write>(writer: &mut Watched<W>, status: u16) -> Result<u16, FrontFault>
+fn finish<W: Write>(writer: &mut Watched<W>, status: StatusCode) -> Result<StatusCode, StreamFault>
     ensures value { MatchResult result
-        (λ given. given ≡ status) (λ fault. fault ≡ FrontFault.Write) }
+        (λ given. given ≡ status) (λ fault. fault ≡ StreamFault.Write) }
     ensures bytes { Keeps (W.contents (watched writer.old)) (W.contents (watched writer.new)) }
     ensures sound { OnOk result (failures writer.new ≡ failures writer.old) }
     ensures failed { OnErr result (EndFailed writer.old writer.new) }
@@ -210,8 +197,8 @@ fn finish<W: Write>(writer: &mut Watched<W>, status: u16) -> Result<u16, FrontFa
 ///
 /// # Errors
 ///
-/// - [`FrontFault::Read`] where a read failed in the body of a put or of a group. The request is not done.
-/// - [`FrontFault::Write`] where a call of the writer failed. What was done stands.
+/// - [`StreamFault::Read`] where a read failed in the body of a put or of a group. The request is not done.
+/// - [`StreamFault::Write`] where a call of the writer failed. What was done stands.
 pub(crate) fn answer<D: Disk, R: Read, W: Write>(
     alloc: Global,
     source: &mut Source<D>,
@@ -219,17 +206,22 @@ pub(crate) fn answer<D: Disk, R: Read, W: Write>(
     writer: &mut Watched<W>,
     request: Request,
     now: Moment,
-) -> Result<u16, FrontFault>
+) -> Result<StatusCode, StreamFault>
     ensures ends { RequestEnds (turn D.state source.old now source.new) request
         (ends_of R.remaining reader.old reader.new W.contents writer.old writer.new) result }
     ensures flushed { OnOk result (is_flushed writer.new ≡ true) }
-    ensures waits { IsErrOf result FrontFault.Read → StaysFlushed writer.old writer.new }
+    ensures waits { IsErrOf result StreamFault.Read → StaysFlushed writer.old writer.new }
 {
     let framing = Framing {
         date: date_of(now),
         is_head: request.is_head,
     };
+    let exchange = Exchange {
+        alloc,
+        moment: now,
+        framing,
+    };
     write_preface(writer, &request.plan)?;
-    let status = respond(alloc, source, reader, writer, framing, request.plan, now)?;
+    let status = respond(source, reader, writer, request.plan, exchange)?;
     finish(writer, status)
 }

@@ -5,35 +5,34 @@ ghost use Rattle.rs_http.specs.Turn.{turn};
 ghost use Rattle.rs_http.specs.Responses.{shown};
 ghost use Rattle.rs_http.specs.Outcomes.{RunComesTo, ReadComesTo, document_shown, Sends, Responds};
 
-use crate::fault::FrontFault;
+use crate::exchange::Exchange;
 use crate::outcome::{write_fault, write_refusal, write_reply, write_shown};
 use crate::request::RequestFault;
 use crate::response::{Framing, write_document_head};
+use crate::status::StatusCode;
 use rs_caps::Document;
 use rs_disk::Disk;
-use rs_io::Watched;
+use rs_io::{StreamFault, Watched};
 use rs_lists::{Doc, View};
 use rs_model::Command;
 use rs_record::Name;
 use rs_recovery::laws::documents_are_of_the_state;
 use rs_store::Source;
-use rs_time::Moment;
 use std::io::Write;
 
 /// Gives the source a command, and writes the response.
 pub(crate) fn run<D: Disk, W: Write>(
     source: &mut Source<D>,
     command: &Command,
-    now: Moment,
     writer: &mut Watched<W>,
-    framing: Framing,
-) -> Result<u16, FrontFault>
-    ensures { Responds W.contents writer.old writer.new framing
-        (RunComesTo (turn D.state source.old now source.new) command.now) result }
+    exchange: Exchange,
+) -> Result<StatusCode, StreamFault>
+    ensures { Responds W.contents writer.old writer.new exchange.framing
+        (RunComesTo (turn D.state source.old exchange.moment source.new) command.now) result }
 {
-    match source.command(command, now) {
-        Ok(reply) => write_reply(writer, framing, reply),
-        Err(refusal) => write_refusal(writer, framing, refusal),
+    match source.command(command, exchange.moment) {
+        Ok(reply) => write_reply(writer, exchange.framing, reply),
+        Err(refusal) => write_refusal(writer, exchange.framing, refusal),
     }
 }
 
@@ -43,7 +42,7 @@ pub(crate) fn show_body<D: Disk, W: Write>(
     name: &Name,
     writer: &mut Watched<W>,
     framing: Framing,
-) -> Result<u16, FrontFault>
+) -> Result<StatusCode, StreamFault>
     ensures { (now : ℕ) → Responds W.contents writer.old writer.new framing
         (ReadComesTo (turn D.state source.old now source.new) name.now) result }
 {
@@ -62,16 +61,16 @@ fn write_shown_document<V: View, W: Write>(
     document: &Document<'_, V>,
     writer: &mut Watched<W>,
     framing: Framing,
-) -> Result<u16, FrontFault>
+) -> Result<StatusCode, StreamFault>
     ensures { Sends W.contents writer.old writer.new framing
         (shown (codes "application/xml") document.now) result }
 {
     write_document_head(writer, framing, document.len())?;
     if framing.is_head {
-        return Ok(200);
+        return Ok(StatusCode::Ok);
     }
     document.write(writer)?;
-    Ok(200)
+    Ok(StatusCode::Ok)
 }
 
 /// Writes the response with a document.
@@ -80,7 +79,7 @@ pub(crate) fn show_document<D: Disk, W: Write>(
     doc: Doc,
     writer: &mut Watched<W>,
     framing: Framing,
-) -> Result<u16, FrontFault>
+) -> Result<StatusCode, StreamFault>
     ensures { Responds W.contents writer.old writer.new framing
         (λ outcome. outcome ≡ document_shown D.state source.now doc) result }
 {

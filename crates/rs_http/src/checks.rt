@@ -10,6 +10,9 @@ use crate::request::RequestFault;
 use httparse::spans::{HeaderSpan, RequestSpans};
 use rs_record::number;
 
+/// The most fields of a head.
+const MOST_FIELDS: usize = 32;
+
 /// The most digits of a length.
 const LENGTH_DIGITS: usize = 18;
 
@@ -73,7 +76,7 @@ pub(crate) fn check_fields(
     ensures err { IfErr result (λ fault.
         first_fault (field_causes (head_parts_at head.now spans headers.now)) ≡ Some fault) }
 {
-    if headers.len() > 32 {
+    if headers.len() > MOST_FIELDS {
         return Err(RequestFault::ManyFields);
     }
     if is_bad_host(spans.version, find_lone(head, headers, b"host")) {

@@ -3,15 +3,11 @@
 ghost use Rattle.std.specs.Prelude.{◌≡◌, ◌⊎◌, ◌<◌, ◌≤◌, ◌++◌, ◌∷◌, [], List, length, take, IfOk, IfErr, IfSome, IfNone, OnOk};
 ghost use Rattle.std.specs.List.{position};
 ghost use Rattle.rs_model.specs.declared.command.Item.{Item};
-ghost use Rattle.rs_items.specs.declared.item.ItemFault.{ItemFault};
 ghost use Rattle.rs_items.specs.Items.{item_of_line};
 ghost use Rattle.rs_http.specs.Groups.{is_break, lines_of, items_of_lines, items_in};
 ghost use Rattle.rs_items.specs.Lines.{cut_return as without_return, last_line};
-ghost use Rattle.rs_http.specs.Outcomes.{reason_of_fault};
-ghost use Rattle.rs_http.specs.declared.request.NoPlan.TheVariants.{NoMemory};
 
-use crate::request::NoPlan;
-use rs_items::item_of;
+use rs_items::{ItemFault, item_of};
 use rs_model::{Item, MOST_GROUPED};
 use std::alloc::{AllocError, Global};
 
@@ -62,13 +58,12 @@ fn keep(items: &mut Vec<Item>, item: Item) -> Result<(), AllocError>
 }
 
 /// Reads a line, and keeps its item if it is one of the first.
-fn add_item(alloc: Global, items: &mut Vec<Item>, line: &[u8]) -> Result<(), NoPlan>
+fn add_item(alloc: Global, items: &mut Vec<Item>, line: &[u8]) -> Result<(), ItemFault>
     requires { length items.old.items ≤ 17 }
     ensures ok { OnOk result ((item : Item) × (item_of_line line.now ≡ Ok item)
         × (items.new.items ≡ take 17 (items.old.items ++ item ∷ []))) }
-    ensures err { IfErr result (λ reason. (reason ≡ NoMemory)
-        ⊎ ((fault : ItemFault) × (item_of_line line.now ≡ Err fault)
-        × (reason ≡ reason_of_fault fault))) }
+    ensures err { IfErr result (λ fault. (fault ≡ ItemFault.NoMemory)
+        ⊎ (item_of_line line.now ≡ Err fault)) }
 {
     let item = item_of(alloc, line)?;
     keep(items, item)?;
@@ -76,13 +71,12 @@ fn add_item(alloc: Global, items: &mut Vec<Item>, line: &[u8]) -> Result<(), NoP
 }
 
 /// Reads the bytes behind the last line feed. They are a line unless they are empty.
-fn add_last(alloc: Global, items: &mut Vec<Item>, bytes: &[u8]) -> Result<(), NoPlan>
+fn add_last(alloc: Global, items: &mut Vec<Item>, bytes: &[u8]) -> Result<(), ItemFault>
     requires { length items.old.items ≤ 17 }
     ensures ok { OnOk result ((last : List Item) × (items_of_lines (last_line bytes.now) ≡ Ok last)
         × (items.new.items ≡ take 17 (items.old.items ++ last))) }
-    ensures err { IfErr result (λ reason. (reason ≡ NoMemory)
-        ⊎ ((fault : ItemFault) × (items_of_lines (last_line bytes.now) ≡ Err fault)
-        × (reason ≡ reason_of_fault fault))) }
+    ensures err { IfErr result (λ fault. (fault ≡ ItemFault.NoMemory)
+        ⊎ (items_of_lines (last_line bytes.now) ≡ Err fault)) }
 {
     if bytes.is_empty() {
         return Ok(());
@@ -94,14 +88,12 @@ fn add_last(alloc: Global, items: &mut Vec<Item>, bytes: &[u8]) -> Result<(), No
 ///
 /// # Errors
 ///
-/// - [`NoPlan::Refused`] for the fault of the first line that has one,
-/// - [`NoPlan::NoMemory`] where the memory for an item is refused.
-pub(crate) fn first_items(alloc: Global, body: &[u8]) -> Result<Vec<Item>, NoPlan>
+/// The fault of the first line that has one, or [`ItemFault::NoMemory`] where the memory for an item is refused.
+pub(crate) fn first_items(alloc: Global, body: &[u8]) -> Result<Vec<Item>, ItemFault>
     ensures ok { IfOk result (λ items. (all : List Item) × (items_in body.now ≡ Ok all)
         × (items.items ≡ take 17 all)) }
-    ensures err { IfErr result (λ reason. (reason ≡ NoMemory)
-        ⊎ ((fault : ItemFault) × (items_in body.now ≡ Err fault)
-        × (reason ≡ reason_of_fault fault))) }
+    ensures err { IfErr result (λ fault. (fault ≡ ItemFault.NoMemory)
+        ⊎ (items_in body.now ≡ Err fault)) }
 {
     let mut items = Vec::new(alloc);
     let mut rest = body;

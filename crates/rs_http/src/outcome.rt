@@ -6,36 +6,35 @@ ghost use Rattle.rs_http.specs.Responses.{fault_status as status_of_fault, fault
 ghost use Rattle.rs_http.specs.Responses.{faulted, replied, shown, refused};
 ghost use Rattle.rs_http.specs.Outcomes.{Sends};
 
-use crate::fault::FrontFault;
 use crate::request::RequestFault;
 use crate::response::{Framing, write_bare, write_response, write_text, write_word};
+use crate::status::StatusCode;
 use crate::target::Methods;
 use itoa::Buffer;
-use rs_io::{Watched, WriteFault};
+use rs_io::{StreamFault, Watched, WriteFault};
+use rs_items::ItemFault;
 use rs_model::Reply;
 use rs_store::Refusal;
 use rs_time::Moment;
 use std::io::Write;
 
 /// The status of a request that is refused before the source sees it.
-fn fault_status(fault: RequestFault) -> u16
+fn fault_status(fault: RequestFault) -> StatusCode
     ensures { result ≡ status_of_fault fault }
 {
     match fault {
-        RequestFault::BadHead => 400,
-        RequestFault::BadHost => 400,
-        RequestFault::BadLength => 400,
-        RequestFault::BadName => 400,
-        RequestFault::BadType => 400,
-        RequestFault::BadLine => 400,
-        RequestFault::BadHex => 400,
-        RequestFault::NoSuchDocument => 404,
-        RequestFault::BadMethod(_) => 405,
-        RequestFault::NoLength => 411,
-        RequestFault::TooLong => 413,
-        RequestFault::HeadTooLong => 431,
-        RequestFault::ManyFields => 431,
-        RequestFault::TransferEncoding => 501,
+        RequestFault::BadHead => StatusCode::BadRequest,
+        RequestFault::BadHost => StatusCode::BadRequest,
+        RequestFault::BadLength => StatusCode::BadRequest,
+        RequestFault::NoSuchDocument => StatusCode::NotFound,
+        RequestFault::BadMethod(_) => StatusCode::MethodNotAllowed,
+        RequestFault::NoLength => StatusCode::LengthRequired,
+        RequestFault::TooLong => StatusCode::ContentTooLarge,
+        RequestFault::HeadTooLong => StatusCode::RequestHeaderFieldsTooLarge,
+        RequestFault::ManyFields => StatusCode::RequestHeaderFieldsTooLarge,
+        RequestFault::TransferEncoding => StatusCode::NotImplemented,
+        RequestFault::Line(ItemFault::NoMemory) => StatusCode::ServiceUnavailable,
+        RequestFault::Line(_) => StatusCode::BadRequest,
     }
 }
 
@@ -50,14 +49,11 @@ fn fault_word(fault: RequestFault) -> &'static str
         RequestFault::BadHost => "BadHost",
         RequestFault::TransferEncoding => "TransferEncoding",
         RequestFault::BadLength => "BadLength",
-        RequestFault::BadName => "BadName",
         RequestFault::NoSuchDocument => "NoSuchDocument",
         RequestFault::BadMethod(_) => "BadMethod",
         RequestFault::NoLength => "NoLength",
-        RequestFault::BadType => "BadType",
         RequestFault::TooLong => "TooLong",
-        RequestFault::BadLine => "BadLine",
-        RequestFault::BadHex => "BadHex",
+        RequestFault::Line(fault) => fault.word(),
     }
 }
 
@@ -74,23 +70,23 @@ fn allow_text(fault: RequestFault) -> &'static str
 }
 
 /// The status of a request that the source refuses.
-fn refusal_status(refusal: Refusal) -> u16
+fn refusal_status(refusal: Refusal) -> StatusCode
     ensures { result ≡ status_of_refusal refusal }
 {
     match refusal {
-        Refusal::BadGroup => 400,
-        Refusal::NotHeld => 404,
-        Refusal::TooLong => 413,
-        Refusal::Exhausted => 500,
-        Refusal::Device => 500,
-        Refusal::Damaged => 500,
-        Refusal::Closed => 503,
-        Refusal::NoMemory => 503,
-        Refusal::TooManyResources => 507,
-        Refusal::TooManyChanges => 507,
-        Refusal::Full => 507,
-        Refusal::ReadFault => 500,
-        Refusal::ShortBody => 400,
+        Refusal::BadGroup => StatusCode::BadRequest,
+        Refusal::NotHeld => StatusCode::NotFound,
+        Refusal::TooLong => StatusCode::ContentTooLarge,
+        Refusal::Exhausted => StatusCode::InternalServerError,
+        Refusal::Device => StatusCode::InternalServerError,
+        Refusal::Damaged => StatusCode::InternalServerError,
+        Refusal::Closed => StatusCode::ServiceUnavailable,
+        Refusal::NoMemory => StatusCode::ServiceUnavailable,
+        Refusal::TooManyResources => StatusCode::InsufficientStorage,
+        Refusal::TooManyChanges => StatusCode::InsufficientStorage,
+        Refusal::Full => StatusCode::InsufficientStorage,
+        Refusal::ReadFault => StatusCode::InternalServerError,
+        Refusal::ShortBody => StatusCode::BadRequest,
     }
 }
 
@@ -99,7 +95,7 @@ pub(crate) fn write_fault<W: Write>(
     writer: &mut Watched<W>,
     framing: Framing,
     fault: RequestFault,
-) -> Result<u16, FrontFault>
+) -> Result<StatusCode, StreamFault>
     ensures { Sends W.contents writer.old writer.new framing (faulted fault) result }
 {
     let status = fault_status(fault);
@@ -114,7 +110,7 @@ pub(crate) fn write_refusal<W: Write>(
     writer: &mut Watched<W>,
     framing: Framing,
     refusal: Refusal,
-) -> Result<u16, FrontFault>
+) -> Result<StatusCode, StreamFault>
     ensures { Sends W.contents writer.old writer.new framing (refused refusal) result }
 {
     let status = refusal_status(refusal);
@@ -129,11 +125,11 @@ pub(crate) fn write_shown<W: Write>(
     framing: Framing,
     kind: &[u8],
     bytes: &[u8],
-) -> Result<u16, FrontFault>
+) -> Result<StatusCode, StreamFault>
     ensures { Sends W.contents writer.old writer.new framing (shown kind.now bytes.now) result }
 {
-    write_text(writer, framing, 200, "", kind, bytes)?;
-    Ok(200)
+    write_text(writer, framing, StatusCode::Ok, "", kind, bytes)?;
+    Ok(StatusCode::Ok)
 }
 
 /// Writes the response to an accepted command. Its body is this word, which ends in a space, a number and a
@@ -147,7 +143,7 @@ fn write_line<W: Write>(
     moment: Moment,
 ) -> Result<(), WriteFault>
     requires { length word.now ≤ 10 }
-    ensures written { WritesOut W.contents writer.old writer.new result (framed framing 200
+    ensures written { WritesOut W.contents writer.old writer.new result (framed framing StatusCode.Ok
         (content_lines plain (length (reply_line word.now number moment)))
         (reply_line word.now number moment)) }
     ensures failed { OnErr result (EndFailed writer.old writer.new) }
@@ -160,7 +156,7 @@ fn write_line<W: Write>(
         b"\r\n\r\n",
     ];
     let body: [&[u8]; 5] = [word.as_bytes(), number, b" ", &moment.text(), b"\n"];
-    write_response(writer, framing, 200, &lines, &body)
+    write_response(writer, framing, StatusCode::Ok, &lines, &body)
 }
 
 /// Writes the response to an accepted command, and gives its status.
@@ -168,25 +164,30 @@ pub(crate) fn write_reply<W: Write>(
     writer: &mut Watched<W>,
     framing: Framing,
     reply: Reply,
-) -> Result<u16, FrontFault>
+) -> Result<StatusCode, StreamFault>
     ensures { Sends W.contents writer.old writer.new framing (replied reply) result }
 {
     match reply {
         Reply::Created(_) => {
-            write_bare(writer, framing, 201, b"Content-Length: 0\r\n\r\n")?;
-            Ok(201)
+            write_bare(
+                writer,
+                framing,
+                StatusCode::Created,
+                b"Content-Length: 0\r\n\r\n",
+            )?;
+            Ok(StatusCode::Created)
         }
         Reply::Updated(_) | Reply::Deleted(_) => {
-            write_bare(writer, framing, 204, b"\r\n")?;
-            Ok(204)
+            write_bare(writer, framing, StatusCode::NoContent, b"\r\n")?;
+            Ok(StatusCode::NoContent)
         }
         Reply::Published(number, moment) => {
             write_line(writer, framing, "published ", number, moment)?;
-            Ok(200)
+            Ok(StatusCode::Ok)
         }
         Reply::Grouped(count, moment) => {
             write_line(writer, framing, "grouped ", count as u64, moment)?;
-            Ok(200)
+            Ok(StatusCode::Ok)
         }
     }
 }

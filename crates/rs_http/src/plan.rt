@@ -1,6 +1,6 @@
 //! What a request asks for.
 
-ghost use Rattle.std.specs.Prelude.{◌≡◌, ◌≤◌, ◌∷◌, [], ℕ, List, length, map, All, IfSome, IfNone, Some, codes, bytes_eq, unwrap_or};
+ghost use Rattle.std.specs.Prelude.{◌≡◌, ◌≤◌, ◌∷◌, [], ℕ, List, length, map, All, IfOk, IfSome, IfNone, Some, codes, bytes_eq, unwrap_or};
 ghost use Rattle.httparse.specs.Grammar.{HasNoRequest};
 ghost use Rattle.httparse.specs.Spans.{IsHeaderWithin, IsWithin, IsRequestWithin, IsRequestOf, header_bytes};
 ghost use Rattle.rs_http.specs.Fields.{LoneIs, head_parts_at};
@@ -10,61 +10,58 @@ ghost use Rattle.rs_http.specs.Requests.{TypeIs, IsPlanFor, IsPutPlan, IsPlanAt,
 use crate::checks::{check_fields, expects_word};
 use crate::fields::{Lone, find_lone};
 use crate::head::HeadRead;
-use crate::request::{NoPlan, Request, RequestFault, RequestPlan};
+use crate::request::{Request, RequestFault, RequestPlan};
 use crate::target::{Methods, Place, path_of_target, place_of};
 use httparse::Status;
 use httparse::spans::{EMPTY_HEADER_SPAN, HeaderSpan, RequestSpans, parse_request};
-use rs_record::{LONGEST_BODY, MediaType, MediaTypeError, Name};
-use std::alloc::Global;
+use rs_items::ItemFault;
+use rs_record::{LONGEST_BODY, MediaType, Name, ValueFault};
+use std::alloc::{AllocError, Global};
 
 /// The media type of this text.
-fn type_of(alloc: Global, text: &[u8]) -> Result<MediaType, NoPlan>
+fn type_of(alloc: Global, text: &[u8]) -> Result<MediaType, ValueFault>
     ensures { TypeIs (text.now ∷ []) result }
 {
-    match MediaType::new(alloc, text) {
-        Ok(kind) => Ok(kind),
-        Err(MediaTypeError::BadType) => Err(NoPlan::Refused(RequestFault::BadType)),
-        Err(MediaTypeError::NoMemory) => Err(NoPlan::NoMemory),
-    }
+    MediaType::new(alloc, text)
 }
 
 /// The media type that the fields state for a body.
-fn body_type(alloc: Global, head: &[u8], lone: Lone) -> Result<MediaType, NoPlan>
+fn body_type(alloc: Global, head: &[u8], lone: Lone) -> Result<MediaType, ValueFault>
     requires { (kinds : List (List ℕ)) × LoneIs head.now lone kinds }
     ensures { (kinds : List (List ℕ)) → LoneIs head.now lone kinds → TypeIs kinds result }
 {
     match lone {
         Lone::Absent => type_of(alloc, b"application/octet-stream"),
         Lone::One(span) => type_of(alloc, span.of(head)),
-        Lone::Many => Err(NoPlan::Refused(RequestFault::BadType)),
+        Lone::Many => Err(ValueFault::Malformed),
     }
 }
 
-/// The plan of a put with the length that the fields state. It has no name where there is no memory for it.
+/// The plan of a put with the length that the fields state. Its name is an error where there is no memory for it.
 fn put_plan(
     alloc: Global,
     head: &[u8],
     headers: &[HeaderSpan],
-    name: Option<Name>,
+    name: Result<Name, AllocError>,
     stated: Option<u64>,
     expects: bool,
-) -> Result<RequestPlan, NoPlan>
+) -> Result<RequestPlan, RequestFault>
     requires { All (IsHeaderWithin (length head.now)) headers.now }
-    ensures { (bytes : List ℕ) → IfSome name (λ name. name ≡ bytes) → IsPutPlan bytes stated
+    ensures { (bytes : List ℕ) → IfOk name (λ name. name ≡ bytes) → IsPutPlan bytes stated
         (kinds_in (map (header_bytes head.now) headers.now)) expects result }
 {
     let Some(length) = stated else {
-        return Err(NoPlan::Refused(RequestFault::NoLength));
+        return Err(RequestFault::NoLength);
     };
     let kind = body_type(alloc, head, find_lone(head, headers, b"content-type"));
-    if let Err(NoPlan::Refused(fault)) = kind {
-        return Err(NoPlan::Refused(fault));
+    if let Err(ValueFault::Malformed) = kind {
+        return Err(RequestFault::Line(ItemFault::BadType));
     }
     if length > LONGEST_BODY as u64 {
-        return Err(NoPlan::Refused(RequestFault::TooLong));
+        return Err(RequestFault::TooLong);
     }
-    let (Some(name), Ok(kind)) = (name, kind) else {
-        return Err(NoPlan::NoMemory);
+    let (Ok(name), Ok(kind)) = (name, kind) else {
+        return Err(RequestFault::Line(ItemFault::NoMemory));
     };
     Ok(RequestPlan::Put {
         name,
@@ -75,15 +72,15 @@ fn put_plan(
 }
 
 /// The plan of a group, with the length that the fields state.
-fn group_plan(stated: Option<u64>, expects: bool) -> Result<RequestPlan, NoPlan>
+fn group_plan(stated: Option<u64>, expects: bool) -> Result<RequestPlan, RequestFault>
     ensures { IsPlanFor (group_head_causes stated)
         (Some (plan_of_group (unwrap_or stated 0) expects)) result }
 {
     let Some(length) = stated else {
-        return Err(NoPlan::Refused(RequestFault::NoLength));
+        return Err(RequestFault::NoLength);
     };
     if length > LONGEST_BODY as u64 {
-        return Err(NoPlan::Refused(RequestFault::TooLong));
+        return Err(RequestFault::TooLong);
     }
     Ok(RequestPlan::Group {
         length,
@@ -105,19 +102,19 @@ fn is_get(method: &[u8]) -> bool
     method == b"GET".as_slice() || method == b"HEAD".as_slice()
 }
 
-/// The plan of a request for a resource. It has no name where there is no memory for it.
+/// The plan of a request for a resource. Its name is an error where there is no memory for it.
 fn resource_plan(
     alloc: Global,
     head: &[u8],
     spans: RequestSpans,
     headers: &[HeaderSpan],
     stated: Option<u64>,
-    name: Option<Name>,
-) -> Result<RequestPlan, NoPlan>
+    name: Result<Name, AllocError>,
+) -> Result<RequestPlan, RequestFault>
     requires method { IsWithin (length head.now) spans.method }
     requires headers { All (IsHeaderWithin (length head.now)) headers.now }
     requires stated { stated ≡ stated_in (head_parts_at head.now spans headers.now) }
-    ensures { (bytes : List ℕ) → IfSome name (λ name. name ≡ bytes)
+    ensures { (bytes : List ℕ) → IfOk name (λ name. name ≡ bytes)
         → IsPlanAt (Place.Resource bytes) (head_parts_at head.now spans headers.now) result }
 {
     let method = spans.method.of(head);
@@ -127,12 +124,12 @@ fn resource_plan(
     }
     let deletes = method == b"DELETE".as_slice();
     if !deletes && !is_get(method) {
-        return Err(NoPlan::Refused(RequestFault::BadMethod(Methods::OfResources)));
+        return Err(RequestFault::BadMethod(Methods::OfResources));
     }
     match name {
-        None => Err(NoPlan::NoMemory),
-        Some(name) if deletes => Ok(RequestPlan::Delete(name)),
-        Some(name) => Ok(RequestPlan::ShowBody(name)),
+        Err(_) => Err(RequestFault::Line(ItemFault::NoMemory)),
+        Ok(name) if deletes => Ok(RequestPlan::Delete(name)),
+        Ok(name) => Ok(RequestPlan::ShowBody(name)),
     }
 }
 
@@ -144,7 +141,7 @@ fn plan_at(
     headers: &[HeaderSpan],
     stated: Option<u64>,
     place: Place,
-) -> Result<RequestPlan, NoPlan>
+) -> Result<RequestPlan, RequestFault>
     requires method { IsWithin (length head.now) spans.method }
     requires headers { All (IsHeaderWithin (length head.now)) headers.now }
     requires stated { stated ≡ stated_in (head_parts_at head.now spans headers.now) }
@@ -152,27 +149,27 @@ fn plan_at(
 {
     let method = spans.method.of(head);
     match place {
-        Place::Resource(name) => resource_plan(alloc, head, spans, headers, stated, Some(name)),
-        Place::Unlawful => Err(NoPlan::Refused(RequestFault::BadName)),
+        Place::Resource(name) => resource_plan(alloc, head, spans, headers, stated, Ok(name)),
+        Place::Unlawful => Err(RequestFault::Line(ItemFault::BadName)),
         Place::Document(doc) => {
             if is_get(method) {
                 return Ok(RequestPlan::ShowDocument(doc));
             }
-            Err(NoPlan::Refused(RequestFault::BadMethod(Methods::OfDocuments)))
+            Err(RequestFault::BadMethod(Methods::OfDocuments))
         }
         Place::Publishing => {
             if is_post(method) {
                 return Ok(RequestPlan::Publish);
             }
-            Err(NoPlan::Refused(RequestFault::BadMethod(Methods::OfPosts)))
+            Err(RequestFault::BadMethod(Methods::OfPosts))
         }
         Place::Grouping => {
             if is_post(method) {
                 return group_plan(stated, expects_word(head, spans, headers));
             }
-            Err(NoPlan::Refused(RequestFault::BadMethod(Methods::OfPosts)))
+            Err(RequestFault::BadMethod(Methods::OfPosts))
         }
-        Place::Nowhere => Err(NoPlan::Refused(RequestFault::NoSuchDocument)),
+        Place::Nowhere => Err(RequestFault::NoSuchDocument),
     }
 }
 
@@ -182,7 +179,7 @@ fn plan_request(
     head: &[u8],
     spans: RequestSpans,
     headers: &[HeaderSpan],
-) -> Result<RequestPlan, NoPlan>
+) -> Result<RequestPlan, RequestFault>
     requires method { IsWithin (length head.now) spans.method }
     requires target { IsWithin (length head.now) spans.path }
     requires headers { All (IsHeaderWithin (length head.now)) headers.now }
@@ -192,7 +189,7 @@ fn plan_request(
     let stated = check_fields(head, spans, headers)?;
     match place_of(alloc, path_of_target(spans.path.of(head))) {
         Ok(place) => plan_at(alloc, head, spans, headers, stated, place),
-        Err(_) => resource_plan(alloc, head, spans, headers, stated, None),
+        Err(fault) => resource_plan(alloc, head, spans, headers, stated, Err(fault)),
     }
 }
 
@@ -220,7 +217,7 @@ fn refused_request(fault: RequestFault) -> Request
 {
     Request {
         is_head: false,
-        plan: Err(NoPlan::Refused(fault)),
+        plan: Err(fault),
     }
 }
 

@@ -4,8 +4,9 @@ ghost use Rattle.std.specs.Prelude.{◌≡◌, ◌++◌, [], length, codes, OnEr
 ghost use Rattle.std.specs.List.{flat_map};
 ghost use Rattle.httpdate.specs.Date.{date_text};
 ghost use Rattle.rs_io.specs.Watch.{EndFailed, WritesOut};
-ghost use Rattle.rs_http.specs.Responses.{reason_of as reason_text, content_lines, first_lines, framed, plain, refusal_line};
+ghost use Rattle.rs_http.specs.Responses.{content_lines, first_lines, framed, plain, refusal_line};
 
+use crate::status::StatusCode;
 use httpdate::HttpDate;
 use itoa::Buffer;
 use rs_io::{Watched, WriteFault};
@@ -20,32 +21,11 @@ pub(crate) struct Framing {
     pub(crate) is_head: bool,
 }
 
-/// The reason phrase of a status.
-fn reason_of(status: u16) -> &'static str
-    ensures { result.now ≡ reason_text status }
-{
-    match status {
-        200 => "OK",
-        201 => "Created",
-        204 => "No Content",
-        400 => "Bad Request",
-        404 => "Not Found",
-        405 => "Method Not Allowed",
-        411 => "Length Required",
-        413 => "Content Too Large",
-        431 => "Request Header Fields Too Large",
-        500 => "Internal Server Error",
-        501 => "Not Implemented",
-        503 => "Service Unavailable",
-        _ => "Insufficient Storage",
-    }
-}
-
 /// Writes the status line, the date and `Connection: close`.
 #[tactic(auto, unfolding(crate::specs::Responses::first_lines))]
 fn write_first<W: Write>(
     writer: &mut Watched<W>,
-    status: u16,
+    status: StatusCode,
     date: &HttpDate,
 ) -> Result<(), WriteFault>
     ensures written { WritesOut W.contents writer.old writer.new result
@@ -55,9 +35,9 @@ fn write_first<W: Write>(
     let mut digits = Buffer::new();
     writer.put_all(&[
         b"HTTP/1.1 ",
-        digits.format(status).as_bytes(),
+        digits.format(status.code()).as_bytes(),
         b" ",
-        reason_of(status).as_bytes(),
+        status.phrase().as_bytes(),
         b"\r\nDate: ",
         &date.to_bytes(),
         b"\r\nConnection: close\r\n",
@@ -69,7 +49,7 @@ fn write_first<W: Write>(
 pub(crate) fn write_response<W: Write>(
     writer: &mut Watched<W>,
     framing: Framing,
-    status: u16,
+    status: StatusCode,
     lines: &[&[u8]],
     body: &[&[u8]],
 ) -> Result<(), WriteFault>
@@ -90,7 +70,7 @@ pub(crate) fn write_response<W: Write>(
 pub(crate) fn write_text<W: Write>(
     writer: &mut Watched<W>,
     framing: Framing,
-    status: u16,
+    status: StatusCode,
     allow: &str,
     kind: &[u8],
     body: &[u8],
@@ -116,7 +96,7 @@ pub(crate) fn write_text<W: Write>(
 pub(crate) fn write_word<W: Write>(
     writer: &mut Watched<W>,
     framing: Framing,
-    status: u16,
+    status: StatusCode,
     allow: &str,
     word: &str,
 ) -> Result<(), WriteFault>
@@ -139,7 +119,7 @@ pub(crate) fn write_word<W: Write>(
 pub(crate) fn write_bare<W: Write>(
     writer: &mut Watched<W>,
     framing: Framing,
-    status: u16,
+    status: StatusCode,
     lines: &[u8],
 ) -> Result<(), WriteFault>
     ensures written { WritesOut W.contents writer.old writer.new result
@@ -157,7 +137,7 @@ pub(crate) fn write_document_head<W: Write>(
     length: u64,
 ) -> Result<(), WriteFault>
     ensures written { WritesOut W.contents writer.old writer.new result
-        (framed framing 200 (content_lines (codes "application/xml") length) []) }
+        (framed framing StatusCode.Ok (content_lines (codes "application/xml") length) []) }
     ensures failed { OnErr result (EndFailed writer.old writer.new) }
 {
     let mut digits = Buffer::new();
@@ -166,5 +146,5 @@ pub(crate) fn write_document_head<W: Write>(
         digits.format(length).as_bytes(),
         b"\r\n\r\n",
     ];
-    write_response(writer, framing, 200, &lines, &[])
+    write_response(writer, framing, StatusCode::Ok, &lines, &[])
 }

@@ -1,7 +1,7 @@
 //! One request to a source.
 
 ghost use Rattle.std.specs.Prelude.{◌≡◌, ℕ, true, IfOk, OnOk, IsErrOf};
-ghost use Rattle.rs_io.specs.Watch.{is_flushed, seen_by, StaysFlushed, ends_of};
+ghost use Rattle.rs_io.specs.Watch.{is_flushed, StaysFlushed, ends_of};
 ghost use Rattle.rs_store.specs.Advancing.{GoesOnOnce};
 ghost use Rattle.rs_http.specs.Counted.{RunsAtMost};
 ghost use Rattle.rs_http.specs.Turn.{turn};
@@ -9,12 +9,12 @@ ghost use Rattle.rs_http.specs.Serving.{Serves, Breaks, Halts};
 ghost use Rattle.rs_http.specs.Told.{TellsReply};
 
 use crate::answer::answer;
-use crate::fault::FrontFault;
 use crate::head::{HEAD_LIMIT, read_head};
 use crate::laws::{requests_are_runs, requests_make_walks, requests_recover, requests_reply};
 use crate::plan::read_request;
+use crate::status::StatusCode;
 use rs_disk::Disk;
-use rs_io::Watched;
+use rs_io::{StreamFault, Watched};
 use rs_recovery::laws::replies_are_seen;
 use rs_store::Source;
 use rs_time::Moment;
@@ -25,7 +25,7 @@ use std::io::{Read, Write};
 #[derive(Clone, Copy, Debug, PartialEq, Eq)]
 pub enum Served {
     /// A request was answered with this status.
-    Answered(u16),
+    Answered(StatusCode),
     /// The input ended before a byte came, and nothing was written.
     Nothing,
 }
@@ -39,9 +39,9 @@ pub enum Served {
 ///
 /// # Errors
 ///
-/// - [`FrontFault::Read`] where a read failed in this call. The request is not done, and at most the word to go on is
+/// - [`StreamFault::Read`] where a read failed in this call. The request is not done, and at most the word to go on is
 ///   written.
-/// - [`FrontFault::Write`] where a call of the writer failed in this call. Where the word to go on was due and was not
+/// - [`StreamFault::Write`] where a call of the writer failed in this call. Where the word to go on was due and was not
 ///   flushed, the request is not done. Otherwise an accepted command stands. The writer took a beginning of the text,
 ///   and no other byte.
 ///
@@ -54,27 +54,27 @@ pub fn serve_one<D: Disk, R: Read, W: Write>(
     reader: &mut Watched<R>,
     writer: &mut Watched<W>,
     now: Moment,
-) -> Result<Served, FrontFault>
+) -> Result<Served, StreamFault>
     // What is written is the response to what was read.
     ensures ok { IfOk result (Serves (turn D.state source.old now source.new)
         (ends_of R.remaining reader.old reader.new W.contents writer.old writer.new)) }
 
     // A read failed, and no call of the writer.
-    ensures read { IsErrOf result FrontFault.Read
+    ensures read { IsErrOf result StreamFault.Read
         → Breaks (turn D.state source.old now source.new)
         (ends_of R.remaining reader.old reader.new W.contents writer.old writer.new) }
 
     // A call of the writer failed, and none of the reader. A write failed within the text, or a flush
     // after it. What was done stands.
-    ensures write { IsErrOf result FrontFault.Write
+    ensures write { IsErrOf result StreamFault.Write
         → Halts (turn D.state source.old now source.new)
         (ends_of R.remaining reader.old reader.new W.contents writer.old writer.new) }
 
     // The whole answer was flushed. So was the word to go on, before the body was read.
-    ensures sent { IfOk result (λ served. (status : ℕ) → served ≡ Served.Answered status
+    ensures sent { IfOk result (λ served. (status : StatusCode) → served ≡ Served.Answered status
         → is_flushed writer.new ≡ true) }
     ensures flushed { OnOk result (StaysFlushed writer.old writer.new) }
-    ensures waits { IsErrOf result FrontFault.Read → StaysFlushed writer.old writer.new }
+    ensures waits { IsErrOf result StreamFault.Read → StaysFlushed writer.old writer.new }
 
     // Whatever the result, one command at most changes the held state, while the source is open.
     ensures goes_on { GoesOnOnce D.state source.old now source.new }
@@ -83,10 +83,11 @@ pub fn serve_one<D: Disk, R: Read, W: Write>(
     ensures run { RunsAtMost D.state source.old 1 source.new }
 
     // Whatever the result, where the source held a state, its disk saw commands answered from that state
-    // on. The reply that the writer took is that to the accepted one of these commands. If it is open at
-    // the end, it holds the state after those that count. A closed source accepts none and stays closed.
+    // on. The reply that the writer took is that to the accepted one of these commands. Only to a GET or a
+    // HEAD is a 200 anything else. If it is open at the end, it holds the state after those that count. A
+    // closed source accepts none and stays closed.
     ensures answered { TellsReply D.state source.old source.new
-        (seen_by W.contents writer.old) (seen_by W.contents writer.new) }
+        (ends_of R.remaining reader.old reader.new W.contents writer.old writer.new) }
 {
     requests_are_runs::<D>();
     requests_reply::<D>();
@@ -95,7 +96,7 @@ pub fn serve_one<D: Disk, R: Read, W: Write>(
     requests_make_walks::<D>();
     let mut buf = [0u8; HEAD_LIMIT];
     let Ok((read, came)) = read_head(reader, &mut buf) else {
-        return Err(FrontFault::Read);
+        return Err(StreamFault::Read);
     };
     let Some(request) = read_request(alloc, &buf[..came], read) else {
         return Ok(Served::Nothing);

@@ -6,8 +6,9 @@ ghost use Rattle.rs_http.specs.Targets.{path_of_target as path_in, scheme_length
 
 use crate::fields::is_same;
 use rs_caps::doc_of;
+use rs_items::after;
 use rs_lists::Doc;
-use rs_record::{Name, NameError};
+use rs_record::{Name, ValueFault};
 use std::alloc::{AllocError, Global};
 
 /// What a path names.
@@ -87,8 +88,8 @@ fn resource_place(alloc: Global, name: &[u8]) -> Result<Place, AllocError>
 {
     match Name::new(alloc, name) {
         Ok(name) => Ok(Place::Resource(name)),
-        Err(NameError::BadName) => Ok(Place::Unlawful),
-        Err(NameError::NoMemory) => Err(AllocError),
+        Err(ValueFault::Malformed) => Ok(Place::Unlawful),
+        Err(ValueFault::NoMemory) => Err(AllocError),
     }
 }
 
@@ -101,8 +102,8 @@ pub(crate) fn place_of(alloc: Global, path: &[u8]) -> Result<Place, AllocError>
     ensures ok { IfOk result (λ place. place ≡ place_at path.now) }
     ensures err { OnErr result ((name : List ℕ) × (place_at path.now ≡ Place.Resource name)) }
 {
-    if path.starts_with(b"/resource/") {
-        return resource_place(alloc, &path[10..]);
+    if let Some(name) = after(b"/resource/", path) {
+        return resource_place(alloc, name);
     }
     if path == b"/publish".as_slice() {
         return Ok(Place::Publishing);

@@ -1,5 +1,5 @@
 -- The answer to each kind of request.
-use Rattle.std.proofs.Common.{◌≡◌, ℕ, List, [], Option, Some, None, Result, Ok, Err, Vec, Global, Bool, true, false, ◌⊎◌, ◌<◌, ◌≤◌, length, refl, inl, inr, ap, sym, subst, ◌∙◌, ◌-◌, if◌then◌else◌, ◌↔◌, IsErrOf, IsTrue, codes, decimal, ◌++◌, ◌∷◌}
+use Rattle.std.proofs.Common.{◌≡◌, ℕ, List, [], Result, Ok, Err, Vec, Global, Bool, true, false, ◌⊎◌, ◌<◌, ◌≤◌, length, refl, inl, inr, ap, sym, subst, ◌∙◌, ◌-◌, if◌then◌else◌, ◌↔◌, arith, IsErrOf, IsTrue, codes, decimal, ◌++◌, ◌∷◌}
 use Rattle.rs_disk.specs.Medium.{DiskState}
 use Rattle.rs_script.proofs.FromBelow.{reading_none, rests}
 use Rattle.rs_model.specs.declared.command.Command.{Command}
@@ -18,7 +18,8 @@ use Rattle.rs_store.specs.declared.refusal.Refusal.TheVariants.{Closed}
 use Rattle.rs_recovery.specs.Prefixes.{counted_as}
 use Rattle.rs_recovery.specs.Documents.{DocumentsAreOfTheState}
 use Rattle.rs_script.specs.declared.refusal.Refusal.{Refusal}
-use Rattle.rs_script.specs.declared.refusal.Refusal.TheVariants.{BadLine, LongLine, NoSuchDocument, NoMemory, Source}
+use Rattle.rs_script.specs.declared.refusal.Refusal.TheVariants.{LongLine, NoSuchDocument, Source, Line}
+use Rattle.rs_items.specs.declared.item.ItemFault.TheVariants as fault
 use Rattle.rs_script.specs.declared.request.Request.{Request}
 use Rattle.rs_script.specs.declared.request.Request.TheVariants.{At, Run, Document, Body, Status, Verify}
 use Rattle.rs_script.specs.Answers.{outcome_text, shown_text, verified_text}
@@ -113,7 +114,9 @@ verified_closed device s now refusal P same closed w =
     was_verified device s s now (Err Closed) P (record {
       names = tt;
       few = tt;
+      once = omega arith;
       closed = (λ _. closed, λ _. refl);
+      unread = λ _. refl;
       runs = reading_none (device s.disk) (λ e. absurd cc);
       others = tt;
       reads_only = record { slots = refl; contents = refl; is_closed = refl; rests = rests (device s.disk) (device s.disk) (reading_none {A = ⊥} (device s.disk) (λ none. none)) };
@@ -125,17 +128,17 @@ denied refusal = Err refusal
 
 -- the line asks for nothing, or there was no memory for what it asks for
 pub refused_answered : {D : Type 0} (device : D → DiskState) (s : ScriptState (Stored D)) (found : Result Request Refusal) (Room : Type 0) (refusal : Refusal) (P : List ℕ → Type 0)
-    → (Err refusal ≡ found) ⊎ ((denied refusal ≡ denied NoMemory) × Room) → P (outcome_text (refused refusal)) → HasAnswer (AnswerGives device s found Room) s P
+    → (Err refusal ≡ found) ⊎ ((denied refusal ≡ denied (Line fault.NoMemory)) × Room) → P (outcome_text (refused refusal)) → HasAnswer (AnswerGives device s found Room) s P
 refused_answered device s found Room refusal P (inl e) w = was (unchanged s (refused refusal)) (inl (rw (sym e) refl)) w
 refused_answered device s found Room refusal P (inr (e, room)) w =
-    was (unchanged s (refused refusal)) (inr (room, let same : refusal ≡ NoMemory = cc in rw same refl)) w
+    was (unchanged s (refused refusal)) (inr (room, let same : refusal ≡ Line fault.NoMemory = cc in rw same refl)) w
 
 abbrev asked : Request → Result Request Refusal
 asked request = Ok request
 
 -- the line asks for something
 pub understood : {D : Type 0} (device : D → DiskState) (s new : ScriptState (Stored D)) (found : Result Request Refusal) (Room : Type 0) (request : Request) (P : List ℕ → Type 0)
-    → (Ok request ≡ found) ⊎ ((asked request ≡ denied NoMemory) × Room) → HasAnswer (AskedGives device s (Ok request)) new P → HasAnswer (AnswerGives device s found Room) new P
+    → (Ok request ≡ found) ⊎ ((asked request ≡ denied (Line fault.NoMemory)) × Room) → HasAnswer (AskedGives device s (Ok request)) new P → HasAnswer (AnswerGives device s found Room) new P
 understood device s new found Room request P (inl e) given = record {
   answer = given.answer;
   gives = inl (subst (λ r. AskedGives device s r given.answer) e given.gives);
@@ -146,8 +149,8 @@ understood device s new found Room request P (inr (e, room)) given = absurd cc
 
 -- a line that asks for nothing
 pub foreign_answered : {D : Type 0} (device : D → DiskState) (s : ScriptState (Stored D)) (line : List ℕ) (P : List ℕ → Type 0)
-    → (length line ≤ line_limit) × (request_of line ≡ Err BadLine) → P (outcome_text (refused BadLine)) → HasAnswer (LineGives device s line) s P
-foreign_answered device s line P h w = was (unchanged s (refused BadLine)) (inr (h.0, inl (rw h.1 refl))) w
+    → (length line ≤ line_limit) × (request_of line ≡ Err (Line fault.BadLine)) → P (outcome_text (refused (Line fault.BadLine))) → HasAnswer (LineGives device s line) s P
+foreign_answered device s line P h w = was (unchanged s (refused (Line fault.BadLine))) (inr (h.0, inl (rw h.1 refl))) w
 
 -- a line past the limit
 pub long_answered : {D : Type 0} (device : D → DiskState) (s : ScriptState (Stored D)) (line : List ℕ) (P : List ℕ → Type 0)
@@ -156,8 +159,8 @@ long_answered device s line P h w = was (unchanged s (refused LongLine)) (inl (h
 
 -- there was no memory for a line
 pub no_room_for_line : {D : Type 0} (device : D → DiskState) (s : ScriptState (Stored D)) (line : List ℕ) (P : List ℕ → Type 0)
-    → (length line ≤ line_limit) × (9 ≤ length line) → P (outcome_text (refused NoMemory)) → HasAnswer (LineGives device s line) s P
-no_room_for_line device s line P h w = was (unchanged s (refused NoMemory)) (inr (h.0, inr (inl h.1, refl))) w
+    → (length line ≤ line_limit) × (9 ≤ length line) → P (outcome_text (refused (Line fault.NoMemory))) → HasAnswer (LineGives device s line) s P
+no_room_for_line device s line P h w = was (unchanged s (refused (Line fault.NoMemory))) (inr (h.0, inr (inl h.1, refl))) w
 
 -- a line of these bytes
 pub bytes_answered : {D : Type 0} (device : D → DiskState) (s new : ScriptState (Stored D)) (bytes line : List ℕ) (P : List ℕ → Type 0)

@@ -90,7 +90,7 @@ module _ {D : Type 0} (device : D → DiskState) (old : Stored D) where
   read_follows : (new : Stored D) (commands : List (Command × ℕ)) → commands ≡ [] → OnlyReads device old new → Follows device old new commands
   read_follows new commands none a =
       rw none record {
-        lasts = a.rests.runs.lasts;
+        lasts = a.rests.lasts;
         opened = λ h. sym a.is_closed ∙ h;
         folds = λ _. ap (λ (held : Medium). state_in held.seen new.contents) a.rests.now ∙ ap (state_in (device old.disk).now.seen) a.contents;
         holds = λ s held free. record {

@@ -32,15 +32,15 @@ all_statements device start input raws rest here splits t = record {
   splits = splits;
   whole = t.whole;
   part = t.part;
-  groups = record { all = t.lines_are; each = t.each; partial = kept_part here.pending.group t.part t.kept };
+  groups = record { all = t.lines_are; each = t.each; partial = kept_part here.pending.between.group t.part t.kept };
   statements_are = refl;
 }
 
 -- and no group was cut off
 whole_given : {D W : Type 0} (device : D → DiskState) (start : ScriptState (Stored D)) (input : List ℕ) (raws : List (List ℕ)) (rest : List ℕ) (here : Stand D W) → Splits input raws rest
-    → here.pending.group ≡ None → (t : LinesTaken device start (script_lines raws rest) (between_at here)) → ScriptGives device start input t.outcomes t.commands (session_at here)
+    → here.pending.between.group ≡ None → (t : LinesTaken device start (script_lines raws rest) (between_at here)) → ScriptGives device start input t.outcomes t.commands (session_at here)
 whole_given device start input raws rest here splits none t =
-    let same : t.whole ++ last_statement t.part ≡ t.whole = ap (λ l. t.whole ++ last_statement l) (none_kept here.pending.group t.part none t.kept) ∙ append-nil t.whole in
+    let same : t.whole ++ last_statement t.part ≡ t.whole = ap (λ l. t.whole ++ last_statement l) (none_kept here.pending.between.group t.part none t.kept) ∙ append-nil t.whole in
     (t.whole, subst (λ (l : List Statement). IsScript input l) same (all_statements device start input raws rest here splits t), t.answered)
 
 -- the last line, which no line feed ended, is one line more
@@ -67,12 +67,12 @@ last_ok device contents (Ok x) old new some given = λ begin input p.
 
 pub last_err : {T E D W : Type 0} (device : D → DiskState) (contents : W → Option (List ℕ)) (r : Result T E) (old new : Stand D W)
     → ((raw : List ℕ) → KeepsLine old.pending.line raw → 0 < length raw)
-    → Takes device contents r old.pending.line (λ raw. raw) old new → OnErr r (new.pending.group ≡ None) → OnErr r (StopsAt device contents old new)
+    → Takes device contents r old.pending.line (λ raw. raw) old new → OnErr r (new.pending.between.group ≡ None) → OnErr r (StopsAt device contents old new)
 last_err device contents (Ok x) old new some given stopped = tt
 last_err device contents (Err e) old new some given stopped = λ begin input p.
     let e = given p.rest p.kept p.taken.part p.taken.kept in
     let all = last_taken device contents begin input old new some p e.0 in
-    let none = none_kept new.pending.group e.0.part stopped e.0.kept in (
+    let none = none_kept new.pending.between.group e.0.part stopped e.0.kept in (
       all.outcomes,
       all.commands,
       whole_given device begin.session input p.raws p.rest new p.splits stopped all,
@@ -92,7 +92,7 @@ last_none device contents here none = λ begin input p. record {
 }
 
 -- no group was cut off
-pub end_whole : {D W : Type 0} (device : D → DiskState) (contents : W → Option (List ℕ)) (old new : Stand D W) → new.pending.group ≡ None
+pub end_whole : {D W : Type 0} (device : D → DiskState) (contents : W → Option (List ℕ)) (old new : Stand D W) → new.pending.between.group ≡ None
     → EndsLine device contents old new → EndsAt device contents old new
 end_whole device contents old new none ends = λ begin input p.
     let e = ends begin input p in
@@ -106,16 +106,16 @@ cut_group (Some kept) taking part is k = ap last_statement k.2
 cut_answered : {D : Type 0} (device : D → DiskState) (now : ScriptState (Stored D)) → Transcript device now (cut_off ∷ []) (refused BadGroup ∷ []) [] now
 cut_answered device now = (unchanged now (refused BadGroup), [], [], refl, refl, refl, (refl, refl, refl))
 
-cut_given : {D W : Type 0} (device : D → DiskState) (contents : W → Option (List ℕ)) (begin : Beginning D W) (input : List ℕ) (here : Stand D W) (taking : Taking) → here.pending.group ≡ Some taking
+cut_given : {D W : Type 0} (device : D → DiskState) (contents : W → Option (List ℕ)) (begin : Beginning D W) (input : List ℕ) (here : Stand D W) (taking : Taking) → here.pending.between.group ≡ Some taking
     → (e : Ended device contents begin input here) → ScriptGives device begin.session input (e.taken.outcomes ++ refused BadGroup ∷ []) (e.taken.commands ++ []) (session_at here)
 cut_given device contents begin input here taking is e =
     let t = e.taken in (
       t.whole ++ cut_off ∷ [],
-      subst (λ (l : List Statement). IsScript input (t.whole ++ l)) (cut_group here.pending.group taking t.part is t.kept) (all_statements device begin.session input e.raws e.rest here e.splits t),
+      subst (λ (l : List Statement). IsScript input (t.whole ++ l)) (cut_group here.pending.between.group taking t.part is t.kept) (all_statements device begin.session input e.raws e.rest here e.splits t),
       Transcript-append device t.whole (cut_off ∷ []) begin.session t.outcomes t.commands (session_at here) (refused BadGroup ∷ []) [] (session_at here) t.answered (cut_answered device (session_at here)),
     )
 
-pub cut_ok : {T E D W : Type 0} (device : D → DiskState) (contents : W → Option (List ℕ)) (r : Result T E) (old mid : Stand D W) (writer : Watched W) (taking : Taking) → mid.pending.group ≡ Some taking
+pub cut_ok : {T E D W : Type 0} (device : D → DiskState) (contents : W → Option (List ℕ)) (r : Result T E) (old mid : Stand D W) (writer : Watched W) (taking : Taking) → mid.pending.between.group ≡ Some taking
     → EndsLine device contents old mid → WritesOut contents mid.writer writer r (outcome_text (refused BadGroup)) → OnOk r (EndsAt device contents old (stand mid.pending mid.source writer))
 cut_ok device contents (Err x) old mid writer taking is ends w = tt
 cut_ok device contents (Ok x) old mid writer taking is ends w = λ begin input p.
@@ -127,7 +127,7 @@ cut_ok device contents (Ok x) old mid writer taking is ends w = λ begin input p
           (subst (λ (text : List ℕ). Wrote contents mid.writer writer text) (sym (append-nil (outcome_text (refused BadGroup)))) w),
     )
 
-pub cut_err : {T E D W : Type 0} (device : D → DiskState) (contents : W → Option (List ℕ)) (r : Result T E) (old mid : Stand D W) (writer : Watched W) (taking : Taking) → mid.pending.group ≡ Some taking
+pub cut_err : {T E D W : Type 0} (device : D → DiskState) (contents : W → Option (List ℕ)) (r : Result T E) (old mid : Stand D W) (writer : Watched W) (taking : Taking) → mid.pending.between.group ≡ Some taking
     → EndsLine device contents old mid → WritesOut contents mid.writer writer r (outcome_text (refused BadGroup)) → OnErr r (StopsAt device contents old (stand mid.pending mid.source writer))
 cut_err device contents (Ok x) old mid writer taking is ends w = tt
 cut_err device contents (Err x) old mid writer taking is ends w = λ begin input p.

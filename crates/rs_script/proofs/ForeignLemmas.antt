@@ -10,7 +10,7 @@ use Rattle.rs_items.specs.declared.item.ItemFault.TheVariants as fault
 use Rattle.rs_items.specs.Fields.{fields, is_space, after_space, first_field, after_field}
 use Rattle.rs_items.specs.Items.{item_of_fields, item_of_line}
 use Rattle.rs_script.proofs.FromBelow.{position-some, fields-cut, fields-last, no_item}
-use Rattle.rs_script.specs.declared.refusal.Refusal.TheVariants.{BadLine}
+use Rattle.rs_script.specs.declared.refusal.Refusal.TheVariants as refusals
 use Rattle.rs_script.specs.Lines.{line_of}
 use Rattle.rs_script.specs.PartialLine.{AsksNothing}
 use Rattle.rs_script.specs.Requests.{of_fields, request_of, begins_request}
@@ -43,11 +43,11 @@ other_word line word i found h =
 
 -- a line that is no item, and has none of the words with two fields, asks for nothing
 other_request : (line word rest : List ℕ) → bytes_eq word (codes "at") ≡ false → bytes_eq word (codes "show") ≡ false
-    → bytes_eq word (codes "group") ≡ false → item_of_line line ≡ Err fault.BadLine → of_fields line (word ∷ fields 1 rest) ≡ Err BadLine
+    → bytes_eq word (codes "group") ≡ false → item_of_line line ≡ Err fault.BadLine → of_fields line (word ∷ fields 1 rest) ≡ Err (refusals.Line fault.BadLine)
 unfolding fields
 other_request line word rest a s g none = two_fields (first_field rest) (after_field rest)
   where
-    two_fields : (field after : List ℕ) → of_fields line (word ∷ field ∷ after_space (fields 0) after) ≡ Err BadLine
+    two_fields : (field after : List ℕ) → of_fields line (word ∷ field ∷ after_space (fields 0) after) ≡ Err (refusals.Line fault.BadLine)
     two_fields field [] = rw (a, s, g, none) refl
     two_fields field (space ∷ bytes) = rw none refl
 
@@ -84,11 +84,11 @@ is_no_item line no_put no_delete = by_space (position is_space line) refl
         (no_item (take i line) (drop (i + 1) line) (other_word line (codes "put") i e no_put) (other_word line (codes "delete") i e no_delete))
 
 -- a line that is longer than any of one field, and does not begin as one with more, asks for nothing
-asks_alone : (line : List ℕ) → 8 ≤ length line → BeginsNone line → request_of line ≡ Err BadLine
+asks_alone : (line : List ℕ) → 8 ≤ length line → BeginsNone line → request_of line ≡ Err (refusals.Line fault.BadLine)
 unfolding request_of
 asks_alone line long b = by_space (position is_space line) refl
   where
-    by_space : (found : Option ℕ) → position is_space line ≡ found → of_fields line (fields 2 line) ≡ Err BadLine
+    by_space : (found : Option ℕ) → position is_space line ≡ found → of_fields line (fields 2 line) ≡ Err (refusals.Line fault.BadLine)
     by_space None e =
         let not_publish = other_length line (codes "publish") (λ same. absurd (omega (arith, same))) in
         let not_status = other_length line (codes "status") (λ same. absurd (omega (arith, same))) in

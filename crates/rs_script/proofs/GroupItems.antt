@@ -6,7 +6,7 @@ use Rattle.rs_items.specs.Items.{item_of_line}
 use Rattle.rs_items.specs.declared.item.ItemFault.TheVariants as fault
 use Rattle.rs_model.specs.declared.command.Item.{Item}
 use Rattle.rs_script.specs.declared.refusal.Refusal.{Refusal}
-use Rattle.rs_script.specs.declared.refusal.Refusal.TheVariants.{LongLine, NoMemory}
+use Rattle.rs_script.specs.declared.refusal.Refusal.TheVariants.{LongLine, Line}
 use Rattle.rs_script.specs.Lines.{line_limit}
 use Rattle.rs_script.specs.Requests.{begins_item}
 use Rattle.rs_script.specs.Room.{TakesRoom, GroupTakesRoom}
@@ -75,7 +75,7 @@ stays_refused lines line refusal (inr (e, room)) = inr (e, stays_in lines line r
 
 -- the line is the first with a fault
 pub is_refused : (items : Vec Item Global) (lines : List (List ℕ)) (line : List ℕ) (refusal : Refusal) → KeepsItems (Ok items) lines
-    → (Err refusal ≡ grouped_item line) ⊎ ((refusal ≡ NoMemory) × TakesRoom line) → KeepsItems (Err refusal) (lines ++ line ∷ [])
+    → (Err refusal ≡ grouped_item line) ⊎ ((refusal ≡ Line fault.NoMemory) × TakesRoom line) → KeepsItems (Err refusal) (lines ++ line ∷ [])
 unfolding then_item
 is_refused items lines line refusal k (inl e) =
     inl (items_more lines line ∙ ap (λ found. then_item found (grouped_item line)) k ∙ ap (then_item (Ok items.items)) (sym e))
@@ -83,7 +83,7 @@ is_refused items lines line refusal k (inr (e, room)) = inr (e, here items lines
 
 -- there was no memory for one more item
 pub no_room : (items : Vec Item Global) (lines : List (List ℕ)) (line : List ℕ) (item : Item) → KeepsItems (Ok items) lines → Ok item ≡ grouped_item line
-    → KeepsItems (Err NoMemory) (lines ++ line ∷ [])
+    → KeepsItems (Err (Line fault.NoMemory)) (lines ++ line ∷ [])
 no_room items lines line item k e = inr (refl, here items lines line k (item_takes line item e))
 
 -- it has an item

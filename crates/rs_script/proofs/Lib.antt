@@ -16,8 +16,9 @@ pub mod Chains
 pub mod Transcripts
 pub mod Runs
 pub mod Replies
+pub mod ToldNames
 pub mod Parts
-pub mod PartedExamples
+pub mod SplitExamples
 pub mod NamedDocuments
 pub mod Walks
 pub mod WalkedLines

@@ -14,7 +14,8 @@ use Rattle.rs_items.specs.declared.item.ItemFault.{ItemFault}
 use Rattle.rs_items.specs.Fields.{fields}
 use Rattle.rs_items.specs.Items.{item_of_line}
 use Rattle.rs_script.specs.declared.refusal.Refusal.{Refusal}
-use Rattle.rs_script.specs.declared.refusal.Refusal.TheVariants.{BadLine, BadMoment, BadName, BadGroup, NoSuchDocument}
+use Rattle.rs_script.specs.declared.refusal.Refusal.TheVariants.{BadMoment, BadGroup, NoSuchDocument, Line}
+use Rattle.rs_items.specs.declared.item.ItemFault.TheVariants as fault
 use Rattle.rs_script.specs.declared.request.Request.{Request}
 use Rattle.rs_script.specs.declared.request.Request.TheVariants.{Run, Document, Body, Status, Verify}
 use Rattle.rs_script.specs.Requests.{asked, at_moment, moment_in, at_request, item_request, at_document, show_request, request_alone, request_with, of_fields, request_of}
@@ -44,18 +45,18 @@ document_has path (Some doc) is = (doc_of-exact path doc is).1
 
 show_has : (path : List ℕ) → HasPath (show_request path)
 show_has path =
-    let body : Result Request Refusal = cond (is_name (drop 10 path)) (Ok (Body (drop 10 path))) (Err BadName) in
+    let body : Result Request Refusal = cond (is_name (drop 10 path)) (Ok (Body (drop 10 path))) (Err (Line fault.BadName)) in
     either (starts_with nat_eq path (codes "/resource/")) body (asked (at_document (doc_of path)) NoSuchDocument)
-    (either (is_name (drop 10 path)) (Ok (Body (drop 10 path))) (Err BadName) tt tt)
+    (either (is_name (drop 10 path)) (Ok (Body (drop 10 path))) (Err (Line fault.BadName)) tt tt)
     (document_has path (doc_of path) refl)
 
 alone_has : (word : List ℕ) → HasPath (request_alone word)
 alone_has word =
-    let verify : Result Request Refusal = cond (bytes_eq word (codes "verify")) (Ok Verify) (Err BadLine) in
+    let verify : Result Request Refusal = cond (bytes_eq word (codes "verify")) (Ok Verify) (Err (Line fault.BadLine)) in
     let status : Result Request Refusal = cond (bytes_eq word (codes "status")) (Ok Status) verify in
     either (bytes_eq word (codes "publish")) (Ok (Run Publish)) status tt
     (either (bytes_eq word (codes "status")) (Ok Status) verify tt
-    (either (bytes_eq word (codes "verify")) (Ok Verify) (Err BadLine) tt tt))
+    (either (bytes_eq word (codes "verify")) (Ok Verify) (Err (Line fault.BadLine)) tt tt))
 
 with_has : (line word argument : List ℕ) → HasPath (request_with line word argument)
 with_has line word argument =

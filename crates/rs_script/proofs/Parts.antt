@@ -15,7 +15,7 @@ use Rattle.rs_store.specs.Laws.{AnswersLeavePrefixes}
 use Rattle.rs_store.specs.Runs.{Condition, Holding, condition_after, AreAnswered}
 use Rattle.rs_recovery.specs.Replies.{reply_in, replies_in}
 use Rattle.rs_script.specs.Session.{LineOutcome, moment_set, replied, shown, counted, verified, refused}
-use Rattle.rs_script.specs.Stopped.{replies_by, BeginsWithReply, IsParted, ScriptsPart}
+use Rattle.rs_script.specs.Stopped.{replies_by, BeginsWithReply, SplitAtStop, ScriptsSplit}
 use Rattle.rs_script.specs.Told.{line_reply}
 
 one_reply : (reply : Result Reply stored.Refusal) (b : Bool) → length (cond b (reply_in reply) []) ≡ cond (is_ok reply && b) 1 0
@@ -116,7 +116,7 @@ cut_at (verified names sound ∷ outcomes) replies rest e = silent (verified nam
 cut_at (refused refusal ∷ outcomes) replies rest e = silent (refused refusal) outcomes replies refl (cut_at outcomes replies rest e)
 
 parts : AnswersLeavePrefixes → (s : Source) (old : DiskState) (commands : List (Command × ℕ)) (acks : List Ack) (new : DiskState) (outcomes : List LineOutcome)
-    → AreAnswered old (Holding s) commands acks new → replies_in acks ≡ flat_map line_reply outcomes → Leaves old new (IsParted s commands acks outcomes)
+    → AreAnswered old (Holding s) commands acks new → replies_in acks ≡ flat_map line_reply outcomes → Leaves old new (SplitAtStop s commands acks outcomes)
 parts prefixes s old commands acks new outcomes all are =
     let stops = prefixes s old commands acks new all in
     record {
@@ -137,8 +137,8 @@ parts prefixes s old commands acks new outcomes all are =
           };
     }
 
-pub stops_part : {D : Type 0} (device : D → DiskState) → AnswersLeavePrefixes → ScriptsPart device
-stops_part device prefixes old new outcomes s told held =
+pub stops_split : {D : Type 0} (device : D → DiskState) → AnswersLeavePrefixes → ScriptsSplit device
+stops_split device prefixes old new outcomes s told held =
     let are = told.answered s held in
     record {
       commands = are.0;

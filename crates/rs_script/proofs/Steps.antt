@@ -106,7 +106,7 @@ lines_then device start lines all line mid here is t e = record {
 -- more bytes of the line
 pub Progress-run : {D W : Type 0} (device : D → DiskState) (contents : W → Option (List ℕ)) (begin : Beginning D W) (input : List ℕ) (here : Stand D W) (run : List ℕ) (next : Line)
     → HasNoBreak run → ((raw : List ℕ) → KeepsLine here.pending.line raw → KeepsLine next (raw ++ run)) → Progress device contents begin input here
-    → Progress device contents begin (input ++ run) (stand (record { now = here.pending.now; group = here.pending.group; line = next }) here.source here.writer)
+    → Progress device contents begin (input ++ run) (stand (record { between = here.pending.between; line = next }) here.source here.writer)
 Progress-run device contents begin input here run next h k p = record {
   raws = p.raws;
   rest = p.rest ++ run;
@@ -197,13 +197,13 @@ broke_line device contents begun line old here a b c outcomes e none few wrote f
 -- and the answer is not written
 pub take_err : {T E D W : Type 0} (device : D → DiskState) (contents : W → Option (List ℕ)) (r : Result T E) (mid : Line) (old new : Stand D W) (run : List ℕ)
     → ((raw : List ℕ) → KeepsLine old.pending.line raw → KeepsLine mid (raw ++ run)) → Takes device contents r mid cut_return old new
-    → OnErr r (new.pending.group ≡ None) → OnErr r (HasNoBreak run → StopsBy device contents old new (with_break run))
+    → OnErr r (new.pending.between.group ≡ None) → OnErr r (HasNoBreak run → StopsBy device contents old new (with_break run))
 take_err device contents (Ok x) mid old new run k given stopped = tt
 take_err device contents (Err e) mid old new run k given stopped = λ h begin input p.
     let raw = p.rest ++ run in
     let e = given raw (k p.rest p.kept) p.taken.part p.taken.kept in
     let raws = p.raws ++ raw ∷ [] in
-    let none = none_kept new.pending.group e.0.part stopped e.0.kept in
+    let none = none_kept new.pending.between.group e.0.part stopped e.0.kept in
     let all = lines_then device begin.session (map cut_return p.raws) (map cut_return raws) (cut_return raw) (between_at old) (between_at new) (map-append cut_return p.raws (raw ∷ [])) p.taken e.0 in
     let splits = Splits-break input p.raws p.rest run h p.splits in
     let groups = whole_lines raws all.whole all.part all.lines_are none all.each in (
@@ -217,8 +217,8 @@ take_err device contents (Err e) mid old new run k given stopped = λ h begin in
     )
 
 -- nothing has come, and nothing was written
-pub Progress-none : {D W : Type 0} (device : D → DiskState) (contents : W → Option (List ℕ)) (here : Stand D W) (source : Stored D) → here.source ≡ source → here.pending.now ≡ 0
-    → here.pending.group ≡ None → KeepsLine here.pending.line [] → Progress device contents (record { session = script_state source 0; writer = here.writer }) [] here
+pub Progress-none : {D W : Type 0} (device : D → DiskState) (contents : W → Option (List ℕ)) (here : Stand D W) (source : Stored D) → here.source ≡ source → here.pending.between.moment ≡ 0
+    → here.pending.between.group ≡ None → KeepsLine here.pending.line [] → Progress device contents (record { session = script_state source 0; writer = here.writer }) [] here
 Progress-none device contents here source same now none k = record {
   raws = [];
   rest = [];
@@ -232,7 +232,7 @@ Progress-none device contents here source same now none k = record {
     lines_are = refl;
     each = grind (arith, common_steps);
     kept = subst (λ (g : Option Taking). KeepsGroup g []) (sym none) refl;
-    answered = (refl, refl, ap (λ s. script_state s here.pending.now) same ∙ ap (script_state source) now);
+    answered = (refl, refl, ap (λ s. script_state s here.pending.between.moment) same ∙ ap (script_state source) now);
   };
   written = wrote_nothing contents here.writer;
 }
@@ -294,12 +294,12 @@ Progress-whole device contents laws start before input here p =
     let splits : Splits front raws [] = raws_whole raws (All-take HasNoBreak n p.raws p.splits.each) in
     let groups : Groups (map cut_return raws) t.whole [] =
     whole_lines raws t.whole [] (first_lines p.raws (flat_map statement_lines t.whole) t.part t.lines_are ∙ sym (append-nil (flat_map statement_lines t.whole))) refl t.each in
-    let gives : ScriptGives device (script_state start 0) front t.outcomes t.commands (script_state here.source here.pending.now) =
+    let gives : ScriptGives device (script_state start 0) front t.outcomes t.commands (script_state here.source here.pending.between.moment) =
     (t.whole, whole_script front raws t.whole splits groups, t.answered) in
     let rest : Splits part behind p.rest = record { whole = refl; each = All-drop HasNoBreak n p.raws p.splits.each; partial = p.splits.partial } in
     let unfinished : IsPart (map cut_return behind) =
-    subst IsPart (sym (last_lines p.raws (flat_map statement_lines t.whole) t.part t.lines_are)) (kept_part here.pending.group t.part t.kept) in (
-      ran_of device laws start here.source front t.outcomes t.commands here.pending.now gives,
+    subst IsPart (sym (last_lines p.raws (flat_map statement_lines t.whole) t.part t.lines_are)) (kept_part here.pending.between.group t.part t.kept) in (
+      ran_of device laws start here.source front t.outcomes t.commands here.pending.between.moment gives,
       part,
       cut,
       (raws, t.whole, splits, groups),

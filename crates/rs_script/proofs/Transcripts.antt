@@ -27,7 +27,7 @@ abbrev commands_in : List (Answer Source) → List (Command × ℕ)
 commands_in answers = flat_map (λ (a : Answer Source). a.commands) answers
 
 module _ {D : Type 0} (device : D → DiskState) where
-  statements_last : (statements : List Statement) (old : ScriptState (Stored D)) (outcomes : List LineOutcome) (commands : List (Command × ℕ)) (new : ScriptState (Stored D))
+  pub statements_last : (statements : List Statement) (old : ScriptState (Stored D)) (outcomes : List LineOutcome) (commands : List (Command × ℕ)) (new : ScriptState (Stored D))
       → Transcript device old statements outcomes commands new → IsTrue (device new.source.disk).honest → IsTrue (device old.source.disk).honest
   statements_last [] old outcomes commands new t honest = subst (λ (s : ScriptState (Stored D)). IsTrue (device s.source.disk).honest) t.2 honest
   statements_last (statement ∷ statements) old outcomes commands new t honest =

@@ -14,7 +14,7 @@ use Rattle.rs_script.specs.Finished.{bytes_of, StopsReading, StopsWriting, Reads
 use Rattle.rs_script.specs.Progress.{IsCalled, Beginning, Stand, Progress, Answered, Came, ReadsNoMore}
 use Rattle.rs_script.specs.Script.{ScriptGives, ScriptsRecover, ScriptsMakeWalks}
 use Rattle.rs_script.specs.Session.{script_state, LineOutcome}
-use Rattle.rs_script.specs.Told.{ScriptsTellReplies, TellsReplies}
+use Rattle.rs_script.specs.Told.{ScriptsTellReplies, ScriptsTellNames, TellsReplies}
 use Rattle.rs_script.proofs.ReaderCalls.{one_more, calls_more}
 use Rattle.rs_script.proofs.Steps.{Progress-whole, ran_of, broke_after, no_more}
 
@@ -111,14 +111,14 @@ module _ {D R W : Type 0} (device : D → DiskState) (remaining : R → Option (
   pub stops_within : Answered device contents (from_start start before) input here → Came remaining first reader input → is_broken before ≡ false → failures reader ≡ failures first
       → StopsWriting device start here.source (ends_of remaining first reader contents before here.writer)
   stops_within (outcomes, commands, gives, breaks) came sound read = record {
-    ran = ran_of device laws start here.source input outcomes commands here.pending.now gives;
+    ran = ran_of device laws start here.source input outcomes commands here.pending.between.moment gives;
     came = came;
     breaks = inl (record { sound = sound; within = seen_within contents before here.writer outcomes breaks });
     read = read;
   }
 
 -- what was told of the commands that were accepted
-module _ {D W : Type 0} (device : D → DiskState) (contents : W → Option (List ℕ)) (laws : ScriptsRecover device × ScriptsMakeWalks device) (telling : ScriptsTellReplies device)
+module _ {D W : Type 0} (device : D → DiskState) (contents : W → Option (List ℕ)) (laws : ScriptsRecover device × ScriptsMakeWalks device) (telling : ScriptsTellReplies device × ScriptsTellNames device)
     (start : Stored D) (before after : Watched W) where
   module _ (new : Stored D) (last : ℕ) (input : List ℕ) (outcomes : List LineOutcome) (commands : List (Command × ℕ))
       (gives : ScriptGives device (script_state start 0) input outcomes commands (script_state new last)) where
@@ -126,7 +126,8 @@ module _ {D W : Type 0} (device : D → DiskState) (contents : W → Option (Lis
     pub tells_all : Appends (contents (watched before)) (contents (watched after)) (output_of outcomes) → TellsReplies device start new (seen_by contents before) (seen_by contents after)
     tells_all took = record {
       outcomes = outcomes;
-      replied = telling (script_state start 0) (script_state new last) input outcomes commands gives;
+      replied = telling.0 (script_state start 0) (script_state new last) input outcomes commands gives;
+      named = telling.1 (script_state start 0) (script_state new last) input outcomes commands gives;
       part = output_of outcomes;
       left_out = [];
       bytes_are = append-nil (output_of outcomes);
@@ -143,7 +144,8 @@ module _ {D W : Type 0} (device : D → DiskState) (contents : W → Option (Lis
         ap output_of breaks.outcomes_are ∙ flat_map-append outcome_text breaks.whole (breaks.last ∷ []) ∙ ap (λ l. first ++ l) last_one in
         record {
           outcomes = outcomes;
-          replied = telling (script_state start 0) (script_state new last) input outcomes commands gives;
+          replied = telling.0 (script_state start 0) (script_state new last) input outcomes commands gives;
+          named = telling.1 (script_state start 0) (script_state new last) input outcomes commands gives;
           part = first ++ breaks.failed.part;
           left_out = breaks.failed.left_out;
           bytes_are = append_assoc first breaks.failed.part breaks.failed.left_out ∙ ap (λ l. first ++ l) breaks.failed.bytes_are ∙ sym all;

@@ -23,6 +23,7 @@ use Rattle.rs_recovery.specs.Turns.{ReadingsIdle}
 use Rattle.rs_recovery.specs.Walked.{CommandEvents, LeavesWalk, CommandsMakeWalks, ClosedCommandsAreRefused}
 use Rattle.rs_script.proofs.FromBelow.{told, walked}
 use Rattle.rs_script.specs.declared.refusal.Refusal.{Refusal}
+use Rattle.rs_items.specs.declared.item.ItemFault.TheVariants as fault
 use Rattle.rs_script.specs.declared.refusal.Refusal.TheVariants as refusals
 use Rattle.rs_script.specs.declared.request.Request.{Request}
 use Rattle.rs_script.specs.declared.request.Request.TheVariants.{At, Run, Document, Body, Status, Verify}
@@ -40,7 +41,7 @@ Kind = List Event → Type 0
 
 -- the outcome of a request that was refused memory, and of a line past the limit
 no_room : (s : Source) (now : ℕ) (request : Result Request Refusal)
-    → (events : List Event) × StatementEvents s now request (refused refusals.NoMemory) events × (walk_of s events ≡ s)
+    → (events : List Event) × StatementEvents s now request (refused (refusals.Line fault.NoMemory)) events × (walk_of s events ≡ s)
 no_room s now (Ok (At t)) = ([], refl, refl)
 no_room s now (Ok (Run command)) = (Refused command ∷ [], refl, refl)
 no_room s now (Ok (Document doc)) = ([], refl, refl)
@@ -88,7 +89,7 @@ module _ {D : Type 0} (device : D → DiskState) where
       → SetsNow old request answer
   unfolding SetsNow
   answer_now old request Room answer (inl gives) = request_now old request answer gives
-  answer_now old request Room answer (inr (room, e)) = subst (SetsNow old request) (sym e) (unset old.now request refusals.NoMemory)
+  answer_now old request Room answer (inr (room, e)) = subst (SetsNow old request) (sym e) (unset old.now request (refusals.Line fault.NoMemory))
 
   line_now : (old : ScriptState (Stored D)) (line : List ℕ) (answer : Answer (Stored D)) → LineGives device old line answer
       → SetsNow old (request_of line) answer
@@ -192,7 +193,7 @@ module _ {D : Type 0} (device : D → DiskState) (sound : (disk : D) → IsMediu
   answer_walk request Room has answer (inr (room, e)) honest =
       let none = no_room s old.now request in
       subst (Walk request) (sym e)
-      (walked device stands s (StatementEvents s old.now request (refused refusals.NoMemory)) old.source none.0 none.1
+      (walked device stands s (StatementEvents s old.now request (refused (refusals.Line fault.NoMemory))) old.source none.0 none.1
       (subst (Holds device old.source) (sym none.2) holds))
 
   line_walk : (line : List ℕ) → HasPath (request_of line) → (answer : Answer (Stored D)) → LineGives device old line answer
@@ -292,7 +293,7 @@ module _ {D : Type 0} (device : D → DiskState) (refusing : ClosedCommandsAreRe
   answer_shut request Room answer (inl gives) = request_shut request answer gives
   answer_shut request Room answer (inr (room, e)) =
       let none = no_room s old.now request in
-      unmoved request answer (unchanged old (refused refusals.NoMemory)) e refl none.0 none.1 none.2
+      unmoved request answer (unchanged old (refused (refusals.Line fault.NoMemory))) e refl none.0 none.1 none.2
 
   line_shut : (line : List ℕ) (answer : Answer (Stored D)) → LineGives device old line answer → ShutBy (request_of line) answer
   unfolding ShutBy

@@ -7,7 +7,8 @@ use Rattle.rs_model.specs.declared.command.Reply.TheVariants.{Created, Updated, 
 use Rattle.rs_store.specs.Refusals.{refusal_word}
 use Rattle.rs_store.specs.declared.reading.Status.{Status}
 use Rattle.rs_script.specs.declared.refusal.Refusal.{Refusal}
-use Rattle.rs_script.specs.declared.refusal.Refusal.TheVariants.{BadLine, LongLine, BadMoment, BadName, BadHex, BadType, BadGroup, NoSuchDocument, Source, NoMemory}
+use Rattle.rs_script.specs.declared.refusal.Refusal.TheVariants.{Line, LongLine, BadMoment, BadGroup, NoSuchDocument, Source}
+use Rattle.rs_items.specs.Items.{fault_word}
 use Rattle.rs_script.specs.Session.{LineOutcome, moment_set, replied, shown, counted, verified, refused}
 
 -- a moment, and the end of the line
@@ -23,16 +24,12 @@ reply_text (Grouped count t) = (codes "grouped " ++ (decimal count ++ codes " ")
 
 -- the word of a refusal
 abbrev pub word_of : Refusal → List ℕ
-word_of BadLine = codes "BadLine"
+word_of (Line fault) = fault_word fault
 word_of LongLine = codes "LongLine"
 word_of BadMoment = codes "BadMoment"
-word_of BadName = codes "BadName"
-word_of BadHex = codes "BadHex"
-word_of BadType = codes "BadType"
 word_of BadGroup = codes "BadGroup"
 word_of NoSuchDocument = codes "NoSuchDocument"
 word_of (Source refusal) = refusal_word refusal
-word_of NoMemory = codes "NoMemory"
 
 -- bytes, behind their number
 abbrev pub shown_text : List ℕ → List ℕ

@@ -13,6 +13,7 @@ use Rattle.rs_recovery.specs.Prefixes.{counted_as}
 use Rattle.rs_caps.specs.DocumentTexts.{document_text}
 use Rattle.rs_caps.specs.Shows.{shown_of}
 use Rattle.rs_script.specs.declared.refusal.Refusal.{Refusal}
+use Rattle.rs_items.specs.declared.item.ItemFault.TheVariants as fault
 use Rattle.rs_script.specs.declared.refusal.Refusal.TheVariants as refusals
 use Rattle.rs_script.specs.declared.request.Request.{Request}
 use Rattle.rs_script.specs.declared.request.Request.TheVariants.{At, Run, Document, Body, Status, Verify}
@@ -82,7 +83,7 @@ AskedGives device old (Err refusal) answer = answer ≡ unchanged old (refused r
 
 -- the outcomes of a request; or the statement takes memory, which was refused, and nothing changed
 abbrev pub AnswerGives : {D : Type 0} → (D → DiskState) → ScriptState (Stored D) → Result Request Refusal → Type 0 → Answer (Stored D) → Type 0
-AnswerGives device old request Room answer = AskedGives device old request answer ⊎ (Room × (answer ≡ unchanged old (refused refusals.NoMemory)))
+AnswerGives device old request Room answer = AskedGives device old request answer ⊎ (Room × (answer ≡ unchanged old (refused (refusals.Line fault.NoMemory))))
 
 -- the possible outcomes of a line: one past the limit is refused, whatever it says
 abbrev pub LineGives : {D : Type 0} → (D → DiskState) → ScriptState (Stored D) → List ℕ → Answer (Stored D) → Type 0

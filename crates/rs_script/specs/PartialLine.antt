@@ -4,7 +4,7 @@ use Rattle.rs_script.specs.declared.line.Kept.{Kept}
 use Rattle.rs_script.specs.declared.line.Kept.TheVariants as kept
 use Rattle.rs_script.specs.declared.line.Content.{Content}
 use Rattle.rs_script.specs.declared.line.Content.TheVariants.{Bytes, Foreign, Refused, TooLong}
-use Rattle.rs_script.specs.declared.refusal.Refusal.TheVariants.{BadLine}
+use Rattle.rs_script.specs.declared.refusal.Refusal.TheVariants as refusals
 use Rattle.rs_script.specs.declared.line.Line.{Line}
 use Rattle.rs_script.specs.Lines.{line_limit}
 use Rattle.rs_items.specs.declared.item.ItemFault.TheVariants as fault
@@ -32,7 +32,7 @@ KeepsLine line raw = KeepsLineAs line line.kept raw
 
 -- the line asks for nothing, by itself and in a group, and begins no group
 pub record AsksNothing (line : List ℕ) : Type 0 where
-  pub alone : request_of line ≡ Err BadLine
+  pub alone : request_of line ≡ Err (refusals.Line fault.BadLine)
   pub within : item_of_line line ≡ Err fault.BadLine
   pub no_group : group_size line ≡ None
 

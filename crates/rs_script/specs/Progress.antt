@@ -9,6 +9,7 @@ use Rattle.rs_model.specs.declared.command.Command.{Command}
 use Rattle.rs_store.specs.Source.{Stored}
 use Rattle.rs_script.specs.declared.group.Taking.{Taking}
 use Rattle.rs_script.specs.declared.pending.Pending.{Pending}
+use Rattle.rs_script.specs.declared.statement.BetweenLines.{BetweenLines}
 use Rattle.rs_script.specs.Answers.{outcome_text, output_of}
 use Rattle.rs_script.specs.PartialLine.{KeepsLine}
 use Rattle.rs_script.specs.Taken.{KeepsGroup}
@@ -30,8 +31,8 @@ pub record Between (D : Type 0) : Type 0 where
   pub session : ScriptState (Stored D)
   pub group : Option Taking
 
-abbrev pub between : {D : Type 0} → Stored D → ℕ → Option Taking → Between D
-between source now group = record { session = script_state source now; group = group }
+abbrev pub between : {D : Type 0} → Stored D → BetweenLines → Between D
+between source lines = record { session = script_state source lines.moment; group = lines.group }
 
 -- these lines were taken from this session on: whole statements, which were answered, and then those that are kept of a
 -- group
@@ -67,10 +68,10 @@ abbrev pub stand : {D W : Type 0} → Pending → Stored D → Watched W → Sta
 stand pending source writer = record { pending = pending; source = source; writer = writer }
 
 abbrev pub session_at : {D W : Type 0} → Stand D W → ScriptState (Stored D)
-session_at here = script_state here.source here.pending.now
+session_at here = script_state here.source here.pending.between.moment
 
 abbrev pub between_at : {D W : Type 0} → Stand D W → Between D
-between_at here = between here.source here.pending.now here.pending.group
+between_at here = between here.source here.pending.between
 
 -- these bytes came: whole statements, whose answers were written, and then what is kept of the next one
 pub record Progress {D W : Type 0} (device : D → DiskState) (contents : W → Option (List ℕ)) (begin : Beginning D W) (input : List ℕ) (here : Stand D W) : Type 0 where

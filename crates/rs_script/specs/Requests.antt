@@ -14,7 +14,7 @@ use Rattle.rs_items.specs.Fields.{fields}
 use Rattle.rs_items.specs.Items.{item_of_line}
 use Rattle.rs_caps.specs.Paths.{doc_of}
 use Rattle.rs_script.specs.declared.refusal.Refusal.{Refusal}
-use Rattle.rs_script.specs.declared.refusal.Refusal.TheVariants.{BadLine, BadMoment, BadName, BadHex, BadType, BadGroup, NoSuchDocument, NoMemory}
+use Rattle.rs_script.specs.declared.refusal.Refusal.TheVariants.{Line, BadMoment, BadGroup, NoSuchDocument}
 use Rattle.rs_script.specs.declared.request.Request.{Request}
 use Rattle.rs_script.specs.declared.request.Request.TheVariants.{At, Run, Document, Body, Status, Verify}
 
@@ -36,19 +36,11 @@ moment_in (Some ms) = moment_of ms
 abbrev pub at_request : List ℕ → Result Request Refusal
 at_request ms = asked (at_moment (moment_in (number_in 15 ms))) BadMoment
 
--- the refusal of a line that is no item: it has the same word as the fault
-abbrev pub refusal_by : ItemFault → Refusal
-refusal_by fault.BadLine = BadLine
-refusal_by fault.BadName = BadName
-refusal_by fault.BadHex = BadHex
-refusal_by fault.BadType = BadType
-refusal_by fault.NoMemory = NoMemory
-
 -- `put NAME HEX TYPE` and `delete NAME`: an item by itself
 abbrev pub item_request : Result Item ItemFault → Result Request Refusal
 item_request (Ok (item.Put name kind bytes)) = Ok (Run (Put name kind bytes))
 item_request (Ok (item.Delete name)) = Ok (Run (Delete name))
-item_request (Err why) = Err (refusal_by why)
+item_request (Err why) = Err (Line why)
 
 abbrev pub at_document : Option Doc → Option Request
 at_document None = None
@@ -58,7 +50,7 @@ at_document (Some doc) = Some (Document doc)
 abbrev pub show_request : List ℕ → Result Request Refusal
 show_request path =
     if starts_with nat_eq path (codes "/resource/")
-    then (if is_name (drop 10 path) then Ok (Body (drop 10 path)) else Err BadName)
+    then (if is_name (drop 10 path) then Ok (Body (drop 10 path)) else Err (Line fault.BadName))
     else asked (at_document (doc_of path)) NoSuchDocument
 
 -- a line of one field
@@ -67,7 +59,7 @@ request_alone word =
     if bytes_eq word (codes "publish") then Ok (Run Publish)
     else if bytes_eq word (codes "status") then Ok Status
     else if bytes_eq word (codes "verify") then Ok Verify
-    else Err BadLine
+    else Err (Line fault.BadLine)
 
 -- a line of two fields: a `group` by itself asks for nothing
 abbrev pub request_with : List ℕ → List ℕ → List ℕ → Result Request Refusal

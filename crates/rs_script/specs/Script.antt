@@ -8,6 +8,7 @@ use Rattle.rs_store.specs.Source.{Stored, Holds, state_of}
 use Rattle.rs_recovery.specs.Prefixes.{IsRunOf, Recovers}
 use Rattle.rs_store.specs.declared.refusal.Refusal as stored
 use Rattle.rs_store.specs.declared.refusal.Refusal.TheVariants as machine
+use Rattle.rs_items.specs.declared.item.ItemFault.TheVariants as fault
 use Rattle.rs_script.specs.declared.refusal.Refusal.TheVariants as refusals
 use Rattle.rs_script.specs.Model.{answers_of}
 use Rattle.rs_script.specs.Outcomes.{StatementGives}
@@ -66,7 +67,7 @@ IsOfMachine refusal = ⊥
 
 -- an outcome that the model does not decide
 abbrev pub IsMachine : LineOutcome → Type 0
-IsMachine (refused refusals.NoMemory) = Unit {0}
+IsMachine (refused (refusals.Line fault.NoMemory)) = Unit {0}
 IsMachine (refused (refusals.Source refusal)) = IsOfMachine refusal
 IsMachine outcome = ⊥
 

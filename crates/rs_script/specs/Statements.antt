@@ -7,12 +7,12 @@ use Rattle.rs_model.specs.declared.command.Item.{Item}
 use Rattle.rs_items.specs.declared.item.ItemFault.{ItemFault}
 use Rattle.rs_items.specs.Items.{item_of_line}
 use Rattle.rs_script.specs.declared.refusal.Refusal.{Refusal}
-use Rattle.rs_script.specs.declared.refusal.Refusal.TheVariants.{BadGroup, LongLine}
+use Rattle.rs_script.specs.declared.refusal.Refusal.TheVariants.{Line, BadGroup, LongLine}
 use Rattle.rs_script.specs.declared.request.Request.{Request}
 use Rattle.rs_script.specs.declared.request.Request.TheVariants.{Run}
 use Rattle.rs_script.specs.Lines.{Splits, line_limit, script_lines}
 use Rattle.rs_items.specs.Lines.{cut_return}
-use Rattle.rs_script.specs.Requests.{refusal_by, request_of}
+use Rattle.rs_script.specs.Requests.{request_of}
 
 -- a group has 1 to 16 lines
 abbrev pub size_in : Option ℕ → Option ℕ
@@ -80,7 +80,7 @@ IsUnfinished input = (raws : List (List ℕ)) × (rest : List ℕ) × Splits inp
 -- the item of a line, or its refusal
 abbrev pub or_refused : Result Item ItemFault → Result Item Refusal
 or_refused (Ok item) = Ok item
-or_refused (Err why) = Err (refusal_by why)
+or_refused (Err why) = Err (Line why)
 
 -- the item of a line of a group: a line past the limit is refused, whatever it says
 abbrev pub grouped_item : List ℕ → Result Item Refusal

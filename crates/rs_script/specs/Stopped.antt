@@ -30,7 +30,7 @@ BeginsWithReply (outcome ∷ outcomes) = (reply : Reply) × (outcome ≡ replied
 -- `by_then`: the replies in these answers are exactly those that were acknowledged then.
 -- `kept`, `each_kept`: the image represents what the first commands that count make, and each command with a reply in these answers
 -- is one of them.
-pub record IsParted (s : Source) (commands : List (Command × ℕ)) (acks : List Ack) (outcomes : List LineOutcome) (m : ℕ) (image : List ℕ) : Type 0 where
+pub record SplitAtStop (s : Source) (commands : List (Command × ℕ)) (acks : List Ack) (outcomes : List LineOutcome) (m : ℕ) (image : List ℕ) : Type 0 where
   pub first : List LineOutcome
   pub later : List LineOutcome
   pub outcomes_are : outcomes ≡ first ++ later
@@ -42,15 +42,15 @@ pub record IsParted (s : Source) (commands : List (Command × ℕ)) (acks : List
 -- A script whose source held a state had these outcomes.
 -- `answered`, `replies`: its disk saw commands answered from that state on, and the replies in the outcomes are those to the accepted
 -- ones.
--- `stops`: each stop meanwhile parts the outcomes.
-pub record LeavesParts {D : Type 0} (device : D → DiskState) (old : Stored D) (s : Source) (outcomes : List LineOutcome) (new : Stored D) : Type 0 where
+-- `stops`: each stop meanwhile splits the outcomes.
+pub record EachStopSplits {D : Type 0} (device : D → DiskState) (old : Stored D) (s : Source) (outcomes : List LineOutcome) (new : Stored D) : Type 0 where
   pub commands : List (Command × ℕ)
   pub acks : List Ack
   pub answered : AreAnswered (device old.disk) (Holding s) commands acks (device new.disk)
   pub replies : replies_in acks ≡ flat_map line_reply outcomes
-  pub stops : Leaves (device old.disk) (device new.disk) (IsParted s commands acks outcomes)
+  pub stops : Leaves (device old.disk) (device new.disk) (SplitAtStop s commands acks outcomes)
 
--- A stop parts the outcomes of each script that tells replies.
-abbrev pub ScriptsPart : {D : Type 0} → (D → DiskState) → Type 0
-ScriptsPart {D} device = (old new : Stored D) (outcomes : List LineOutcome) (s : Source)
-    → HasReplied device old (flat_map line_reply outcomes) new → Holds device old s → LeavesParts device old s outcomes new
+-- Each stop splits the outcomes of each script that tells replies.
+abbrev pub ScriptsSplit : {D : Type 0} → (D → DiskState) → Type 0
+ScriptsSplit {D} device = (old new : Stored D) (outcomes : List LineOutcome) (s : Source)
+    → HasReplied device old (flat_map line_reply outcomes) new → Holds device old s → EachStopSplits device old s outcomes new

@@ -12,6 +12,7 @@ use Rattle.rs_caps.specs.Answer.{answer}
 use Rattle.rs_caps.specs.PathAnswers.{body_path}
 use Rattle.rs_caps.specs.Paths.{path_of}
 use Rattle.rs_script.specs.declared.refusal.Refusal.{Refusal}
+use Rattle.rs_items.specs.declared.item.ItemFault.TheVariants as fault
 use Rattle.rs_script.specs.declared.refusal.Refusal.TheVariants as refusals
 use Rattle.rs_script.specs.declared.request.Request.{Request}
 use Rattle.rs_script.specs.declared.request.Request.TheVariants.{At, Run, Document, Body}
@@ -23,7 +24,7 @@ use Rattle.rs_script.specs.Session.{LineOutcome, moment_set, replied, shown, ref
 abbrev pub RunStatementEvents : Source → Command → ℕ → LineOutcome → List Event → Type 0
 RunStatementEvents s command now (replied reply) events = CommandEvents s command now (Ok reply) events
 RunStatementEvents s command now (refused (refusals.Source refusal)) events = CommandEvents s command now (Err refusal) events
-RunStatementEvents s command now (refused refusals.NoMemory) events = events ≡ Refused command ∷ []
+RunStatementEvents s command now (refused (refusals.Line fault.NoMemory)) events = events ≡ Refused command ∷ []
 RunStatementEvents s command now outcome events = events ≡ []
 
 -- what is shown is fetched, the bytes that are answered at its path; otherwise there is no fetch

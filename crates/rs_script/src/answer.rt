@@ -21,16 +21,12 @@ fn name_of(refusal: Refusal) -> &'static str
     ensures { result.now ≡ word_of refusal }
 {
     match refusal {
-        Refusal::BadLine => "BadLine",
+        Refusal::Line(fault) => fault.word(),
         Refusal::LongLine => "LongLine",
         Refusal::BadMoment => "BadMoment",
-        Refusal::BadName => "BadName",
-        Refusal::BadHex => "BadHex",
-        Refusal::BadType => "BadType",
         Refusal::BadGroup => "BadGroup",
         Refusal::NoSuchDocument => "NoSuchDocument",
         Refusal::Source(refusal) => refusal.word(),
-        Refusal::NoMemory => "NoMemory",
     }
 }
 

@@ -8,43 +8,10 @@ ghost use Rattle.rs_script.specs.Told.{TellsReplies};
 use crate::laws::{scripts_make_walks, scripts_recover, scripts_tell_replies};
 use crate::pending::Pending;
 use rs_disk::Disk;
-use rs_io::{ReadFault, Watched, WriteFault};
+use rs_io::{StreamFault, Watched};
 use rs_store::Source;
 use std::alloc::Global;
 use std::io::{Read, Write};
-use thiserror::Error;
-
-/// Why a script ends early.
-#[derive(Clone, Copy, Debug, PartialEq, Eq, Error)]
-pub enum ScriptFault {
-    /// The reader failed, or 2^40 reads did not reach the end of the input. The statements that came whole are
-    /// answered.
-    #[error("the input cannot be read")]
-    Read,
-    /// The writer failed. Commands that were accepted before stand.
-    #[error("the output cannot be written")]
-    Write,
-}
-
-impl From<ReadFault> for ScriptFault {
-    ghost use Rattle.rs_script.specs.declared.engine.ScriptFault.TheVariants as fault;
-
-    ghost from_gives = { λ _ result. result ≡ fault.Read };
-
-    fn from(_: ReadFault) -> ScriptFault {
-        ScriptFault::Read
-    }
-}
-
-impl From<WriteFault> for ScriptFault {
-    ghost use Rattle.rs_script.specs.declared.engine.ScriptFault.TheVariants as fault;
-
-    ghost from_gives = { λ _ result. result ≡ fault.Write };
-
-    fn from(_: WriteFault) -> ScriptFault {
-        ScriptFault::Write
-    }
-}
 
 /// The bytes that one read asks for.
 const PIECE: usize = 65_536;
@@ -60,9 +27,9 @@ const READS: u64 = 1 << 40;
 ///
 /// # Errors
 ///
-/// - [`ScriptFault::Read`]: a read failed in this call, or 2^40 reads did not reach the end. The
+/// - [`StreamFault::Read`]: a read failed in this call, or 2^40 reads did not reach the end. The
 ///   statements that came whole are answered. A part of a line or of a group after them is not done.
-/// - [`ScriptFault::Write`]: a call of the writer failed in this call. The statements whose answers
+/// - [`StreamFault::Write`]: a call of the writer failed in this call. The statements whose answers
 ///   were written are done, and so is the one whose answer failed. No other was begun.
 ///
 /// Whenever the disk stops within the call, it holds the state after the first commands that count: all
@@ -73,24 +40,25 @@ pub fn script<D: Disk, R: Read, W: Write>(
     source: &mut Source<D>,
     reader: &mut Watched<R>,
     writer: &mut Watched<W>,
-) -> Result<(), ScriptFault>
+) -> Result<(), StreamFault>
     // The whole input was answered, and all answers are flushed.
     ensures ok { OnOk result (EndsWell D.state source.old source.new
         (ends_of R.remaining reader.old reader.new W.contents writer.old writer.new)) }
 
     // A read failed, and all answers were flushed before it; or 2^40 reads did not reach the end. The
     // whole statements were answered, and a part of one after them was not.
-    ensures read { IsErrOf result ScriptFault.Read → StopsReading D.state source.old source.new
+    ensures read { IsErrOf result StreamFault.Read → StopsReading D.state source.old source.new
         (ends_of R.remaining reader.old reader.new W.contents writer.old writer.new) }
 
     // A call of the writer failed, and none of the reader. The statements so far are done. They came
     // whole, or the input had ended.
-    ensures write { IsErrOf result ScriptFault.Write → StopsWriting D.state source.old source.new
+    ensures write { IsErrOf result StreamFault.Write → StopsWriting D.state source.old source.new
         (ends_of R.remaining reader.old reader.new W.contents writer.old writer.new) }
 
     // Whatever the result, where the source held a state, its disk saw commands answered from that state
     // on. The replies that the writer took are those to the accepted ones of these commands. If it is open
     // at the end, it holds the state after those that count. A closed source accepts none and stays closed.
+    // If the device has followed the model, each name that the writer took is lawful.
     ensures answered { TellsReplies D.state source.old source.new
         (seen_by W.contents writer.old) (seen_by W.contents writer.new) }
 
@@ -123,5 +91,5 @@ pub fn script<D: Disk, R: Read, W: Write>(
         }
         pending.take_piece(alloc, source, &buf[..count], writer)?;
     }
-    Err(ScriptFault::Read)
+    Err(StreamFault::Read)
 }

@@ -6,10 +6,10 @@ ghost use Rattle.rs_script.specs.Room.{TakesRoom};
 ghost use Rattle.rs_script.specs.Statements.{group_size as size_of, grouped_item};
 ghost use Rattle.rs_script.specs.Taken.{KeepsItems};
 
-use crate::bytes::after;
 use crate::line::Content;
 use crate::refusal::Refusal;
 use crate::request::item_in_line;
+use rs_items::{ItemFault, after};
 use rs_model::{Item, MOST_GROUPED};
 use rs_record::number;
 use std::alloc::Global;
@@ -61,19 +61,19 @@ pub fn with_line(
     let item = item_in(alloc, content)?;
     match items.push(item) {
         Ok(()) => Ok(items),
-        Err(_) => Err(Refusal::NoMemory),
+        Err(_) => Err(Refusal::Line(ItemFault::NoMemory)),
     }
 }
 
 /// The item of a line of a group.
 fn item_in(alloc: Global, content: Content<'_>) -> Result<Item, Refusal>
     ensures { (line : List ℕ) → IsContent content.entry line
-        → (result ≡ grouped_item line) ⊎ ((result ≡ Err Refusal.NoMemory) × TakesRoom line) }
+        → (result ≡ grouped_item line) ⊎ ((result ≡ Err (Refusal.Line ItemFault.NoMemory)) × TakesRoom line) }
 {
     match content {
         Content::Bytes(bytes) => item_in_line(alloc, bytes),
-        Content::Foreign => Err(Refusal::BadLine),
-        Content::Refused => Err(Refusal::NoMemory),
+        Content::Foreign => Err(Refusal::Line(ItemFault::BadLine)),
+        Content::Refused => Err(Refusal::Line(ItemFault::NoMemory)),
         Content::TooLong => Err(Refusal::LongLine),
     }
 }

@@ -5,12 +5,12 @@ ghost use Rattle.std.specs.Prelude.{◌≡◌, ℕ, List};
 ghost use Rattle.rs_script.specs.Lines.{Splits};
 ghost use Rattle.rs_script.specs.Script.{ScriptsAreRuns, ScriptsRecover, ScriptsMakeWalks, ScriptsFollowTheModel, ScriptsTellTheFold, ScriptsHoldTheFold};
 ghost use Rattle.rs_script.specs.Statements.{Statement, IsScript};
-ghost use Rattle.rs_script.specs.Stopped.{ScriptsPart};
-ghost use Rattle.rs_script.specs.Told.{ScriptsTellReplies};
+ghost use Rattle.rs_script.specs.Stopped.{ScriptsSplit};
+ghost use Rattle.rs_script.specs.Told.{ScriptsTellReplies, ScriptsTellNames};
 
 use rs_caps::laws::answered::paths_are_answered;
 use rs_disk::Disk;
-use rs_recovery::laws::{replies_are_seen, runs_go_on, runs_recover};
+use rs_recovery::laws::{held_names_are_lawful, replies_are_seen, runs_go_on, runs_recover};
 use rs_recovery::walking::commands_make_walks;
 use rs_store::laws::{answers_leave_prefixes, held_sources_rest};
 
@@ -59,19 +59,21 @@ pub fn scripts_recover<D: Disk>()
 }
 
 /// A script tells the replies to the commands that its source accepted. Where the source held a state, its disk saw these
-/// commands answered from that state on.
+/// commands answered from that state on. Each name that it tells is lawful, if the device has followed the model.
 pub fn scripts_tell_replies<D: Disk>()
-    ensures { ScriptsTellReplies D.state }
+    ensures replies { ScriptsTellReplies D.state }
+    ensures names { ScriptsTellNames D.state }
 {
     held_sources_rest::<D>();
+    held_names_are_lawful();
     runs_go_on::<D>();
     replies_are_seen::<D>();
 }
 
-/// A stop parts the answers of a script. Those that may have been written by then have exactly the replies to the commands
+/// A stop splits the answers of a script. Those that may have been written by then have exactly the replies to the commands
 /// acknowledged by then, and the disk holds each of these commands.
-pub fn scripts_part<D: Disk>()
-    ensures { ScriptsPart D.state }
+pub fn scripts_split<D: Disk>()
+    ensures { ScriptsSplit D.state }
 {
     answers_leave_prefixes();
 }

@@ -18,6 +18,6 @@ mod request;
 mod show;
 mod statement;
 
-pub use engine::{ScriptFault, script};
+pub use engine::script;
 pub use memory::script_bytes;
 pub use refusal::Refusal;

@@ -6,11 +6,10 @@ ghost use Rattle.rs_script.specs.Answers.{output_of};
 ghost use Rattle.rs_script.specs.Finished.{StopsWithin};
 ghost use Rattle.rs_script.specs.Script.{Ran};
 
-use crate::engine::ScriptFault;
 use crate::laws::{scripts_make_walks, scripts_recover};
 use crate::pending::Pending;
 use rs_disk::Disk;
-use rs_io::Watched;
+use rs_io::{StreamFault, Watched};
 use rs_store::Source;
 use std::alloc::Global;
 use std::io::Write;
@@ -20,14 +19,14 @@ use std::io::Write;
 ///
 /// # Errors
 ///
-/// [`ScriptFault::Write`] where a write failed within an answer, as for want of memory. Its statement and those before
+/// [`StreamFault::Write`] where a write failed within an answer, as for want of memory. Its statement and those before
 /// it are done, and no other was begun.
 pub fn script_bytes<D: Disk, W: Write>(
     alloc: Global,
     source: &mut Source<D>,
     input: &[u8],
     writer: &mut Watched<W>,
-) -> Result<(), ScriptFault>
+) -> Result<(), StreamFault>
     ensures ok { OnOk result ((ran : Ran D.state source.old source.new)
         × (ran.input ≡ input.now)
         × Wrote W.contents writer.old writer.new (output_of ran.outcomes)) }
@@ -37,7 +36,7 @@ pub fn script_bytes<D: Disk, W: Write>(
         writer.old writer.new input.now) }
     ensures failed { OnErr result (EndFailed writer.old writer.new) }
 
-    ensures fault { IsOkUnless result ScriptFault.Write }
+    ensures fault { IsOkUnless result StreamFault.Write }
 {
     scripts_recover::<D>();
     scripts_make_walks::<D>();

@@ -8,10 +8,9 @@ ghost use Rattle.rs_script.specs.Progress.{stand, ComesTo, StopsBy, EndsLine, En
 
 use crate::answer::write_refusal;
 use crate::bytes::position_of;
-use crate::group::Taking;
 use crate::line::Line;
 use crate::refusal::Refusal;
-use crate::statement::take_content;
+use crate::statement::BetweenLines;
 use rs_disk::Disk;
 use rs_io::{Watched, WriteFault};
 use rs_store::Source;
@@ -22,10 +21,8 @@ use std::io::Write;
 /// The state of a script between two reads.
 #[derive(Drop)]
 pub struct Pending {
-    /// The moment at which commands come.
-    pub now: Moment,
-    /// The group that lacks lines, if there is one.
-    pub group: Option<Taking>,
+    /// What stands after the last whole line.
+    pub between: BetweenLines,
     /// The line that is still coming.
     pub line: Line,
 }
@@ -33,13 +30,15 @@ pub struct Pending {
 impl Pending {
     /// The state before the first read. Commands come at the moment 0.
     pub fn new(alloc: Global) -> Pending
-        ensures now { result.now ≡ 0 }
-        ensures group { result.group ≡ None }
+        ensures moment { result.between.moment ≡ 0 }
+        ensures group { result.between.group ≡ None }
         ensures line { KeepsLine result.line [] }
     {
         Pending {
-            now: Moment::first(),
-            group: None,
+            between: BetweenLines {
+                moment: Moment::first(),
+                group: None,
+            },
             line: Line::new(alloc),
         }
     }
@@ -63,14 +62,7 @@ impl Pending {
     {
         self.line.extend(run);
         let content = self.line.content(true);
-        let taken = take_content(
-            alloc,
-            source,
-            &mut self.now,
-            &mut self.group,
-            content,
-            writer,
-        );
+        let taken = self.between.take_content(alloc, source, content, writer);
         self.line.clear();
         taken
     }
@@ -122,14 +114,7 @@ impl Pending {
             return Ok(());
         }
         let content = self.line.content(false);
-        take_content(
-            alloc,
-            source,
-            &mut self.now,
-            &mut self.group,
-            content,
-            writer,
-        )
+        self.between.take_content(alloc, source, content, writer)
     }
 
     /// Takes the end of the input: its last line, and a refusal of a group that lacks a line then.
@@ -150,7 +135,7 @@ impl Pending {
         ensures failed { OnErr result (EndFailed writer.old writer.new) }
     {
         self.take_last(alloc, source, writer)?;
-        match self.group {
+        match self.between.group {
             Some(_) => write_refusal(Refusal::BadGroup, writer),
             None => Ok(()),
         }

@@ -1,7 +1,6 @@
 //! Why a statement is refused.
 
 ghost use Rattle.std.specs.Prelude.{◌≡◌};
-ghost use Rattle.rs_script.specs.Requests.{refusal_by};
 
 use rs_items::ItemFault;
 use thiserror::Error;
@@ -10,24 +9,16 @@ use thiserror::Error;
 /// command: its step may stand then, and the source is closed.
 #[derive(Clone, Copy, Debug, PartialEq, Eq, Error)]
 pub enum Refusal {
-    /// The line has none of the known forms: its first word is unknown, or it has too few fields or too many.
-    #[error("the line has no known form")]
-    BadLine,
+    /// The line asks for nothing: it has no known form, or its first field that is not lawful is a name, a hexadecimal
+    /// text or a media type; or there is not enough memory for it.
+    #[error("{0}")]
+    Line(ItemFault),
     /// The line is longer than a line may be.
     #[error("the line is too long")]
     LongLine,
     /// The field of `at` is not 1 to 15 decimal digits, or is past the last moment.
     #[error("the field is no moment")]
     BadMoment,
-    /// The field is no lawful name.
-    #[error("the name is not lawful")]
-    BadName,
-    /// The field is neither `-` nor pairs of hexadecimal digits.
-    #[error("the field is no hexadecimal text")]
-    BadHex,
-    /// The field is no lawful media type.
-    #[error("the media type is not lawful")]
-    BadType,
     /// The group does not have 1 to 16 lines, or the input ends within it.
     #[error("the group has no known size, or lacks a line")]
     BadGroup,
@@ -37,21 +28,14 @@ pub enum Refusal {
     /// The source refuses the request.
     #[error("the source refuses")]
     Source(rs_store::Refusal),
-    /// There is not enough memory for the line.
-    #[error("out of memory")]
-    NoMemory,
 }
 
 impl From<ItemFault> for Refusal {
-    ghost from_gives = { λ fault refusal. refusal ≡ refusal_by fault };
+    ghost use Rattle.rs_script.specs.declared.refusal.Refusal.TheVariants.{Line};
+
+    ghost from_gives = { λ fault refusal. refusal ≡ Line fault };
 
     fn from(fault: ItemFault) -> Refusal {
-        match fault {
-            ItemFault::BadLine => Refusal::BadLine,
-            ItemFault::BadName => Refusal::BadName,
-            ItemFault::BadHex => Refusal::BadHex,
-            ItemFault::BadType => Refusal::BadType,
-            ItemFault::NoMemory => Refusal::NoMemory,
-        }
+        Refusal::Line(fault)
     }
 }

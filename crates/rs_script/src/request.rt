@@ -6,13 +6,12 @@ ghost use Rattle.rs_script.specs.Requests.{request_of, request_alone as alone, r
 ghost use Rattle.rs_script.specs.Room.{TakesRoom};
 ghost use Rattle.rs_script.specs.Statements.{or_refused};
 
-use crate::bytes::after;
 use crate::refusal::Refusal;
 use rs_caps::doc_of;
-use rs_items::{item_of, split_field};
+use rs_items::{ItemFault, after, item_of, split_field};
 use rs_lists::Doc;
 use rs_model::{Command, Item};
-use rs_record::{Name, NameError, number};
+use rs_record::{Name, ValueFault, number};
 use rs_time::Moment;
 use std::alloc::Global;
 
@@ -37,15 +36,14 @@ pub enum Request {
 ///
 /// # Errors
 ///
-/// - [`Refusal::BadLine`]: the line has none of the known forms.
 /// - [`Refusal::BadGroup`]: the line begins a group, so it asks for nothing by itself.
-/// - [`Refusal::BadMoment`], [`Refusal::BadName`], [`Refusal::BadHex`], [`Refusal::BadType`]: the
-///   first field that is not lawful.
+/// - [`Refusal::Line`]: the line has none of the known forms, a name, a hexadecimal text or a type is the first field
+///   that is not lawful, or there is no memory for the name, the type or the bytes.
+/// - [`Refusal::BadMoment`]: the field of `at` is no moment.
 /// - [`Refusal::NoSuchDocument`]: no document has the path, at any time.
-/// - [`Refusal::NoMemory`]: there is no memory for the name, the type or the bytes.
 pub fn parse_request(alloc: Global, line: &[u8]) -> Result<Request, Refusal>
     ensures { (result ≡ request_of line.now)
-        ⊎ ((result ≡ Err Refusal.NoMemory) × TakesRoom line.now) }
+        ⊎ ((result ≡ Err (Refusal.Line ItemFault.NoMemory)) × TakesRoom line.now) }
 {
     let Some((word, argument)) = split_field(line) else {
         return request_alone(line);
@@ -59,7 +57,7 @@ pub fn parse_request(alloc: Global, line: &[u8]) -> Result<Request, Refusal>
 /// What an item by itself asks for.
 fn parse_item(alloc: Global, line: &[u8]) -> Result<Request, Refusal>
     ensures { (result ≡ item_request (item_of_line line.now))
-        ⊎ ((result ≡ Err Refusal.NoMemory) × IsTrue (begins_item_of line.now)) }
+        ⊎ ((result ≡ Err (Refusal.Line ItemFault.NoMemory)) × IsTrue (begins_item_of line.now)) }
 {
     let command = match item_in_line(alloc, line)? {
         Item::Put { name, kind, bytes } => Command::Put { name, kind, bytes },
@@ -71,10 +69,10 @@ fn parse_item(alloc: Global, line: &[u8]) -> Result<Request, Refusal>
 /// The item of a line. It takes memory only where the line begins as an item does.
 pub fn item_in_line(alloc: Global, line: &[u8]) -> Result<Item, Refusal>
     ensures { (result ≡ or_refused (item_of_line line.now))
-        ⊎ ((result ≡ Err Refusal.NoMemory) × IsTrue (begins_item_of line.now)) }
+        ⊎ ((result ≡ Err (Refusal.Line ItemFault.NoMemory)) × IsTrue (begins_item_of line.now)) }
 {
     if !begins_item(line) {
-        return Err(Refusal::BadLine);
+        return Err(Refusal::Line(ItemFault::BadLine));
     }
     Ok(item_of(alloc, line)?)
 }
@@ -109,7 +107,7 @@ fn request_alone(word: &[u8]) -> Result<Request, Refusal>
     } else if word == b"verify".as_slice() {
         Ok(Request::Verify)
     } else {
-        Err(Refusal::BadLine)
+        Err(Refusal::Line(ItemFault::BadLine))
     }
 }
 
@@ -121,7 +119,7 @@ fn request_with(
     argument: &[u8],
 ) -> Result<Request, Refusal>
     ensures { (result ≡ with_argument line.now word.now argument.now)
-        ⊎ ((result ≡ Err Refusal.NoMemory)
+        ⊎ ((result ≡ Err (Refusal.Line ItemFault.NoMemory))
         × ((9 ≤ length argument.now) ⊎ IsTrue (begins_item_of line.now))) }
 {
     if word == b"at".as_slice() {
@@ -152,7 +150,7 @@ fn at_request(ms: &[u8]) -> Result<Request, Refusal>
 /// What `show` asks for.
 fn show_request(alloc: Global, path: &[u8]) -> Result<Request, Refusal>
     ensures { (result ≡ show path.now)
-        ⊎ ((result ≡ Err Refusal.NoMemory) × (9 ≤ length path.now)) }
+        ⊎ ((result ≡ Err (Refusal.Line ItemFault.NoMemory)) × (9 ≤ length path.now)) }
 {
     let Some(name) = after(b"/resource/", path) else {
         return match doc_of(path) {
@@ -162,7 +160,7 @@ fn show_request(alloc: Global, path: &[u8]) -> Result<Request, Refusal>
     };
     match Name::new(alloc, name) {
         Ok(name) => Ok(Request::Body(name)),
-        Err(NameError::BadName) => Err(Refusal::BadName),
-        Err(NameError::NoMemory) => Err(Refusal::NoMemory),
+        Err(ValueFault::Malformed) => Err(Refusal::Line(ItemFault::BadName)),
+        Err(ValueFault::NoMemory) => Err(Refusal::Line(ItemFault::NoMemory)),
     }
 }

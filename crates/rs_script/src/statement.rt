@@ -16,6 +16,7 @@ use crate::line::Content;
 use crate::refusal::Refusal;
 use rs_disk::Disk;
 use rs_io::{Watched, WriteFault};
+use rs_items::ItemFault;
 use rs_store::Source;
 use rs_time::Moment;
 use std::alloc::Global;
@@ -37,8 +38,8 @@ fn answer_content<D: Disk, W: Write>(
 {
     match content {
         Content::Bytes(bytes) => answer_line(alloc, source, now, bytes, writer),
-        Content::Foreign => write_refusal(Refusal::BadLine, writer),
-        Content::Refused => write_refusal(Refusal::NoMemory, writer),
+        Content::Foreign => write_refusal(Refusal::Line(ItemFault::BadLine), writer),
+        Content::Refused => write_refusal(Refusal::Line(ItemFault::NoMemory), writer),
         Content::TooLong => write_refusal(Refusal::LongLine, writer),
     }
 }
@@ -55,63 +56,72 @@ fn begin_group(alloc: Global, size: usize) -> Taking
     }
 }
 
-/// Takes a line outside a group: it begins a group, or is answered by itself.
-fn take_first<D: Disk, W: Write>(
-    alloc: Global,
-    source: &mut Source<D>,
-    now: &mut Moment,
-    group: &mut Option<Taking>,
-    content: Content<'_>,
-    writer: &mut Watched<W>,
-) -> Result<(), WriteFault>
-    requires none { group.old ≡ None }
-    ensures taken { (line : List ℕ) → IsContent content.entry line → TakesLine D.state
-        (between source.old now.old group.old) line (between source.new now.new group.new)
-        (WritesOut W.contents writer.old writer.new result) }
-    ensures stopped { OnErr result (group.new ≡ None) }
-    ensures sound { OnOk result (failures writer.new ≡ failures writer.old) }
-    ensures failed { OnErr result (EndFailed writer.old writer.new) }
-{
-    match size_begun(content) {
-        Some(size) => {
-            *group = Some(begin_group(alloc, size));
-            Ok(())
-        }
-        None => answer_content(alloc, source, now, content, writer),
-    }
+/// What stands of a script between two lines.
+#[derive(Drop)]
+pub struct BetweenLines {
+    /// The moment at which commands come.
+    pub moment: Moment,
+    /// The group that lacks lines, if there is one.
+    pub group: Option<Taking>,
 }
 
-/// Takes a line. In a group it keeps the item of the line, and answers the group after its last line. Outside a
-/// group the line begins one, or is answered by itself.
-///
-/// # Errors
-///
-/// [`WriteFault`] where the writer failed in the answer. What the statement asked for is done.
-pub fn take_content<D: Disk, W: Write>(
-    alloc: Global,
-    source: &mut Source<D>,
-    now: &mut Moment,
-    group: &mut Option<Taking>,
-    content: Content<'_>,
-    writer: &mut Watched<W>,
-) -> Result<(), WriteFault>
-    ensures taken { (line : List ℕ) → IsContent content.entry line → TakesLine D.state
-        (between source.old now.old group.old) line (between source.new now.new group.new)
-        (WritesOut W.contents writer.old writer.new result) }
-    ensures stopped { OnErr result (group.new ≡ None) }
-    ensures sound { OnOk result (failures writer.new ≡ failures writer.old) }
-    ensures failed { OnErr result (EndFailed writer.old writer.new) }
-{
-    let Some(taking) = group.take() else {
-        return take_first(alloc, source, now, group, content, writer);
-    };
-    let items = with_line(alloc, taking.items, content);
-    if taking.later == 0 {
-        return answer_group(source, *now, items, writer);
+impl BetweenLines {
+    /// Takes a line outside a group: it begins a group, or is answered by itself.
+    fn take_first<D: Disk, W: Write>(
+        &mut self,
+        alloc: Global,
+        source: &mut Source<D>,
+        content: Content<'_>,
+        writer: &mut Watched<W>,
+    ) -> Result<(), WriteFault>
+        requires none { self.old.group ≡ None }
+        ensures taken { (line : List ℕ) → IsContent content.entry line → TakesLine D.state
+            (between source.old self.old) line (between source.new self.new)
+            (WritesOut W.contents writer.old writer.new result) }
+        ensures stopped { OnErr result (self.new.group ≡ None) }
+        ensures sound { OnOk result (failures writer.new ≡ failures writer.old) }
+        ensures failed { OnErr result (EndFailed writer.old writer.new) }
+    {
+        match size_begun(content) {
+            Some(size) => {
+                self.group = Some(begin_group(alloc, size));
+                Ok(())
+            }
+            None => answer_content(alloc, source, &mut self.moment, content, writer),
+        }
     }
-    *group = Some(Taking {
-        later: taking.later - 1,
-        items,
-    });
-    Ok(())
+
+    /// Takes a line. In a group it keeps the item of the line, and answers the group after its last line. Outside a
+    /// group the line begins one, or is answered by itself.
+    ///
+    /// # Errors
+    ///
+    /// [`WriteFault`] where the writer failed in the answer. What the statement asked for is done.
+    pub fn take_content<D: Disk, W: Write>(
+        &mut self,
+        alloc: Global,
+        source: &mut Source<D>,
+        content: Content<'_>,
+        writer: &mut Watched<W>,
+    ) -> Result<(), WriteFault>
+        ensures taken { (line : List ℕ) → IsContent content.entry line → TakesLine D.state
+            (between source.old self.old) line (between source.new self.new)
+            (WritesOut W.contents writer.old writer.new result) }
+        ensures stopped { OnErr result (self.new.group ≡ None) }
+        ensures sound { OnOk result (failures writer.new ≡ failures writer.old) }
+        ensures failed { OnErr result (EndFailed writer.old writer.new) }
+    {
+        let Some(taking) = self.group.take() else {
+            return self.take_first(alloc, source, content, writer);
+        };
+        let items = with_line(alloc, taking.items, content);
+        if taking.later == 0 {
+            return answer_group(source, self.moment, items, writer);
+        }
+        self.group = Some(Taking {
+            later: taking.later - 1,
+            items,
+        });
+        Ok(())
+    }
 }

@@ -1,5 +1,5 @@
 -- What a request on a connection does, and the held state after connections.
-use Rattle.std.proofs.Common.{◌≡◌, ◌≤◌, ◌+◌, ℕ, zero, suc, List, [], ◌∷◌, ◌++◌, length, length-append, Result, Ok, Err, refl, ap, sym, ◌∙◌, subst, inl, inr, arith}
+use Rattle.std.proofs.Common.{◌≡◌, ◌⊎◌, ◌≤◌, ◌+◌, ℕ, Bool, zero, suc, List, [], ◌∷◌, ◌++◌, length, length-append, Result, Ok, Err, refl, ap, sym, ◌∙◌, subst, inl, inr, arith}
 use Rattle.std.specs.Prelude.{IfOk, IsErrOf}
 use Rattle.rs_disk.specs.Medium.{DiskState}
 use Rattle.rs_io.specs.Watch.{Ends}
@@ -7,8 +7,8 @@ use Rattle.rs_model.specs.State.{Source}
 use Rattle.rs_model.specs.Step.{step, state_after, fold_of}
 use Rattle.rs_model.specs.declared.command.Command.{Command}
 use Rattle.rs_store.specs.Source.{Stored, Holds, state_of}
-use Rattle.rs_http.specs.declared.fault.FrontFault.{FrontFault}
-use Rattle.rs_http.specs.declared.fault.FrontFault.TheVariants.{Read, Write}
+use Rattle.rs_io.specs.declared.fault.StreamFault.{StreamFault}
+use Rattle.rs_io.specs.declared.fault.StreamFault.TheVariants.{Read, Write}
 use Rattle.rs_http.specs.declared.serve.Served.{Served}
 use Rattle.rs_store.specs.Advancing.{GoesOnBy, GoesOnOnce}
 use Rattle.rs_store.specs.Laws.{RestIsIdle}
@@ -16,18 +16,36 @@ use Rattle.rs_recovery.specs.Prefixes.{IsRunOf, IdleIsRun, RunsJoin}
 use Rattle.rs_http.specs.Counted.{RunsAtMost}
 use Rattle.rs_http.specs.Turn.{Turn}
 use Rattle.rs_http.specs.Serving.{Serves, Breaks, Halts}
-use Rattle.rs_source.specs.Serving.{Requests, MayConnect, Connections}
+use Rattle.rs_source.specs.Serving.{Requests, MayConnect, TellsRefused, Connections, IsTold, AreTold}
 
 fold_of-append : (s : Source) (commands more : List (Command × ℕ)) → fold_of s (commands ++ more) ≡ fold_of (fold_of s commands) more
 fold_of-append s [] more = refl
 fold_of-append s (c ∷ commands) more = fold_of-append (state_after s (step s c.0 c.1)) commands more
 
 -- each outcome of a request
-pub request_is : {D : Type 0} {device : D → DiskState} (turn : Turn device) (ends : Ends) (result : Result Served FrontFault) → IfOk result (Serves turn ends)
-    → (IsErrOf result Read → Breaks turn ends) → (IsErrOf result Write → Halts turn ends) → Requests turn ends
-request_is turn ends (Ok served) ok read write = inl (served, ok)
-request_is turn ends (Err Read) ok read write = inr (inl (read refl))
-request_is turn ends (Err Write) ok read write = inr (inr (write refl))
+pub request_is : {D : Type 0} {device : D → DiskState} (turn : Turn device) (ends : Ends) (result : Result Served StreamFault) → IfOk result (Serves turn ends)
+    → (IsErrOf result Read → Breaks turn ends) → (IsErrOf result Write → Halts turn ends) → Requests turn ends result
+request_is turn ends (Ok served) ok read write = ok
+request_is turn ends (Err Read) ok read write = read refl
+request_is turn ends (Err Write) ok read write = write refl
+
+-- a connection, whether it was refused or not
+pub may_connect : {D : Type 0} (device : D → DiskState) (old new : Stored D) (refused : Bool) → TellsRefused device old new refused → MayConnect device old new
+may_connect device old new refused (inl same) = inl same.0
+may_connect device old new refused (inr came) = inr came.0
+
+-- what a connection is told, of all that it does
+is_told : {D : Type 0} (device : D → DiskState) (old new : Stored D) → MayConnect device old new → (new ≡ old) ⊎ IsTold device old new
+is_told device old new (inl same) = inl same
+is_told device old new (inr came) = inr (record {
+  ends = came.ends;
+  is_new = came.begun.unwritten;
+  tells = came.answered;
+})
+
+pub are_told : {D : Type 0} (device : D → DiskState) (count : ℕ) (old new : Stored D) → Connections device old count new → AreTold device old count new
+are_told device zero old new same = same
+are_told device (suc count) old new c = (c.0, are_told device count old c.0 c.1, is_told device c.0 new c.2)
 
 module _ {D : Type 0} (device : D → DiskState) where
   -- a source that got no request

@@ -1,6 +1,5 @@
 -- The arguments of the program.
 use Rattle.std.specs.Prelude.{ℕ, ◌&&◌, min, nat_le, if◌then◌else◌, List, [], ◌∷◌, codes, bytes_eq, option_map, Option, Some, None}
-use Rattle.std.specs.Option.{option_or}
 use Rattle.std.specs.declared.io.ErrorKind.{ErrorKind}
 use Rattle.std.specs.declared.io.ErrorKind.TheVariants.{OutOfMemory}
 use Rattle.rs_record.specs.Decimal.{number_in}
@@ -19,8 +18,8 @@ use Rattle.rs_store.specs.declared.opening.OpenFault.TheVariants as opening
 use Rattle.rs_copy.specs.declared.faults.CopyFault.TheVariants as copying
 use Rattle.rs_store.specs.declared.copying.CopyRefusal.{CopyRefusal}
 use Rattle.rs_store.specs.declared.copying.CopyRefusal.TheVariants.{Closed, Fault}
-use Rattle.rs_script.specs.declared.engine.ScriptFault.{ScriptFault}
-use Rattle.rs_script.specs.declared.engine.ScriptFault.TheVariants as fault
+use Rattle.rs_io.specs.declared.fault.StreamFault.{StreamFault}
+use Rattle.rs_io.specs.declared.fault.StreamFault.TheVariants as fault
 
 -- how to make a source: the bytes of its disk, its base, and its item limit
 pub record Made : Type 0 where
@@ -56,21 +55,19 @@ with_numbers (Some size) base (Some limit) = Some (record { size = size; base = 
 abbrev pub made_of : List ℕ → List ℕ → List ℕ → Option Made
 made_of size base limit = with_numbers (number_in 18 size) base (number_in 18 limit)
 
--- `mem SIZE BASE LIMIT`, after the program's name
+-- `mem SIZE BASE LIMIT`, by what follows the word `mem`; and so on
 abbrev pub mem_of : List (List ℕ) → Option Task
-mem_of (program ∷ command ∷ size ∷ base ∷ limit ∷ []) =
-    if bytes_eq command (codes "mem") then option_map mem (made_of size base limit) else None
+mem_of (size ∷ base ∷ limit ∷ []) = option_map mem (made_of size base limit)
 mem_of _ = None
 
 -- `format FILE SIZE BASE LIMIT`
 abbrev pub format_of : List (List ℕ) → Option Task
-format_of (program ∷ command ∷ file ∷ size ∷ base ∷ limit ∷ []) =
-    if bytes_eq command (codes "format") then option_map (format file) (made_of size base limit) else None
+format_of (file ∷ size ∷ base ∷ limit ∷ []) = option_map (format file) (made_of size base limit)
 format_of _ = None
 
 -- `run FILE`
 abbrev pub run_of : List (List ℕ) → Option Task
-run_of (program ∷ command ∷ file ∷ []) = if bytes_eq command (codes "run") then Some (run file) else None
+run_of (file ∷ []) = Some (run file)
 run_of _ = None
 
 -- where both numbers are valid and in range
@@ -85,18 +82,28 @@ served_of port count = served_if (number_in 18 port) (number_in 18 count)
 
 -- `serve FILE PORT COUNT`
 abbrev pub serve_of : List (List ℕ) → Option Task
-serve_of (program ∷ command ∷ file ∷ port ∷ count ∷ []) =
-    if bytes_eq command (codes "serve") then option_map (serve file) (served_of port count) else None
+serve_of (file ∷ port ∷ count ∷ []) = option_map (serve file) (served_of port count)
 serve_of _ = None
 
 -- `copy OLD NEW SIZE`
 abbrev pub copy_of : List (List ℕ) → Option Task
-copy_of (program ∷ command ∷ old ∷ new ∷ size ∷ []) = if bytes_eq command (codes "copy") then option_map (copy old new) (number_in 18 size) else None
+copy_of (old ∷ new ∷ size ∷ []) = option_map (copy old new) (number_in 18 size)
 copy_of _ = None
+
+-- what a command and its arguments ask for
+abbrev pub task_of : List ℕ → List (List ℕ) → Option Task
+task_of command arguments =
+    if bytes_eq command (codes "mem") then mem_of arguments
+    else if bytes_eq command (codes "format") then format_of arguments
+    else if bytes_eq command (codes "run") then run_of arguments
+    else if bytes_eq command (codes "serve") then serve_of arguments
+    else if bytes_eq command (codes "copy") then copy_of arguments
+    else None
 
 -- what the arguments of the program ask for, its name first
 abbrev pub asked_of : List (List ℕ) → Option Task
-asked_of words = option_or (option_or (option_or (option_or (mem_of words) (format_of words)) (run_of words)) (serve_of words)) (copy_of words)
+asked_of (program ∷ command ∷ arguments) = task_of command arguments
+asked_of _ = None
 
 -- what the program makes of its arguments
 abbrev pub made_by : SourceArguments → Made
@@ -133,7 +140,7 @@ unread_of OutOfMemory = NoMemory
 unread_of _ = Usage
 
 -- the error of the program by the fault of a script
-abbrev pub error_of : ScriptFault → ProgramError
+abbrev pub error_of : StreamFault → ProgramError
 error_of fault.Read = Read
 error_of fault.Write = Write
 

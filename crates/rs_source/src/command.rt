@@ -74,70 +74,55 @@ fn serving_arguments(port: &str, count: &str) -> Option<ServingArguments>
 }
 
 /// What `mem SIZE BASE LIMIT` asks for.
-fn mem_asked(words: &[String]) -> Option<Invocation<'_>>
-    ensures { option_map asked_by result ≡ mem_of (map string_bytes words.now) }
+fn mem_asked(arguments: &[String]) -> Option<Invocation<'_>>
+    ensures { option_map asked_by result ≡ mem_of (map string_bytes arguments.now) }
 {
-    let [_, command, size, base, limit] = words else {
+    let [size, base, limit] = arguments else {
         return None;
     };
-    if command.as_str() != "mem" {
-        return None;
-    }
     let made = source_arguments(size, base, limit)?;
     Some(Invocation::Mem(made))
 }
 
 /// What `format FILE SIZE BASE LIMIT` asks for.
-fn format_asked(words: &[String]) -> Option<Invocation<'_>>
-    ensures { option_map asked_by result ≡ format_of (map string_bytes words.now) }
+fn format_asked(arguments: &[String]) -> Option<Invocation<'_>>
+    ensures { option_map asked_by result ≡ format_of (map string_bytes arguments.now) }
 {
-    let [_, command, file, size, base, limit] = words else {
+    let [file, size, base, limit] = arguments else {
         return None;
     };
-    if command.as_str() != "format" {
-        return None;
-    }
     let made = source_arguments(size, base, limit)?;
     Some(Invocation::Format(file, made))
 }
 
 /// What `run FILE` asks for.
-fn run_asked(words: &[String]) -> Option<Invocation<'_>>
-    ensures { option_map asked_by result ≡ run_of (map string_bytes words.now) }
+fn run_asked(arguments: &[String]) -> Option<Invocation<'_>>
+    ensures { option_map asked_by result ≡ run_of (map string_bytes arguments.now) }
 {
-    let [_, command, file] = words else {
+    let [file] = arguments else {
         return None;
     };
-    if command.as_str() != "run" {
-        return None;
-    }
     Some(Invocation::Run(file))
 }
 
 /// What `serve FILE PORT COUNT` asks for.
-fn serve_asked(words: &[String]) -> Option<Invocation<'_>>
-    ensures { option_map asked_by result ≡ serve_of (map string_bytes words.now) }
+fn serve_asked(arguments: &[String]) -> Option<Invocation<'_>>
+    ensures { option_map asked_by result ≡ serve_of (map string_bytes arguments.now) }
 {
-    let [_, command, file, port, count] = words else {
+    let [file, port, count] = arguments else {
         return None;
     };
-    if command.as_str() != "serve" {
-        return None;
-    }
     let serving = serving_arguments(port, count)?;
     Some(Invocation::Serve(file, serving))
 }
 
 /// What `copy OLD NEW SIZE` asks for.
-fn copy_asked(words: &[String]) -> Option<Invocation<'_>>
-    ensures { option_map asked_by result ≡ copy_of (map string_bytes words.now) }
+fn copy_asked(arguments: &[String]) -> Option<Invocation<'_>>
+    ensures { option_map asked_by result ≡ copy_of (map string_bytes arguments.now) }
 {
-    let [_, command, old, new, size] = words else {
+    let [old, new, size] = arguments else {
         return None;
     };
-    if command.as_str() != "copy" {
-        return None;
-    }
     let size = number(size.as_bytes(), 18)?;
     Some(Invocation::Copy(old, new, size))
 }
@@ -146,9 +131,15 @@ fn copy_asked(words: &[String]) -> Option<Invocation<'_>>
 pub fn asked(words: &[String]) -> Option<Invocation<'_>>
     ensures { option_map asked_by result ≡ asked_of (map string_bytes words.now) }
 {
-    mem_asked(words)
-        .or(format_asked(words))
-        .or(run_asked(words))
-        .or(serve_asked(words))
-        .or(copy_asked(words))
+    let [_, command, arguments @ ..] = words else {
+        return None;
+    };
+    match command.as_str() {
+        "mem" => mem_asked(arguments),
+        "format" => format_asked(arguments),
+        "run" => run_asked(arguments),
+        "serve" => serve_asked(arguments),
+        "copy" => copy_asked(arguments),
+        _ => None,
+    }
 }

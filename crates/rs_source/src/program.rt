@@ -11,7 +11,7 @@ ghost use Rattle.rs_source.specs.Files.{MayBegin};
 
 use rs_disk::MemoryDisk;
 use rs_file::FileFault;
-use rs_script::ScriptFault;
+use rs_io::StreamFault;
 use rs_store::{CopyFault, CopyRefusal, FormatFault, OpenFault, Source};
 use rs_time::Moment;
 use std::alloc::{AllocError, Global};
@@ -91,13 +91,13 @@ impl From<AllocError> for ProgramError {
     }
 }
 
-impl From<ScriptFault> for ProgramError {
+impl From<StreamFault> for ProgramError {
     ghost from_gives = { λ fault error. error ≡ error_of fault };
 
-    fn from(fault: ScriptFault) -> ProgramError {
+    fn from(fault: StreamFault) -> ProgramError {
         match fault {
-            ScriptFault::Read => ProgramError::Read,
-            ScriptFault::Write => ProgramError::Write,
+            StreamFault::Read => ProgramError::Read,
+            StreamFault::Write => ProgramError::Write,
         }
     }
 }

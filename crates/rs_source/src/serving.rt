@@ -3,17 +3,24 @@
 ghost use Rattle.std.specs.Prelude.{◌≡◌, ◌≤◌, ◌/◌, ℕ, List, IfOk, OnErr, length, min};
 ghost use Rattle.std.specs.Duration.{as_nanos};
 ghost use Rattle.rs_model.specs.declared.command.Command.{Command};
-ghost use Rattle.rs_io.specs.Watch.{ends_of, seen_by};
+ghost use Rattle.rs_io.specs.Watch.{ends_of};
 ghost use Rattle.rs_store.specs.Advancing.{GoesOnBy, GoesOnOnce};
 ghost use Rattle.rs_recovery.specs.Prefixes.{HasAnswered};
 ghost use Rattle.rs_http.specs.Counted.{RunsAtMost};
 ghost use Rattle.rs_http.specs.Told.{TellsReply};
 ghost use Rattle.rs_http.specs.Turn.{turn};
-ghost use Rattle.rs_source.specs.Serving.{Requests, MayConnect, Connections};
+ghost use Rattle.rs_source.specs.Serving.{
+  Requests,
+  was_refused,
+  MayConnect,
+  TellsRefused,
+  Connections,
+  AreTold,
+};
 
 use rs_disk::Disk;
-use rs_http::{FrontFault, Served, serve_one};
-use rs_io::Watched;
+use rs_http::{Served, serve_one};
+use rs_io::{StreamFault, Watched};
 use rs_recovery::laws::runs_recover;
 use rs_store::Source;
 use rs_store::laws::held_sources_rest;
@@ -65,14 +72,15 @@ fn serve_request<D: Disk, R: Read, W: Write>(
     reader: &mut Watched<R>,
     writer: &mut Watched<W>,
     now: Moment,
-) -> Result<Served, FrontFault>
-    // What these two ends gave and took is one request, whatever the result.
+) -> Result<Served, StreamFault>
+    // What these two ends gave and took is one request, with this result.
     ensures request { Requests (turn D.state source.old now source.new)
-        (ends_of R.remaining reader.old reader.new W.contents writer.old writer.new) }
+        (ends_of R.remaining reader.old reader.new W.contents writer.old writer.new) result }
 
-    // The reply that the writer took is that to the command which the source accepted.
+    // The reply that the writer took is that to the command which the source accepted. Only to a GET or a
+    // HEAD is a 200 anything else.
     ensures answered { TellsReply D.state source.old source.new
-        (seen_by W.contents writer.old) (seen_by W.contents writer.new) }
+        (ends_of R.remaining reader.old reader.new W.contents writer.old writer.new) }
 
     ensures once { GoesOnOnce D.state source.old now source.new }
     ensures run { RunsAtMost D.state source.old 1 source.new }
@@ -81,8 +89,10 @@ fn serve_request<D: Disk, R: Read, W: Write>(
 }
 
 /// Whether a request was answered with a refusal.
-fn is_refused(served: Result<Served, FrontFault>) -> bool {
-    matches!(served, Ok(Served::Answered(400..)))
+fn is_refused(served: Result<Served, StreamFault>) -> bool
+    ensures { result ≡ was_refused served }
+{
+    matches!(served, Ok(Served::Answered(status)) if status.code() >= 400)
 }
 
 /// Serves one request of a connection at the moment `now`, and answers whether it was refused.
@@ -92,7 +102,7 @@ fn answer_stream<D: Disk>(
     stream: &TcpStream,
     now: Moment,
 ) -> bool
-    ensures { MayConnect D.state source.old source.new }
+    ensures { TellsRefused D.state source.old source.new result }
 {
     let Ok(input) = BufReader::with_capacity(alloc, READ_AHEAD, stream) else {
         return false;
@@ -165,8 +175,9 @@ fn accept_one<D: Disk, C: Clock>(
 /// memory, counts too, and leaves the source as it was. At most one command a connection makes the state that the source
 /// holds then, unless the device failed in a command and closed the source.
 ///
-/// Whether a connection is accepted, and what its client sends and gets, no clause says, since sockets have no contract:
-/// that is tested. The clauses say what the source did meanwhile, and with which response (`Connects`).
+/// Whether a connection is accepted, what its client sends and gets, and that a response leaves behind the calls of its
+/// command, no clause says, since sockets have no contract: that is tested. The clauses say what the source did
+/// meanwhile, and with which response (`Connects`).
 pub fn serve_connections<D: Disk, C: Clock>(
     alloc: Global,
     source: &mut Source<D>,
@@ -177,6 +188,11 @@ pub fn serve_connections<D: Disk, C: Clock>(
     ensures connections { Connections D.state source.old count source.new }
     ensures goes_on { (commands : List (Command × ℕ)) × (length commands ≤ count)
         × GoesOnBy D.state source.old source.new commands }
+
+    // What the writer of a connection took tells the reply to the command that the source accepted in this
+    // connection. What is shown was asked for by what its reader gave. The next connection begins with the
+    // source as this one left it.
+    ensures told { AreTold D.state source.old count source.new }
 
     // The connections together are a run of at most one counted command each. So whenever the disk
     // stops, it holds the state after the first of these commands.

@@ -1,7 +1,7 @@
 -- The word to go on, the answer to the plan, and the flush.
 use Rattle.std.proofs.Common.{refl}
 use Rattle.rs_io.specs.Watch.{seen_by, ends_of}
-use Rattle.rs_http.specs.declared.fault.FrontFault.TheVariants.{Write}
+use Rattle.rs_io.specs.declared.fault.StreamFault.TheVariants.{Write}
 use Rattle.rs_http.proofs.Endings.{finished, passed_on, unsaid, passes}
 use Rattle.rs_http.proofs.answer.answer.Goals as goal
 

@@ -11,7 +11,7 @@ use Rattle.rs_http.proofs.answer.ask_group.Goals as goal
 pub returns : goal.returns
 returns g c = λ rest.
     let found = c.in-Ok.ensures.ok in
-    let asked = turn g.D.Disk.state c.args.source.now c.args.now c.run.new.source in
+    let asked = turn g.D.Disk.state c.args.source.now c.args.exchange.moment c.run.new.source in
     answers_more (λ outcome r. inr (record {
       items = found.0;
       whole = refl;

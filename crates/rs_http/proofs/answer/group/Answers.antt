@@ -20,7 +20,7 @@ returns-in-Ok-clause-ends g c = λ waits.
     let same : body ≡ c.in-Ok.body.items = c.as_slice.ensures.value in
     let size : length body ≡ c.args.body_length = ap length same ∙ c.in-Ok.ensures.ok.0 in
     let came = subst (Consumes (g.R.Read.remaining (watched c.args.reader.now)) rest) (sym same) c.in-Ok.ensures.ok.1.0 in
-    let asked = turn g.D.Disk.state c.args.source.now c.args.now c.ask_group.new.source in
+    let asked = turn g.D.Disk.state c.args.source.now c.args.exchange.moment c.ask_group.new.source in
     sent_ends (Ok (Group c.args.body_length waits)) g.R.Read.remaining c.args.reader.now c.read_body.new.reader body refl came c.in-Ok.ensures.ok.1.1
     (sound_reads _ c.args.reader.now c.read_body.new.reader body (omega (arith, c.in-Ok.ensures.reads, size)) c.in-Ok.ensures.ok.1.1)
     (c.ask_group.ensures rest) (λ outcome h. subst (λ (n : ℕ). GroupComesTo asked n body rest outcome) size h)
@@ -32,9 +32,9 @@ pub returns-in_default-clause-ends : goal.returns-in_default-clause-ends
 returns-in_default-clause-ends g c = λ waits.
     let rest = g.R.Read.remaining (watched c.read_body.new.reader) in
     let came = c.in-Err.ensures.unread in
-    let asked = turn g.D.Disk.state c.args.source.now c.args.now c.args.source.now in
+    let asked = turn g.D.Disk.state c.args.source.now c.args.exchange.moment c.args.source.now in
     let gives = GroupComesTo asked c.args.body_length came.0 rest in
     sent_ends (Ok (Group c.args.body_length waits)) g.R.Read.remaining c.args.reader.now c.read_body.new.reader came.0 refl came.1
     (c.in-Err.ensures.failed.sound (λ e. let fault : c.in-Err.refusal ≡ ReadFault = cc in c.in_default.not-ReadFault fault)) came.3
-    (answered {contents = g.W.Write.contents} {before = c.args.writer.now} {after = c.write_refusal.new.writer} {framing = c.args.framing} {result = c.write_refusal.result} {comes = gives}
+    (answered {contents = g.W.Write.contents} {before = c.args.writer.now} {after = c.write_refusal.new.writer} {framing = c.args.exchange.framing} {result = c.write_refusal.result} {comes = gives}
     (refused c.in-Err.refusal) (inl (refl, unread_unasked c.args.body_length came.0 rest c.in-Err.refusal c.in_default.not-ReadFault came.2)) c.write_refusal.ensures) (λ o h. h)

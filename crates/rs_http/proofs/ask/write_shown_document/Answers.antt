@@ -1,8 +1,9 @@
 -- The head, and the text of the document, which a HEAD leaves out.
 use Rattle.std.proofs.Common.{◌≡◌, ◌∙◌, ◌++◌, [], ap, sym, refl, List, ℕ, if◌then◌else◌, Bool, subst, codes}
 use Rattle.rs_io.specs.Watch.{Wrote}
+use Rattle.rs_http.specs.declared.status.StatusCode.TheVariants as statuses
 use Rattle.rs_http.proofs.FromBelow.{wrote_then, failed_first, failed_last}
-use Rattle.rs_http.specs.declared.fault.FrontFault.TheVariants.{Write}
+use Rattle.rs_io.specs.declared.fault.StreamFault.TheVariants.{Write}
 use Rattle.rs_http.specs.Responses.{content_lines, sent_body, framed}
 use Rattle.rs_http.proofs.Asking.{document_head}
 use Rattle.rs_http.proofs.Endings.{passes}
@@ -18,7 +19,7 @@ returns-in_err-write_document_head g c =
 pub returns : goal.returns
 returns g c =
     let text : List ℕ = c.args.document.now in
-    let head = framed c.args.framing 200 (content_lines (codes "application/xml") c.len.result) [] in
+    let head = framed c.args.framing statuses.Ok (content_lines (codes "application/xml") c.len.result) [] in
     let all : text ≡ sent_body c.args.framing text = sym (ap (λ (b : Bool). if b then [] else text) c.if-framing.false) in
     let P : List ℕ → Type 0 = λ l. Wrote g.W.Write.contents c.args.writer.now c.write.new.out l in
     let whole = subst P (ap (λ (l : List ℕ). head ++ l) all ∙ document_head c.args.framing text c.len.result (sym c.len.ensures))
@@ -28,7 +29,7 @@ returns g c =
 pub returns-in_err-write : goal.returns-in_err-write
 returns-in_err-write g c =
     let text : List ℕ = c.args.document.now in
-    let head = framed c.args.framing 200 (content_lines (codes "application/xml") c.len.result) [] in
+    let head = framed c.args.framing statuses.Ok (content_lines (codes "application/xml") c.len.result) [] in
     let all : text ≡ sent_body c.args.framing text = sym (ap (λ (b : Bool). if b then [] else text) c.if-framing.false) in
     let cut = failed_last g.W.Write.contents c.args.writer.now c.write_document_head.new.writer c.write.new.out head text _ c.in_ok-write_document_head.ensures.written c.in_err-write.ensures.within
     (ap (λ (l : List ℕ). head ++ l) all ∙ document_head c.args.framing text c.len.result (sym c.len.ensures)) in

@@ -3,21 +3,18 @@ use Rattle.std.proofs.Common.{◌≡◌, ◌∙◌, [], ◌∷◌, ◌++◌, ◌
 use Rattle.std.proofs.lemmas.Result.{err_from_is_err_and}
 use Rattle.rs_model.specs.declared.command.Item.{Item}
 use Rattle.rs_items.specs.declared.item.ItemFault.{ItemFault}
-use Rattle.rs_http.specs.declared.request.NoPlan.{NoPlan}
-use Rattle.rs_http.specs.declared.request.NoPlan.TheVariants.{NoMemory}
+use Rattle.rs_items.specs.declared.item.ItemFault.TheVariants.{NoMemory}
 use Rattle.rs_items.specs.Items.{item_of_line}
 use Rattle.rs_http.specs.Groups.{items_of_lines, items_in}
 use Rattle.rs_items.specs.Lines.{last_line}
-use Rattle.rs_http.specs.Outcomes.{reason_of_fault}
 use Rattle.rs_http.proofs.Lines.{behind_none, takes_line, meets_fault, takes_last, last_fault, take_then}
 use Rattle.rs_http.proofs.group.first_items.Goals as goal
 
 -- a fault of a line is that of the body
-passed_on : (One Whole : ItemFault → Type 0) (reason : NoPlan) → ((fault : ItemFault) → One fault → Whole fault)
-    → (reason ≡ NoMemory) ⊎ ((fault : ItemFault) × One fault × (reason ≡ reason_of_fault fault))
-    → (reason ≡ NoMemory) ⊎ ((fault : ItemFault) × Whole fault × (reason ≡ reason_of_fault fault))
-passed_on One Whole reason is (inl lacking) = inl lacking
-passed_on One Whole reason is (inr (fault, one, same)) = inr (fault, is fault one, same)
+passed_on : (One Whole : ItemFault → Type 0) (fault : ItemFault) → ((fault : ItemFault) → One fault → Whole fault)
+    → (fault ≡ NoMemory) ⊎ One fault → (fault ≡ NoMemory) ⊎ Whole fault
+passed_on One Whole fault is (inl lacking) = inl lacking
+passed_on One Whole fault is (inr one) = inr (is fault one)
 
 pub loop-line-init : goal.loop-line-init
 loop-line-init c = record { done = []; so_far = behind_none (items_in c.args.body.now); kept = c.new-items.ensures.items }

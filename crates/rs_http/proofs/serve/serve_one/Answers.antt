@@ -1,7 +1,7 @@
 -- The head, and then the answer.
 use Rattle.std.proofs.Common.{◌≡◌, Ok, Err, take, refl}
 use Rattle.rs_io.specs.Watch.{seen_by, ends_of}
-use Rattle.rs_http.specs.declared.fault.FrontFault.TheVariants.{Read, Write}
+use Rattle.rs_io.specs.declared.fault.StreamFault.TheVariants.{Read, Write}
 use Rattle.rs_http.proofs.Endings.{served, broken, halted, passes}
 use Rattle.rs_http.specs.Turn.{turn}
 use Rattle.rs_http.proofs.Going.{request_goes}
@@ -44,22 +44,34 @@ pub returns-in_default-clause-run : goal.returns-in_default-clause-run
 returns-in_default-clause-run g c = still_runs c.requests_are_runs.ensures.answered c.requests_are_runs.ensures.broken (turn g.D.Disk.state c.args.source.now c.args.now c.args.source.now) refl
 
 pub returns-in_default-clause-answered : goal.returns-in_default-clause-answered
-returns-in_default-clause-answered g c = silent_tells c.replies_are_seen.ensures.seen c.requests_reply.ensures.answered c.requests_reply.ensures.broken (turn g.D.Disk.state c.args.source.now c.args.now c.args.source.now) (seen_by g.W.Write.contents c.args.writer.now) refl
+returns-in_default-clause-answered g c =
+    silent_tells c.replies_are_seen.ensures.seen c.requests_reply.ensures.answered c.requests_reply.ensures.broken (turn g.D.Disk.state c.args.source.now c.args.now c.args.source.now)
+    (seen_by g.R.Read.remaining c.args.reader.now) (seen_by g.R.Read.remaining c.read_head.new.reader) (seen_by g.W.Write.contents c.args.writer.now) c.in_default.ensures.err.0 c.in_default.ensures.err.1 refl
 
 pub returns-in_default-read_request-clause-run : goal.returns-in_default-read_request-clause-run
 returns-in_default-read_request-clause-run g c = still_runs c.requests_are_runs.ensures.answered c.requests_are_runs.ensures.broken (turn g.D.Disk.state c.args.source.now c.args.now c.args.source.now) refl
 
 pub returns-in_default-read_request-clause-answered : goal.returns-in_default-read_request-clause-answered
-returns-in_default-read_request-clause-answered g c = silent_tells c.replies_are_seen.ensures.seen c.requests_reply.ensures.answered c.requests_reply.ensures.broken (turn g.D.Disk.state c.args.source.now c.args.now c.args.source.now) (seen_by g.W.Write.contents c.args.writer.now) refl
+returns-in_default-read_request-clause-answered g c =
+    silent_tells c.replies_are_seen.ensures.seen c.requests_reply.ensures.answered c.requests_reply.ensures.broken (turn g.D.Disk.state c.args.source.now c.args.now c.args.source.now)
+    (seen_by g.R.Read.remaining c.args.reader.now) (seen_by g.R.Read.remaining c.read_head.new.reader) (seen_by g.W.Write.contents c.args.writer.now) (take c.in-Ok.came c.read_head.new.buf) c.in-Ok.ensures.ok.1.0 refl
 
 pub returns-clause-run : goal.returns-clause-run
 returns-clause-run g c = request_runs c.requests_are_runs.ensures.answered c.requests_are_runs.ensures.broken (turn g.D.Disk.state c.args.source.now c.args.now c.answer.new.source) c.in-Some.request _ (Ok c.in_ok-status.status) c.in_ok-status.ensures.ends
 
 pub returns-clause-answered : goal.returns-clause-answered
-returns-clause-answered g c = ends_tell c.replies_are_seen.ensures.seen c.requests_reply.ensures.answered c.requests_reply.ensures.broken (turn g.D.Disk.state c.args.source.now c.args.now c.answer.new.source) c.in-Some.request _ (Ok c.in_ok-status.status) c.in_ok-status.ensures.ends
+returns-clause-answered g c =
+    ends_tell c.replies_are_seen.ensures.seen c.requests_reply.ensures.answered c.requests_reply.ensures.broken (turn g.D.Disk.state c.args.source.now c.args.now c.answer.new.source)
+    (ends_of g.R.Read.remaining c.args.reader.now c.answer.new.reader g.W.Write.contents c.args.writer.now c.answer.new.writer)
+    (seen_by g.R.Read.remaining c.read_head.new.reader) c.in-Some.request (take c.in-Ok.came c.read_head.new.buf) c.in-Ok.read
+    c.in-Ok.ensures.ok.1.0 c.in-Some.ensures (Ok c.in_ok-status.status) c.in_ok-status.ensures.ends
 
 pub returns-in_err-status-clause-run : goal.returns-in_err-status-clause-run
 returns-in_err-status-clause-run g c = request_runs c.requests_are_runs.ensures.answered c.requests_are_runs.ensures.broken (turn g.D.Disk.state c.args.source.now c.args.now c.answer.new.source) c.in-Some.request _ (Err c.in_err-status.field-0.0) c.in_err-status.ensures.ends
 
 pub returns-in_err-status-clause-answered : goal.returns-in_err-status-clause-answered
-returns-in_err-status-clause-answered g c = ends_tell c.replies_are_seen.ensures.seen c.requests_reply.ensures.answered c.requests_reply.ensures.broken (turn g.D.Disk.state c.args.source.now c.args.now c.answer.new.source) c.in-Some.request _ (Err c.in_err-status.field-0.0) c.in_err-status.ensures.ends
+returns-in_err-status-clause-answered g c =
+    ends_tell c.replies_are_seen.ensures.seen c.requests_reply.ensures.answered c.requests_reply.ensures.broken (turn g.D.Disk.state c.args.source.now c.args.now c.answer.new.source)
+    (ends_of g.R.Read.remaining c.args.reader.now c.answer.new.reader g.W.Write.contents c.args.writer.now c.answer.new.writer)
+    (seen_by g.R.Read.remaining c.read_head.new.reader) c.in-Some.request (take c.in-Ok.came c.read_head.new.buf) c.in-Ok.read
+    c.in-Ok.ensures.ok.1.0 c.in-Some.ensures (Err c.in_err-status.field-0.0) c.in_err-status.ensures.ends

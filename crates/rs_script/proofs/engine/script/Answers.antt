@@ -21,7 +21,7 @@ loop-init g c = record {
     counted = omega arith;
   };
   progress = Progress-none g.D.Disk.state g.W.Write.contents (stand c.new-pending.result c.args.source.now c.args.writer.now) c.args.source.now refl
-      c.new-pending.ensures.now c.new-pending.ensures.group c.new-pending.ensures.line;
+      c.new-pending.ensures.moment c.new-pending.ensures.group c.new-pending.ensures.line;
   some = omega arith;
   writer_still = λ _. (refl, refl, refl);
   reader_still = λ _. (refl, refl);
@@ -66,7 +66,7 @@ returns-in_err-flush-2-clause-write g c = λ _.
     let gave = Consumes-end _ _ _ inv.input c.read.new.buf c.in_ok-count.count c.if-count-eq0.true inv.reads.took.0 c.in_ok-count.ensures.ok.0 in
     let end = c.in_ok-take_end.ensures.ok _ inv.input p in
     record {
-      ran = ran_of g.D.Disk.state (c.scripts_recover.ensures, c.scripts_make_walks.ensures) c.args.source.now c.take_end.new.source inv.input end.0 end.1 c.take_end.new.self.now end.2;
+      ran = ran_of g.D.Disk.state (c.scripts_recover.ensures, c.scripts_make_walks.ensures) c.args.source.now c.take_end.new.source inv.input end.0 end.1 c.take_end.new.self.between.moment end.2;
       came = inr (gave, c.in_ok-count.ensures.end c.if-count-eq0.true (omega arith));
       breaks = inr (broke_after bytes_of (seen_by g.W.Write.contents c.args.writer.now) (seen_by g.W.Write.contents c.take_end.new.writer) (seen_by g.W.Write.contents c.flush-then-count-eq0.new.self)
           end.0 end.3 c.flush-then-count-eq0.ensures.bytes c.in_err-flush-2.ensures.flush_failed c.flush-then-count-eq0.ensures.once);
@@ -80,7 +80,7 @@ returns-then-count-eq0-clause-ok g c =
     let gave = Consumes-end _ _ _ inv.input c.read.new.buf c.in_ok-count.count c.if-count-eq0.true inv.reads.took.0 c.in_ok-count.ensures.ok.0 in
     let end = c.in_ok-take_end.ensures.ok _ inv.input p in
     record {
-      ran = ran_of g.D.Disk.state (c.scripts_recover.ensures, c.scripts_make_walks.ensures) c.args.source.now c.take_end.new.source inv.input end.0 end.1 c.take_end.new.self.now end.2;
+      ran = ran_of g.D.Disk.state (c.scripts_recover.ensures, c.scripts_make_walks.ensures) c.args.source.now c.take_end.new.source inv.input end.0 end.1 c.take_end.new.self.between.moment end.2;
       took = ((gave, c.in_ok-count.ensures.ok.1 ∙ inv.reads.took.1), c.in_ok-count.ensures.end c.if-count-eq0.true (omega arith));
       wrote = (
         Appends-kept (g.W.Write.contents (watched c.args.writer.now)) (g.W.Write.contents (watched c.take_end.new.writer))
@@ -127,17 +127,17 @@ loop-preserved g c =
 
 pub returns-in_err-flush-clause-answered : goal.returns-in_err-flush-clause-answered
 returns-in_err-flush-clause-answered g c =
-    tells_so_far g.D.Disk.state g.W.Write.contents (c.scripts_recover.ensures, c.scripts_make_walks.ensures) c.scripts_tell_replies.ensures c.args.source.now c.args.writer.now c.flush.new.self
+    tells_so_far g.D.Disk.state g.W.Write.contents (c.scripts_recover.ensures, c.scripts_make_walks.ensures) (c.scripts_tell_replies.ensures.replies, c.scripts_tell_replies.ensures.names) c.args.source.now c.args.writer.now c.flush.new.self
     (stand c.loop.pending c.loop.source c.loop.writer) c.loop.invariant.input c.loop.invariant.progress c.flush.ensures.bytes
 
 pub returns-in_err-count-clause-answered : goal.returns-in_err-count-clause-answered
 returns-in_err-count-clause-answered g c =
-    tells_so_far g.D.Disk.state g.W.Write.contents (c.scripts_recover.ensures, c.scripts_make_walks.ensures) c.scripts_tell_replies.ensures c.args.source.now c.args.writer.now c.flush.new.self
+    tells_so_far g.D.Disk.state g.W.Write.contents (c.scripts_recover.ensures, c.scripts_make_walks.ensures) (c.scripts_tell_replies.ensures.replies, c.scripts_tell_replies.ensures.names) c.args.source.now c.args.writer.now c.flush.new.self
     (stand c.loop.pending c.loop.source c.loop.writer) c.loop.invariant.input c.loop.invariant.progress c.flush.ensures.bytes
 
 pub returns-clause-answered : goal.returns-clause-answered
 returns-clause-answered g c =
-    tells_so_far g.D.Disk.state g.W.Write.contents (c.scripts_recover.ensures, c.scripts_make_walks.ensures) c.scripts_tell_replies.ensures c.args.source.now c.args.writer.now c.loop.writer
+    tells_so_far g.D.Disk.state g.W.Write.contents (c.scripts_recover.ensures, c.scripts_make_walks.ensures) (c.scripts_tell_replies.ensures.replies, c.scripts_tell_replies.ensures.names) c.args.source.now c.args.writer.now c.loop.writer
     (stand c.loop.pending c.loop.source c.loop.writer) c.loop.invariant.input c.loop.invariant.progress (Keeps-refl (g.W.Write.contents (watched c.loop.writer)))
 
 pub returns-in_err-take_end-clause-answered : goal.returns-in_err-take_end-clause-answered
@@ -145,16 +145,16 @@ returns-in_err-take_end-clause-answered g c =
     let inv = c.loop.invariant in
     let p = Progress-kept g.D.Disk.state g.W.Write.contents _ inv.input _ c.flush.new.self c.flush.ensures.bytes c.in_ok-flush.ensures.sound inv.progress in
     let end = c.in_err-take_end.ensures.err _ inv.input p in
-    tells_part g.D.Disk.state g.W.Write.contents (c.scripts_recover.ensures, c.scripts_make_walks.ensures) c.scripts_tell_replies.ensures c.args.source.now c.args.writer.now c.take_end.new.writer
-    c.take_end.new.source c.take_end.new.self.now inv.input end.0 end.1 end.2 end.3
+    tells_part g.D.Disk.state g.W.Write.contents (c.scripts_recover.ensures, c.scripts_make_walks.ensures) (c.scripts_tell_replies.ensures.replies, c.scripts_tell_replies.ensures.names) c.args.source.now c.args.writer.now c.take_end.new.writer
+    c.take_end.new.source c.take_end.new.self.between.moment inv.input end.0 end.1 end.2 end.3
 
 pub returns-in_err-flush-2-clause-answered : goal.returns-in_err-flush-2-clause-answered
 returns-in_err-flush-2-clause-answered g c =
     let inv = c.loop.invariant in
     let p = Progress-kept g.D.Disk.state g.W.Write.contents _ inv.input _ c.flush.new.self c.flush.ensures.bytes c.in_ok-flush.ensures.sound inv.progress in
     let end = c.in_ok-take_end.ensures.ok _ inv.input p in
-    tells_all g.D.Disk.state g.W.Write.contents (c.scripts_recover.ensures, c.scripts_make_walks.ensures) c.scripts_tell_replies.ensures c.args.source.now c.args.writer.now c.flush-then-count-eq0.new.self
-    c.take_end.new.source c.take_end.new.self.now inv.input end.0 end.1 end.2
+    tells_all g.D.Disk.state g.W.Write.contents (c.scripts_recover.ensures, c.scripts_make_walks.ensures) (c.scripts_tell_replies.ensures.replies, c.scripts_tell_replies.ensures.names) c.args.source.now c.args.writer.now c.flush-then-count-eq0.new.self
+    c.take_end.new.source c.take_end.new.self.between.moment inv.input end.0 end.1 end.2
     (Appends-kept (g.W.Write.contents (watched c.args.writer.now)) (g.W.Write.contents (watched c.take_end.new.writer))
     (g.W.Write.contents (watched c.flush-then-count-eq0.new.self)) (output_of end.0) end.3.0 c.flush-then-count-eq0.ensures.bytes)
 
@@ -163,8 +163,8 @@ returns-then-count-eq0-clause-answered g c =
     let inv = c.loop.invariant in
     let p = Progress-kept g.D.Disk.state g.W.Write.contents _ inv.input _ c.flush.new.self c.flush.ensures.bytes c.in_ok-flush.ensures.sound inv.progress in
     let end = c.in_ok-take_end.ensures.ok _ inv.input p in
-    tells_all g.D.Disk.state g.W.Write.contents (c.scripts_recover.ensures, c.scripts_make_walks.ensures) c.scripts_tell_replies.ensures c.args.source.now c.args.writer.now c.flush-then-count-eq0.new.self
-    c.take_end.new.source c.take_end.new.self.now inv.input end.0 end.1 end.2
+    tells_all g.D.Disk.state g.W.Write.contents (c.scripts_recover.ensures, c.scripts_make_walks.ensures) (c.scripts_tell_replies.ensures.replies, c.scripts_tell_replies.ensures.names) c.args.source.now c.args.writer.now c.flush-then-count-eq0.new.self
+    c.take_end.new.source c.take_end.new.self.between.moment inv.input end.0 end.1 end.2
     (Appends-kept (g.W.Write.contents (watched c.args.writer.now)) (g.W.Write.contents (watched c.take_end.new.writer))
     (g.W.Write.contents (watched c.flush-then-count-eq0.new.self)) (output_of end.0) end.3.0 c.flush-then-count-eq0.ensures.bytes)
 
@@ -174,5 +174,5 @@ returns-in_err-take_piece-clause-answered g c =
     let p = Progress-kept g.D.Disk.state g.W.Write.contents _ inv.input _ c.flush.new.self c.flush.ensures.bytes c.in_ok-flush.ensures.sound inv.progress in
     let e = c.in_err-take_piece.ensures.err in
     let stops = e.3 _ inv.input p in
-    tells_part g.D.Disk.state g.W.Write.contents (c.scripts_recover.ensures, c.scripts_make_walks.ensures) c.scripts_tell_replies.ensures c.args.source.now c.args.writer.now c.take_piece.new.writer
-    c.take_piece.new.source c.take_piece.new.self.now (inv.input ++ e.0) stops.0.0 stops.0.1 stops.0.2 stops.0.3
+    tells_part g.D.Disk.state g.W.Write.contents (c.scripts_recover.ensures, c.scripts_make_walks.ensures) (c.scripts_tell_replies.ensures.replies, c.scripts_tell_replies.ensures.names) c.args.source.now c.args.writer.now c.take_piece.new.writer
+    c.take_piece.new.source c.take_piece.new.self.between.moment (inv.input ++ e.0) stops.0.0 stops.0.1 stops.0.2 stops.0.3

@@ -3,7 +3,8 @@ use Rattle.std.proofs.Common.{◌≡◌, ◌⊎◌, ◌∙◌, ℕ, List, Result
 use Rattle.rs_model.specs.declared.command.Command.TheVariants.{Group}
 use Rattle.rs_model.specs.declared.command.Item.{Item}
 use Rattle.rs_script.specs.declared.refusal.Refusal.{Refusal}
-use Rattle.rs_script.specs.declared.refusal.Refusal.TheVariants.{NoMemory}
+use Rattle.rs_script.specs.declared.refusal.Refusal.TheVariants.{Line}
+use Rattle.rs_items.specs.declared.item.ItemFault.TheVariants as fault
 use Rattle.rs_script.specs.declared.request.Request.{Request}
 use Rattle.rs_script.specs.declared.request.Request.TheVariants.{Run}
 use Rattle.rs_script.specs.Room.{GroupTakesRoom}
@@ -20,10 +21,10 @@ abbrev granted : Request → Result Request Refusal
 granted request = Ok request
 
 why : (items : Result (Vec Item Global) Refusal) (refusal : Refusal) (lines : List (List ℕ)) → items ≡ Err refusal → KeepsItems items lines
-    → (Err refusal ≡ group_request (items_of_group lines)) ⊎ ((denied refusal ≡ denied NoMemory) × GroupTakesRoom lines)
+    → (Err refusal ≡ group_request (items_of_group lines)) ⊎ ((denied refusal ≡ denied (Line fault.NoMemory)) × GroupTakesRoom lines)
 why items refusal lines is kept = by_kept (subst (λ (i : Result (Vec Item Global) Refusal). KeepsItems i lines) is kept)
   where
-    by_kept : KeepsItems (Err refusal) lines → (Err refusal ≡ group_request (items_of_group lines)) ⊎ ((denied refusal ≡ denied NoMemory) × GroupTakesRoom lines)
+    by_kept : KeepsItems (Err refusal) lines → (Err refusal ≡ group_request (items_of_group lines)) ⊎ ((denied refusal ≡ denied (Line fault.NoMemory)) × GroupTakesRoom lines)
     by_kept (inl e) = inl (sym (ap group_request e))
     by_kept (inr (e, room)) = inr (ap denied e, room)
 

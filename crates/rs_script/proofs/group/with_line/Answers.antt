@@ -2,17 +2,18 @@
 use Rattle.std.proofs.Common.{◌≡◌, ◌⊎◌, ◌∙◌, ◌++◌, ◌∷◌, [], ℕ, List, sym, inl, inr, Result, Ok, Err, Vec, Global, rules, subst}
 use Rattle.rs_model.specs.declared.command.Item.{Item}
 use Rattle.rs_script.specs.declared.refusal.Refusal.{Refusal}
-use Rattle.rs_script.specs.declared.refusal.Refusal.TheVariants.{NoMemory}
+use Rattle.rs_script.specs.declared.refusal.Refusal.TheVariants.{Line}
+use Rattle.rs_items.specs.declared.item.ItemFault.TheVariants as fault
 use Rattle.rs_script.specs.Taken.{KeepsItems}
 use Rattle.rs_script.proofs.GroupItems.{stays_refused, is_refused, no_room, has_item}
 use Rattle.rs_script.proofs.group.with_line.Goals as goal
 
-refused_so : {Room : Type 0} (result found : Result Item Refusal) (refusal : Refusal) → result ≡ Err refusal → (result ≡ found) ⊎ ((result ≡ Err NoMemory) × Room)
-    → (Err refusal ≡ found) ⊎ ((refusal ≡ NoMemory) × Room)
+refused_so : {Room : Type 0} (result found : Result Item Refusal) (refusal : Refusal) → result ≡ Err refusal → (result ≡ found) ⊎ ((result ≡ Err (Line fault.NoMemory)) × Room)
+    → (Err refusal ≡ found) ⊎ ((refusal ≡ Line fault.NoMemory) × Room)
 refused_so result found refusal is (inl e) = inl (sym is ∙ e)
 refused_so result found refusal is (inr (e, room)) = inr (cc, room)
 
-given_so : {Room : Type 0} (result found : Result Item Refusal) (item : Item) → result ≡ Ok item → (result ≡ found) ⊎ ((result ≡ Err NoMemory) × Room) → Ok item ≡ found
+given_so : {Room : Type 0} (result found : Result Item Refusal) (item : Item) → result ≡ Ok item → (result ≡ found) ⊎ ((result ≡ Err (Line fault.NoMemory)) × Room) → Ok item ≡ found
 given_so result found item is (inl e) = sym is ∙ e
 given_so result found item is (inr (e, room)) = absurd cc
 

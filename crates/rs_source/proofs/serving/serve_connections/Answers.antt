@@ -1,7 +1,7 @@
--- One more connection, and the state and the run after all of them.
+-- One more connection, and what all of them were told, with the state and the run after them.
 use Rattle.std.proofs.Common.{◌≡◌, ℕ, add-one, arith, subst}
 use Rattle.rs_source.specs.Serving.{Connections}
-use Rattle.rs_source.proofs.Connecting.{connections_go, connections_run}
+use Rattle.rs_source.proofs.Connecting.{are_told, connections_go, connections_run}
 use Rattle.rs_source.proofs.serving.serve_connections.Goals as goal
 
 pub loop-preserved : goal.loop-preserved
@@ -11,6 +11,12 @@ pub returns-clause-goes_on : goal.returns-clause-goes_on
 returns-clause-goes_on g c =
     let all : c.loop.counter ≡ c.args.count = omega arith in
     connections_go g.D.Disk.state c.args.count c.args.source.now c.loop.source
+    (subst (λ (n : ℕ). Connections g.D.Disk.state c.args.source.now n c.loop.source) all c.loop.invariant)
+
+pub returns-clause-told : goal.returns-clause-told
+returns-clause-told g c =
+    let all : c.loop.counter ≡ c.args.count = omega arith in
+    are_told g.D.Disk.state c.args.count c.args.source.now c.loop.source
     (subst (λ (n : ℕ). Connections g.D.Disk.state c.args.source.now n c.loop.source) all c.loop.invariant)
 
 pub returns-clause-run : goal.returns-clause-run

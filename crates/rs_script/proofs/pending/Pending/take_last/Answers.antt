@@ -10,11 +10,11 @@ returns-then-is_empty-clause-ok g c =
 pub returns-clause-ok : goal.returns-clause-ok
 returns-clause-ok g c =
     last_ok g.D.Disk.state g.W.Write.contents c.take_content.result (stand c.args.self.now c.args.source.now c.args.writer.now)
-    (stand (record { now = c.take_content.new.now; group = c.take_content.new.group; line = c.args.self.now.line }) c.take_content.new.source c.take_content.new.writer)
+    (stand (record { between = c.take_content.new.self; line = c.args.self.now.line }) c.take_content.new.source c.take_content.new.writer)
     (c.is_empty.ensures.some c.if-is_empty.false) (λ raw kept. c.take_content.ensures.taken _ (c.content-content.ensures raw kept))
 
 pub returns-clause-err : goal.returns-clause-err
 returns-clause-err g c =
     last_err g.D.Disk.state g.W.Write.contents c.take_content.result (stand c.args.self.now c.args.source.now c.args.writer.now)
-    (stand (record { now = c.take_content.new.now; group = c.take_content.new.group; line = c.args.self.now.line }) c.take_content.new.source c.take_content.new.writer)
+    (stand (record { between = c.take_content.new.self; line = c.args.self.now.line }) c.take_content.new.source c.take_content.new.writer)
     (c.is_empty.ensures.some c.if-is_empty.false) (λ raw kept. c.take_content.ensures.taken _ (c.content-content.ensures raw kept)) c.take_content.ensures.stopped

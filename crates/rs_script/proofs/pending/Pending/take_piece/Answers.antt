@@ -54,7 +54,7 @@ pub returns-clause-ok : goal.returns-clause-ok
 returns-clause-ok g c = λ begin input p.
     let inv = c.loop-i.invariant in
     let self = c.loop-i.self in
-    let here = stand (record { now = self.now; group = self.group; line = c.extend.new.self }) c.loop-i.source c.loop-i.writer in
+    let here = stand (record { between = self.between; line = c.extend.new.self }) c.loop-i.source c.loop-i.writer in
     subst (λ (bytes : List ℕ). Progress g.D.Disk.state g.W.Write.contents begin bytes here)
     (append_assoc input inv.0 c.loop-i.rest.now ∙ ap (λ z. input ++ z) (sym inv.1))
     (Progress-run g.D.Disk.state g.W.Write.contents begin (input ++ inv.0) (stand self c.loop-i.source c.loop-i.writer) c.loop-i.rest.now c.extend.new.self

@@ -10,7 +10,7 @@ use Rattle.rs_store.specs.declared.running.Ack.{Ack}
 use Rattle.rs_store.specs.Runs.{StandsForPrefix}
 use Rattle.rs_script.specs.declared.refusal.Refusal.TheVariants as refusals
 use Rattle.rs_script.specs.Session.{LineOutcome, moment_set, replied, refused}
-use Rattle.rs_script.specs.Stopped.{replies_by, IsParted}
+use Rattle.rs_script.specs.Stopped.{replies_by, SplitAtStop}
 
 abbrev commands : List (Command × ℕ)
 commands = (Delete (codes "a"), 5) ∷ (Publish, 6) ∷ (Publish, 7) ∷ []
@@ -28,7 +28,7 @@ pub counted_replies : (replies_by 14 acks ≡ []) × (replies_by 22 acks ≡ Del
 counted_replies = (refl, refl)
 
 -- at 21 calls the answers up to the refusal may have been written
-pub worked_stop : (s : Source) (image : List ℕ) → StandsForPrefix s commands acks 21 image → IsParted s commands acks outcomes 21 image
+pub worked_stop : (s : Source) (image : List ℕ) → StandsForPrefix s commands acks 21 image → SplitAtStop s commands acks outcomes 21 image
 worked_stop s image stands = record {
   first = moment_set ∷ replied (Deleted 5) ∷ refused (refusals.Source Full) ∷ [];
   later = replied (Published 1 7) ∷ moment_set ∷ [];

@@ -7,18 +7,18 @@ use Rattle.rs_script.specs.Statements.{single}
 use Rattle.rs_script.specs.Taken.{KeepsGroup}
 use Rattle.rs_script.proofs.Grouped.{none_kept}
 use Rattle.rs_script.proofs.LineTaking.{one_taken, more_taken}
-use Rattle.rs_script.proofs.statement.take_first.Goals as goal
+use Rattle.rs_script.proofs.statement.BetweenLines.take_first.Goals as goal
 
 pub returns-in-Some-clause-taken : goal.returns-in-Some-clause-taken
 returns-in-Some-clause-taken g c = λ line is begun kept.
-    let none : [] ≡ begun = sym (none_kept c.args.group.now begun c.requires.none kept) in
+    let none : [] ≡ begun = sym (none_kept c.args.self.now.group begun c.requires.none kept) in
     let begins = c.begin_group.ensures line (sym (c.size_begun.ensures.value line is) ∙ c.in-Some.is) in
-    more_taken g.D.Disk.state (script_state c.args.source.now c.args.now.now) (script_state c.args.source.now c.args.now.now) begun line (Wrote g.W.Write.contents c.args.writer.now c.args.writer.now)
+    more_taken g.D.Disk.state (script_state c.args.source.now c.args.self.now.moment) (script_state c.args.source.now c.args.self.now.moment) begun line (Wrote g.W.Write.contents c.args.writer.now c.args.writer.now)
     (Some c.begin_group.result) (subst (λ (lines : List (List ℕ)). KeepsGroup (Some c.begin_group.result) (lines ++ line ∷ [])) none begins) refl
     (wrote_nothing g.W.Write.contents c.args.writer.now)
 
 pub returns-in-None-clause-taken : goal.returns-in-None-clause-taken
 returns-in-None-clause-taken g c = λ line is begun kept.
-    one_taken g.D.Disk.state (script_state c.args.source.now c.args.now.now) (script_state c.answer_content.new.source c.answer_content.new.now) begun line _
-    c.args.group.now (single line) (ap (λ lines. lines ++ line ∷ []) (sym (none_kept c.args.group.now begun c.requires.none kept)))
+    one_taken g.D.Disk.state (script_state c.args.source.now c.args.self.now.moment) (script_state c.answer_content.new.source c.answer_content.new.now) begun line _
+    c.args.self.now.group (single line) (ap (λ lines. lines ++ line ∷ []) (sym (none_kept c.args.self.now.group begun c.requires.none kept)))
     (sym (c.size_begun.ensures.value line is) ∙ c.in-None.is) c.requires.none (c.answer_content.ensures.answered line is)
