@@ -30,6 +30,8 @@ fn the_laws(_rt: HostRuntime) {
     rs_disk::laws::weaker_claim_is_left::<Anything, Anything>();
     rs_disk::laws::one_call_runs::<(), Fault>();
     rs_disk::laws::runs_join::<Anything, Anything, Anything>();
+    rs_disk::laws::fault_is_last::<(), Fault>();
+    rs_disk::laws::worked_stops();
     rs_commit::laws::opens_once();
     rs_commit::laws::opens_stays();
     rs_commit::laws::ready_stays();

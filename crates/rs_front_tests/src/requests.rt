@@ -3,8 +3,8 @@
 use crate::ends::{Call, FailsOnce};
 use crate::sources::{commands_of, new_source};
 use rs_disk::{FaultyReader, FaultyWriter, MemoryDisk};
-use rs_http::{FrontFault, Served, serve_one};
-use rs_io::Watched;
+use rs_http::{Served, StatusCode, serve_one};
+use rs_io::{StreamFault, Watched};
 use rs_store::Source;
 use rs_time::Moment;
 use std::alloc::Global;
@@ -31,7 +31,7 @@ fn put_between(
     source: &mut Source<MemoryDisk>,
     read_fails: u64,
     write_fails: u64,
-) -> (Result<Served, FrontFault>, usize) {
+) -> (Result<Served, StreamFault>, usize) {
     let mut reader = Watched::new(FaultyReader::new(PUT, 1, read_fails));
     let mut writer = Watched::new(FaultyWriter::new(alloc, write_fails));
     let served = serve_one(alloc, source, &mut reader, &mut writer, Moment::first());
@@ -51,7 +51,7 @@ fn fails_at_each_read(
         };
         let found = put_between(rt.alloc(), source, read_fails as u64, u64::MAX);
         assert!(rt;
-            found == (Err(FrontFault::Read), written),
+            found == (Err(StreamFault::Read), written),
             "read {read_fails}"
         );
     }
@@ -67,11 +67,11 @@ fn fails_at_each_write(
     for write_fails in 0..100 {
         let (found, written) = put_between(rt.alloc(), source, u64::MAX, write_fails);
         assert!(rt; commands_of(source)? == write_fails, "write {write_fails}");
-        if found == Ok(Served::Answered(204)) {
+        if found == Ok(Served::Answered(StatusCode::NoContent)) {
             assert!(rt; write_fails > 1 && written > WORD.len());
             return Ok(());
         }
-        assert!(rt; found == Err(FrontFault::Write), "write {write_fails}");
+        assert!(rt; found == Err(StreamFault::Write), "write {write_fails}");
     }
     Err("a hundred writes".into())
 }
@@ -101,7 +101,7 @@ fn fails_once_writing(
             assert!(rt; served.is_ok());
             return Ok(());
         }
-        assert!(rt; served == Err(FrontFault::Write), "call {fails_at}");
+        assert!(rt; served == Err(StreamFault::Write), "call {fails_at}");
         flushed = flushed || failed == Some(Call::Flush);
     }
     Err("a hundred calls".into())
@@ -170,7 +170,7 @@ impl Write for CountingWriter<'_> {
 }
 
 /// Serves a put whose body waits for the word to go on.
-fn served_patiently(alloc: Global, source: &mut Source<MemoryDisk>) -> Result<Served, FrontFault> {
+fn served_patiently(alloc: Global, source: &mut Source<MemoryDisk>) -> Result<Served, StreamFault> {
     let written = Cell::new(0);
     let mut reader = Watched::new(PatientReader {
         head: HEAD,
@@ -185,6 +185,6 @@ fn served_patiently(alloc: Global, source: &mut Source<MemoryDisk>) -> Result<Se
 fn the_body_comes_behind_the_word_to_go_on(rt: HostRuntime) -> Result<(), Fail> {
     let mut source = new_source(rt.alloc())?;
     let found = served_patiently(rt.alloc(), &mut source);
-    assert!(rt; found == Ok(Served::Answered(201)));
+    assert!(rt; found == Ok(Served::Answered(StatusCode::Created)));
     Ok(())
 }

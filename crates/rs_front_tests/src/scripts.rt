@@ -3,8 +3,8 @@
 use crate::ends::{Call, FailsOnce};
 use crate::sources::{commands_of, new_source, new_source_on};
 use rs_disk::{FaultyReader, FaultyWriter, MemoryDisk};
-use rs_io::Watched;
-use rs_script::{ScriptFault, script, script_bytes};
+use rs_io::{StreamFault, Watched};
+use rs_script::{script, script_bytes};
 use rs_store::Source;
 use std::process::Abort;
 use std::test::Fail;
@@ -34,7 +34,7 @@ fn fails_reading(
     let (wanted, whole) = if fail_at > PUBLISHED.len().div_ceil(piece.max(1)) {
         (Ok(()), 3)
     } else {
-        (Err(ScriptFault::Read), lines_in(&PUBLISHED[..come]))
+        (Err(StreamFault::Read), lines_in(&PUBLISHED[..come]))
     };
     assert!(rt; ended == wanted, "pieces of {piece}, read {fail_at}");
     assert!(rt;
@@ -132,7 +132,7 @@ fn fails_writing(
     let commands = commands_for(rt, writer.get_ref().bytes());
     assert!(rt; commands_of(source)? == commands, "write {fail_at}");
     assert!(rt;
-        ended == Ok(()) || ended == Err(ScriptFault::Write),
+        ended == Ok(()) || ended == Err(StreamFault::Write),
         "write {fail_at}"
     );
     Ok(ended.is_err())
@@ -215,7 +215,7 @@ fn fails_once_writing(
         ),
     }
     let wanted = if failed.is_some() {
-        Err(ScriptFault::Write)
+        Err(StreamFault::Write)
     } else {
         Ok(())
     };
@@ -265,7 +265,7 @@ fn fails_once_reading(
     let mut reader = Watched::new(FailsOnce::new(bytes, fails_at));
     let mut writer = Watched::new(Vec::new(rt.alloc()));
     let ended = script(rt.alloc(), source, &mut reader, &mut writer);
-    assert!(rt; ended == Err(ScriptFault::Read), "read {fails_at}");
+    assert!(rt; ended == Err(StreamFault::Read), "read {fails_at}");
     let come = (fails_at as usize).min(PUBLISHED.len());
     let whole = lines_in(&PUBLISHED[..come]);
     assert!(rt; lines_in(&writer.into_inner()) == whole, "read {fails_at}");

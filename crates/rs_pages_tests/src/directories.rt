@@ -4,7 +4,7 @@ use crate::values::SHA256_OF_NOTHING;
 use rs_directory::{Directory, directory_bytes, directory_size, read_directory};
 use rs_extent::Extent;
 use rs_page::PageRef;
-use rs_record::FieldFault;
+use rs_record::ValueFault;
 use std::process::Abort;
 use std::test::Fail;
 
@@ -119,7 +119,7 @@ fn a_directory_of_version_one_has_all_its_history(rt: HostRuntime) -> Result<(),
 #[test]
 fn a_directory_is_of_one_version(rt: HostRuntime) {
     let one = read_directory(rt.alloc(), 2, &version_one());
-    assert!(rt; matches!(one, Err(FieldFault::Malformed)));
+    assert!(rt; matches!(one, Err(ValueFault::Malformed)));
     let two = read_directory(rt.alloc(), 1, &version_two(&HISTORY));
-    assert!(rt; matches!(two, Err(FieldFault::Malformed)));
+    assert!(rt; matches!(two, Err(ValueFault::Malformed)));
 }

@@ -113,7 +113,10 @@ fn first_parts_are_dropped(rt: HostRuntime) -> Result<(), Fail> {
         assert!(rt; dropped <= whole.len() as u64 && whole.first() == 0);
         let left = whole.drop_parts(rt.alloc(), u64::from(*count), *limit)?;
         let rest = whole.len() as u64 - dropped;
-        assert_eq!(rt; (left.page_count(), left.len() as u64), (*pages, rest));
+        assert_eq!(rt;
+            (left.as_pages().page_count(), left.len() as u64),
+            (*pages, rest)
+        );
         assert_eq!(rt; left.first(), u64::from(*count));
         if left.len() > 0 {
             assert_eq!(rt; left.at(0).moment.ms(), dropped);

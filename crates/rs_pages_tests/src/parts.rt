@@ -56,7 +56,7 @@ fn drop_parts(
     assert_eq!(rt; entries.as_slice(), &pages[..gone], "{dropped}");
     let next = history.drop_parts(rt.alloc(), parts, limit)?;
     assert_eq!(rt;
-        (next.first(), next.page_count()),
+        (next.first(), next.as_pages().page_count()),
         (7 + parts, left),
         "{dropped}"
     );

@@ -90,7 +90,7 @@ fn a_copy_is_whole_or_none(rt: HostRuntime) {
         let mut disk = disk_of(&rt, 32768);
         disk.stop_after(k);
         let (disk, fault) = refused(&rt, &mut source, disk);
-        assert_eq!(rt; fault, Device, "after {k} calls");
+        assert_eq!(rt; (fault, disk.calls()), (Device, k + 1), "after {k} calls");
         images_tell(&rt, &disk, want.as_str());
     }
     let mut copy = copied(&rt, &mut source, disk_of(&rt, 32768));

@@ -1,9 +1,7 @@
 //! Texts that are printed, texts that no line of a script can hold, and laws.
 
 use rs_io::{ReadFault, WriteFault};
-use rs_record::{
-    BaseError, FieldFault, MediaType, MediaTypeError, Name, NameError, count_digits, number,
-};
+use rs_record::{MediaType, Name, ValueFault, count_digits, number};
 use rs_time::Moment;
 use std::test::Fail;
 
@@ -11,18 +9,15 @@ use std::test::Fail;
 fn moments_and_faults_are_printed(rt: HostRuntime) -> Result<(), Fail> {
     let moment = Moment::new(951_782_400_000).ok_or("no moment")?;
     let text = format!(in rt.alloc();
-        "from {} to {moment}: {ReadFault}, {WriteFault}, {}, {}, {}, {}, {}",
+        "from {} to {moment}: {ReadFault}, {WriteFault}, {}, {}",
         Moment::first(),
-        NameError::BadName,
-        MediaTypeError::BadType,
-        BaseError::BadBase,
-        FieldFault::Malformed,
-        FieldFault::NoMemory
+        ValueFault::Malformed,
+        ValueFault::NoMemory
     )?;
     assert_eq!(rt;
         text.as_str(),
-        "from 1970-01-01T00:00:00.000Z to 2000-02-29T00:00:00.000Z: the reader failed, the writer failed, the name is not lawful, \
-         the media type is not lawful, the base is not lawful, the bytes are no lawful field, out of memory"
+        "from 1970-01-01T00:00:00.000Z to 2000-02-29T00:00:00.000Z: the reader failed, the writer failed, \
+         the bytes are no lawful value, out of memory"
     );
     Ok(())
 }
@@ -30,10 +25,10 @@ fn moments_and_faults_are_printed(rt: HostRuntime) -> Result<(), Fail> {
 #[test]
 fn bytes_of_no_line(rt: HostRuntime) {
     let name = Name::new(rt.alloc(), b"a b");
-    assert!(rt; matches!(name, Err(NameError::BadName)));
+    assert!(rt; matches!(name, Err(ValueFault::Malformed)));
     for kind in [b"a/b\n", b"a/b\x7f"] {
         let kind = MediaType::new(rt.alloc(), kind);
-        assert!(rt; matches!(kind, Err(MediaTypeError::BadType)));
+        assert!(rt; matches!(kind, Err(ValueFault::Malformed)));
     }
 }
 
