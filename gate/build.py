@@ -74,8 +74,7 @@ def build(names: list[str], copy: Path, room: str) -> list[str]:
     what = f"make build: proves {len(names)} crates, those that no earlier run here proved, and builds the program."
     runs.announce(what, runs.proving(jobs), jobs, LOG)
     with runs.Meter(room) as meter:
-        failed: list[str] = runs.rt_ci(copy, names, LOG, meter.seconds)[1]
-    return failed
+        return runs.rt_ci(copy, names, LOG, meter.seconds)[1]
 
 
 def main() -> int:
@@ -88,8 +87,7 @@ def main() -> int:
         copy = copied(ROOT, room, names)
         made_of = sum_of(copy)
         if not is_made(made_of):
-            failed = build(names, copy, room)
-            if failed:
+            if failed := build(names, copy, room):
                 print("\n".join(failed), file=sys.stderr)
                 return 1
             take(copy, made_of)

@@ -105,11 +105,10 @@ class Parts:
 
         def one(name: str, call: Script) -> None:
             output, started = Output(is_shown=lanes == 1), time.time()
-            if output.is_shown:
-                print(f"== {name}", flush=True)
+            output.take(f"== {name}\n")
             result = call(output)
             with self.lock:
-                print("".join([*[f"== {name}\n"] * (not output.is_shown), *output.lines]), end="", flush=True)
+                print("".join(output.lines), end="", flush=True)
                 self.note(name, result, output.seconds, time.time() - started)
 
         with ThreadPoolExecutor(lanes) as pool:
@@ -122,19 +121,16 @@ def files_of(*kinds: str, below: Path = ROOT) -> list[Path]:
     return [path for kind in kinds for path in sorted(below.rglob(kind)) if "out" not in path.relative_to(below).parts]
 
 
-def layout() -> Result:
-    """Whether each file of code, specs and proofs is in the toolchain's layout, and no line of Python is too long."""
-    wrong = laid_otherwise(files_of("*.rt", "*.antt", below=ROOT / "crates"))
-    wrong += [line for file in files_of("*.py") for line in wide(file)]
+def layout(files: Sequence[Path]) -> Result:
+    """Whether each of these files of code, specs and proofs is in the toolchain's layout, and no line of their Python
+    is too long."""
+    wrong = [line for file in files if file.suffix == ".py" for line in wide(file)]
+    if laid := [file for file in files if file.suffix in (".rt", ".antt")]:
+        words: list[str | Path] = [f"{kit.folder()}/bin/rattle", "fmt", "--check", *laid]
+        finished = subprocess.run(words, capture_output=True, text=True)
+        output = (finished.stdout + finished.stderr).splitlines()
+        wrong += output or ["the layout was not checked"] if finished.returncode else []
     return int(not wrong), wrong
-
-
-def laid_otherwise(files: list[Path]) -> list[str]:
-    """What the toolchain says of those of these files that are not in its layout."""
-    words: list[str | Path] = [f"{kit.folder()}/bin/rattle", "fmt", "--check", *files]
-    finished = subprocess.run(words, capture_output=True, text=True)
-    output = (finished.stdout + finished.stderr).splitlines()
-    return output or ["the layout was not checked"] if finished.returncode else []
 
 
 def wide(file: Path) -> list[str]:
@@ -159,7 +155,7 @@ def fitting() -> Result:
 
 def due() -> dict[str, list[str]]:
     """The edits that are tried, by crate: all of those that the record does not cover as they stand, some of others."""
-    commit = subprocess.run(["git", "rev-parse", "HEAD"], cwd=ROOT, capture_output=True, text=True).stdout.strip()
+    commit = verdict.git(ROOT, "rev-parse", "HEAD").strip()
     picked = {name: record.drawn(ROOT, name, commit) for name in record.picked(ROOT, commit)}
     return picked | {name: record.edits_of(ROOT, name) for name in record.uncovered(ROOT)}
 
@@ -215,11 +211,6 @@ def plain(parts: Parts, copy: Path) -> list[tuple[str, Script]]:
 def proved(copy: Path) -> list[tuple[str, Script]]:
     """The checks of the program that was proved."""
     return [(check.name, script("-m", *check.words, folder=copy)) for check in checks() if check.form != "never"]
-
-
-def beside() -> int:
-    """How many checks go side by side: one for two processors, since some of them measure time."""
-    return max(1, kit.lanes() // 2)
 
 
 def types() -> Result:
@@ -300,7 +291,7 @@ def main() -> int:
         os.environ["TMPDIR"] = tempfile.tempdir = room
         copy = runs.copied(ROOT, room, lambda name: "/must-fail/" not in name)
         parts.run("the gate's own tests", script(ROOT / "gate" / "tests"))
-        parts.run("the layout", layout)
+        parts.run("the layout", lambda: layout([*files_of("*.rt", "*.antt", below=ROOT / "crates"), *files_of("*.py")]))
         parts.run("the texts of edits", fitting)
         parts.run("the record of edits", dates)
         parts.run("the house's own tests", script("-m", "tests.house", folder=ROOT))
@@ -312,7 +303,8 @@ def main() -> int:
         parts.run("the statement's own tests", script(copy / "statement" / "test_statement.py"))
         if parts.run("proofs, tests and builds", lambda: runs.rt_ci(copy, uses, LOG, meter.seconds)):
             parts.run("must-fail edits", lambda: some_edits(copy, tried))
-            parts.run_beside([*plain(parts, copy), *proved(copy)], beside())
+            # One for two processors, since some of them measure time.
+            parts.run_beside([*plain(parts, copy), *proved(copy)], max(1, kit.lanes() // 2))
         tell(parts, meter, started)
     note(parts, is_strict(), before)
     return conclude(parts, is_strict())

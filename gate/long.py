@@ -32,14 +32,6 @@ def chosen(names: list[str], forms: dict[str, Long]) -> dict[str, Long]:
     return {module: form for module, form in forms.items() if form.name in names or not names}
 
 
-def tell(parts: gate.Parts) -> None:
-    """Tells the minutes on the clock of each part, and leaves the seconds of each."""
-    print("== minutes on the clock")
-    for name, _, clock in parts.rows:
-        print(f"{name}: {clock / 60:.1f}")
-    parts.leave_seconds(SECONDS)
-
-
 def main(names: list[str]) -> int:
     """Runs the long forms of these names, and gives the status."""
     forms, parts, started = chosen(names, long_forms()), gate.Parts(), time.monotonic()
@@ -51,7 +43,10 @@ def main(names: list[str]) -> int:
         parts.run(form.name, gate.script("-m", module, *form.words(os.environ), folder=ROOT, **settings))
     if EDITS in names or not names:
         parts.run(EDITS, gate.script("gate/edits/edits.py", folder=ROOT))
-    tell(parts)
+    print("== minutes on the clock")
+    for name, _, clock in parts.rows:
+        print(f"{name}: {clock / 60:.1f}")
+    parts.leave_seconds(SECONDS)
     print(f"in all: {(time.monotonic() - started) / 60:.1f} minutes")
     return int(gate.conclude(parts, gate.is_strict()))
 

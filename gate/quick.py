@@ -7,6 +7,7 @@ It begins no check that would end behind its limit, as far as its seconds are no
 last line is that of `make test`.
 """
 
+import functools
 import subprocess
 import sys
 import time
@@ -28,44 +29,20 @@ PROGRAM = ROOT / "crates" / "rs_source" / "out" / "rs_source"
 Part = Callable[[], gate.Result]
 
 
-def not_tried(why: str) -> Part:
-    """A part that could not be tried."""
-    print(f"NOT TRIED: {why}", flush=True)
-    return lambda: (0, [], [f"NOT TRIED: {why}"])
-
-
-def layout(names: list[str]) -> Part:
-    """Whether what changed is in the toolchain's layout, and no line of Python is too long."""
-    there = [ROOT / name for name in names if (ROOT / name).is_file()]
-    laid = [file for file in there if file.suffix in (".rt", ".antt")]
-
-    def look() -> tuple[int, list[str], list[str]]:
-        wrong = [line for file in there if file.suffix == ".py" for line in gate.wide(file)]
-        wrong += gate.laid_otherwise(laid) if laid else []
-        return int(not wrong), wrong, []
-
-    return look
-
-
-def proof(crate: str) -> Part:
+def proof(crate: str) -> gate.Result:
     """Whether a crate is proved by itself; of a crate of tests, whether they pass too."""
     word = "test" if crate.endswith("_tests") else "check"
-
-    def look() -> tuple[int, list[str], list[str]]:
-        status = subprocess.run([kit.RT, word], cwd=ROOT / "crates" / crate).returncode
-        return (0, [f"rt {word} of {crate} ended with status {status}"], []) if status else (1, [], [])
-
-    return look
+    status = subprocess.run([kit.RT, word], cwd=ROOT / "crates" / crate).returncode
+    return int(not status), [f"rt {word} of {crate} ended with status {status}"] if status else []
 
 
 def texts(names: list[str]) -> list[tuple[str, Part]]:
     """The parts that read texts: those that every change may touch, and those of what changed."""
-    def run(*words: str) -> Part:
-        """The part that a script is."""
-        return gate.script(*words, folder=ROOT)
-
-    parts = [("the layout", layout(names)), ("types", gate.types), ("the pages", run("-m", "tests.house.words"))]
-    parts += [("the house's own tests", run("-m", "tests.house")), ("imports", run("-m", "tests.house.imports"))]
+    run = functools.partial(gate.script, folder=ROOT)
+    there = [ROOT / name for name in names if (ROOT / name).is_file()]
+    parts = [("the layout", lambda: gate.layout(there)), ("types", gate.types)]
+    parts += [("the pages", run("-m", "tests.house.words")), ("the house's own tests", run("-m", "tests.house"))]
+    parts += [("imports", run("-m", "tests.house.imports"))]
     own = [(("statement/", "crates/", "README.md", "rattle/"), "the statement", ("statement/statement.py", "--check")),
            (("statement/", "rattle/"), "the statement's own tests", ("statement/test_statement.py",)),
            (("gate/", "rattle/"), "the gate's own tests", ("gate/tests",))]
@@ -94,12 +71,14 @@ def main() -> int:
     for name, part in texts(names):
         parts.run(name, part)
     for crate in crates:
-        parts.run(crate, proof(crate))
+        parts.run(crate, functools.partial(proof, crate))
     if crates and some:
         print("the checks run on the program of the last `make build`, without this change of its crates")
     if some and not PROGRAM.is_file():
         names_of_checks = " ".join(check.name for check in some)
-        parts.run("checks", not_tried(f"there is no {PROGRAM.relative_to(ROOT)}, make build: {names_of_checks}"))
+        missing = f"NOT TRIED: there is no {PROGRAM.relative_to(ROOT)}, make build: {names_of_checks}"
+        print(missing, flush=True)
+        parts.run("checks", lambda: (0, [], [missing]))
         some = []
     now, later = split(some, LIMIT - (time.monotonic() - started))
     for check in now:

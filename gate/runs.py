@@ -19,19 +19,15 @@ DONE = re.compile(r"rt: (\w+)(: its tests are)? (proved|NOT PROVED|is kept)")
 SECONDS = Path(__file__).with_name("seconds.txt")
 
 
-def files_of_repository(root: str | Path) -> list[str]:
-    """The files of a repository as they stand, from its top. What git ignores is left out."""
+def copied(root: Path, room: str, is_wanted: Callable[[str], bool]) -> Path:
+    """A copy of the wanted files of a repository, by their names from its top. What git ignores is left out."""
     words = ["git", "ls-files", "-z", "--cached", "--others", "--exclude-standard"]
     listed = subprocess.run(words, cwd=root, capture_output=True, check=True).stdout.decode().split("\0")
-    return [name for name in listed if name and Path(root, name).is_file()]
-
-
-def copied(root: Path, room: str, is_wanted: Callable[[str], bool]) -> Path:
-    """A copy of the files of a repository that are wanted, by their names from its top."""
     copy = Path(room, "copy")
-    for name in filter(is_wanted, files_of_repository(root)):
-        (copy / name).parent.mkdir(parents=True, exist_ok=True)
-        shutil.copy2(root / name, copy / name)
+    for name in filter(is_wanted, listed):
+        if (root / name).is_file():
+            (copy / name).parent.mkdir(parents=True, exist_ok=True)
+            shutil.copy2(root / name, copy / name)
     return copy
 
 

@@ -10,27 +10,22 @@ import re
 from collections.abc import Iterable
 from dataclasses import dataclass
 from pathlib import Path
-from typing import TYPE_CHECKING
 
 import tables
+from promises import Promise
 from rattle import antt
 from rattle.antt import Definition
 from rattle.code import functions_of
 from reach import closure
 from world import Item, Unknown, World
 
-if TYPE_CHECKING:
-    from promises import Promise
-
 # The kinds, and where each may point.
 KINDS = {
     "example": ("computed from the definition alone, and proved", r"crates/\w+/(proofs|specs|src/laws).*\.(antt|rt)$"),
     "law": ("a proved law: the definition in other words, what it is for, or that it leaves no other value",
             r"crates/\w+/src/.*\.rt$"),
-    "python": (
-        "the same, said apart in Python, and compared with what the proved program answers or writes",
-        r"(tests|operations|bench)/(\w+/)*\w+\.py$",
-    ),
+    "python": ("the same, said apart in Python, and compared with what the proved program answers or writes",
+               r"(tests|operations|bench)/(\w+/)*\w+\.py$"),
     "row": ("a worked row, which the proved program answers byte for byte", r"tests/rows/\w+$"),
     "test": ("values from outside, in a test of the code that is proved equal to the definition",
              r"crates/\w+_tests/src/\w+\.rt$"),
@@ -127,7 +122,7 @@ def labels_of(world: World, piece: Evidence) -> set[str]:
     if piece.path.endswith(".rt"):
         laws = [function for function in world.code[piece.path].functions if function.name == piece.name]
         pairs = [(law, clause) for law in laws for clause in law.clauses]
-        first: list[Item] = [used for pair in pairs for used in world.uses_of_clause(*pair)]
+        first: list[Item] = [used for pair in pairs for used in world.links_of_clause(*pair).values()]
     else:
         module = "Rattle." + piece.path.removeprefix("crates/").removesuffix(".antt").replace("/", ".")
         first = [world.target(module, piece.name)]
@@ -145,7 +140,7 @@ def silent(world: World, found: dict[str, list[Evidence]], pieces: list[Evidence
     return wrong
 
 
-def faults(world: World, promises: Iterable["Promise"], found: dict[str, list[Evidence]]) -> list[str]:
+def faults(world: World, promises: Iterable[Promise], found: dict[str, list[Evidence]]) -> list[str]:
     """The pointers that lead nowhere or to what says nothing of a definition; definitions that no promise reaches."""
     known = {definition.label for promise in promises for definition in promise.reach.definitions}
     pieces = list(dict.fromkeys(piece for each in found.values() for piece in each))

@@ -14,7 +14,7 @@ from promises import Promise
 from rattle.antt import Definition
 from shown import counted, declared, meaning, summary
 from source import Type
-from world import Item, Links, World, unique
+from world import Item, Links, World
 
 STYLE = """
 body { margin: 0 auto; max-width: 64rem; padding: 1rem; font: 1rem/1.5 serif; color: #222; background: #fff; }
@@ -25,7 +25,7 @@ h2 { margin-top: 3rem; border-bottom: 1px solid #ccc; } h4 { margin: 1.4rem 0 .2
 .at, .evidence { color: #666; font-size: .85rem; } .bare { color: #a33; } .c { color: #6a6a6a; }
 :target { background: #fff6d0; }
 """
-# What may be a word in a line, or a part of one: a field after a dot is none.
+# What may be a word in a line, or a part of one: a field after a dot is none. HTML has what stands between as it is.
 PIECE = re.compile(r"[^\s(){}\[\];,]+|\[\]")
 
 
@@ -44,22 +44,11 @@ def linked(word: str, item: Item | Promise) -> str:
     return f'<a href="#{anchor(item)}">{html.escape(word)}</a>'
 
 
-def operators(links: Links) -> Links:
-    """The links by the parts of operators too."""
-    parts = {part: item for item in links.values() for part in item.name.split("◌") if "◌" in item.name and part}
-    return {**parts, **links}
-
-
 def line_of(line: str, links: Links) -> str:
     """A line in which each word leads to what it means; a field that is given its value does not."""
     if line.lstrip().startswith(("--", "//")):
         return f'<span class="c">{html.escape(line)}</span>'
-    found, at = list[str](), 0
-    for piece in PIECE.finditer(line):
-        found.append(html.escape(line[at : piece.start()]))
-        found.append(piece_of(line, piece, links))
-        at = piece.end()
-    return "".join([*found, html.escape(line[at:])])
+    return PIECE.sub(lambda piece: piece_of(line, piece, links), line)
 
 
 def piece_of(line: str, piece: re.Match[str], links: Links) -> str:
@@ -87,7 +76,9 @@ class Page:
 
     def code(self, lines: Iterable[str], links: Links) -> None:
         """Lines of a definition, or of code."""
-        known = operators(links)
+        # An operator is known by its parts too.
+        parts = {part: item for item in links.values() for part in item.name.split("◌") if "◌" in item.name and part}
+        known = {**parts, **links}
         self.say("<pre>" + "\n".join(line_of(line, known) for line in lines) + "</pre>")
 
     def head(self, promises: list[Promise]) -> None:
@@ -149,15 +140,15 @@ class Page:
             mine = [chapter for chapter in chapters if chapter.crate == crate]
             if mine:
                 self.say(f'<h2 id="{crate}">{crate}</h2>')
-            for definition in unique(each for chapter in mine for each in chapter.definitions):
+            for definition in dict.fromkeys(each for chapter in mine for each in chapter.definitions):
                 self.definition(definition)
-            for kind in unique(each for chapter in mine for each in chapter.types):
+            for kind in dict.fromkeys(each for chapter in mine for each in chapter.types):
                 self.type(kind)
 
     def words(self, promises: list[Promise]) -> None:
         """The words of the kit and of the language."""
         self.say("<h2>The kit</h2><ul>")
-        for kit_word in unique(each for promise in promises for each in promise.reach.kit):
+        for kit_word in dict.fromkeys(each for promise in promises for each in promise.reach.kit):
             meaning = html.escape(self.meanings[kit_word.label])
             name = html.escape(kit_word.name)
             self.say(f'<li id="{anchor(kit_word)}"><b>{name}</b> ({kit_word.crate}): {meaning}</li>')

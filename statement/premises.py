@@ -76,18 +76,15 @@ class Chain:
         """The clauses whose premises are given by one another alone, and by none that takes nothing from them."""
         grounded: list[Printed] = []
         waiting = self.clauses
-        while waiting:
-            more = [clause for clause in waiting
-                    if all(self.is_given(line, grounded) for line in self.needed[clause.name])]
-            if not more:
-                break
+        while more := [clause for clause in waiting if self.is_grounded(clause, grounded)]:
             grounded += more
             waiting = [clause for clause in waiting if clause not in more]
         return [clause.name for clause in waiting]
 
-    def is_given(self, line: Line, grounded: list[Printed]) -> bool:
-        """Whether one of these clauses gives what a line speaks of, or it is trusted."""
-        return line.kind not in CONCLUDED or any(clause.is_called(name) for clause in grounded for name in line.clauses)
+    def is_grounded(self, clause: Printed, grounded: list[Printed]) -> bool:
+        """Whether one of these clauses gives each premise that a clause has, or it is trusted."""
+        return all(line.kind not in CONCLUDED or any(each.is_called(name) for each in grounded for name in line.clauses)
+                   for line in self.needed[clause.name])
 
     def give(self, node: Node, needed: dict[Line, None]) -> None:
         """Finds what gives a premise, or what its parts are given by."""
@@ -178,16 +175,11 @@ def unspoken(found: list[Chain]) -> list[str]:
 
 def shown_by(reader: Reader, pieces: dict[str, list[Evidence]]) -> set[Definition]:
     """The relations that a computed example has: it ends in them, and takes none of them."""
-    labels_by_piece: dict[Evidence, set[str]] = {}
-    for known, each in pieces.items():
-        for piece in each:
-            if piece.kind == "example":
-                labels_by_piece.setdefault(piece, set()).add(known)
     found: set[Definition] = set()
-    for piece, labels in labels_by_piece.items():
+    for piece in dict.fromkeys(piece for each in pieces.values() for piece in each if piece.kind == "example"):
         nodes = reader.statement(piece.path, piece.name)
         taken = {reader.definition(premise) for node in nodes for premise in reader.left_of(node)}
-        found |= {each for each in reader.shown(nodes) if each.label in labels and each not in taken}
+        found |= {each for each in reader.shown(nodes) if piece in pieces.get(each.label, ()) and each not in taken}
     return found
 
 

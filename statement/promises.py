@@ -2,19 +2,17 @@
 
 import re
 from dataclasses import dataclass, field
-from pathlib import Path
 from typing import TYPE_CHECKING
 
 import givens
 from reach import Reach, reach
 from source import Clause, Function
-from tables import Wrong
-from world import Item, World, unique
+from tables import HERE, Wrong
+from world import World
 
 if TYPE_CHECKING:
     from premises import Chain
 
-HERE = Path(__file__).resolve().parent
 # The page with a row for each promise.
 TABLE = "docs/PROMISES.md"
 HEAD = "== "
@@ -99,12 +97,6 @@ def lines_of(pairs: list[tuple[str, str]]) -> list[givens.Line]:
     return [givens.parsed(text) for word, text in pairs if word == "premise"]
 
 
-def first_of(world: World, carriers: list[Carrier]) -> list[Item]:
-    """What the clauses of a promise reach at once."""
-    pairs = [(each.function, clause) for each in carriers for clause in each.clauses]
-    return unique(used for pair in pairs for used in world.uses_of_clause(*pair))
-
-
 def promises(world: World, table: str | None = None) -> list[Promise]:
     """The promises in their order, each with what it reaches."""
     found = []
@@ -114,7 +106,8 @@ def promises(world: World, table: str | None = None) -> list[Promise]:
         promise = Promise(title, {word: text for word, text in pairs if word not in ("by", "premise")})
         promise.premises = [*lines_of(pairs), *every]
         promise.carriers = [carrier(world, text) for word, text in pairs if word == "by"]
-        promise.reach = reach(world, first_of(world, promise.carriers))
+        promise.reach = reach(world, [used for each in promise.carriers for clause in each.clauses
+                                      for used in world.links_of_clause(each.function, clause).values()])
         if plain(promise.sentence) not in plain((world.root / promise.fields["in"]).read_text()):
             raise Wrong(f"the sentence of '{title}' does not stand in {promise.fields['in']}")
         if f"| {promise.fields['row']} |" not in (world.root / TABLE).read_text():

@@ -13,7 +13,7 @@ from dataclasses import dataclass
 
 from rattle.antt import Definition
 from source import Type
-from world import Item, KitWord, World, unique
+from world import Item, KitWord, World
 
 
 @dataclass
@@ -38,30 +38,18 @@ class Reach:
         return [definition for each in self.chapters for definition in each.definitions]
 
     @property
-    def types(self) -> list[Type]:
-        """All types of the code."""
-        return [kind for each in self.chapters for kind in each.types]
-
-    @property
     def counts(self) -> tuple[int, int, int, int]:
         """How many definitions, lines of them, types of the code and words of the kit there are."""
         lines = sum(len(definition.code) for definition in self.definitions)
-        return len(self.definitions), lines, len(self.types), len(self.kit)
+        return len(self.definitions), lines, sum(len(each.types) for each in self.chapters), len(self.kit)
 
 
-class Order:
-    """The reading of a crate's chapter: what stands in it already."""
-
-    def __init__(self, world: World, crate: str, placed: set[Item]) -> None:
-        self.world, self.crate, self.placed, self.found = world, crate, placed, list[Item]()
-
-    def take(self, item: Item) -> None:
-        """Takes an item of this crate, and right behind it what it uses of the crate."""
-        if item.crate == self.crate and item not in self.placed and not isinstance(item, KitWord):
-            self.placed.add(item)
-            self.found.append(item)
-            for each in self.world.uses(item):
-                self.take(each)
+def take(world: World, crate: str, items: Iterable[Item], found: dict[Item, None]) -> None:
+    """Takes each of these items that is of a crate, and right behind it what it uses of the crate."""
+    for item in items:
+        if item.crate == crate and item not in found and not isinstance(item, KitWord):
+            found[item] = None
+            take(world, crate, world.uses(item), found)
 
 
 def closure(world: World, first: Iterable[Item]) -> set[Item]:
@@ -77,14 +65,12 @@ def closure(world: World, first: Iterable[Item]) -> set[Item]:
 
 def reach(world: World, first: list[Item]) -> Reach:
     """What is reached from these items."""
-    order, placed, chapters = list[Item](), set[Item](), list[Chapter]()
+    every, chapters = [*first], list[Chapter]()
     for crate in reversed(world.crates):
-        reading = Order(world, crate, placed)
-        for item in unique([*first, *(used for item in order for used in world.uses(item))]):
-            reading.take(item)
-        order += reading.found
-        if reading.found:
-            definitions = [item for item in reading.found if isinstance(item, Definition)]
-            chapters.append(Chapter(crate, definitions, [item for item in reading.found if isinstance(item, Type)]))
-    every = [*first, *(used for item in order for used in world.uses(item))]
+        found = dict[Item, None]()
+        take(world, crate, every, found)
+        every += [used for item in found for used in world.uses(item)]
+        if found:
+            definitions = [item for item in found if isinstance(item, Definition)]
+            chapters.append(Chapter(crate, definitions, [item for item in found if isinstance(item, Type)]))
     return Reach(chapters, sorted({item for item in every if isinstance(item, KitWord)}, key=lambda item: item.label))

@@ -75,33 +75,26 @@ class Reader:
         self.world = world
         self.known: dict[Definition, list[Node]] = {}
 
-    def scope_of(self, definition: Definition) -> Scope:
-        """What words mean in a definition."""
-        specs = self.world.specs[definition.module]
-        own = {**specs.constructors, **specs.definitions}
-        return lambda word: self.item_of(specs.brought, specs.aliases, own, word)
+    def scope(self, brought: dict[str, Name], aliases: dict[str, str], own: dict[str, Definition]) -> Scope:
+        """What words mean where these names are brought in."""
+        def meaning(word: str) -> Item | None:
+            head, *path = word.split(".")
+            try:
+                return self.world.item_of(brought, aliases, own, head, path)
+            except Unknown:
+                return None
 
-    def scope_in(self, function: Function) -> Scope:
-        """What words mean in the clauses of a function."""
-        code = self.world.code[function.path]
-        return lambda word: self.item_of({**code.brought, **function.brought}, code.aliases, {}, word)
-
-    def item_of(self, brought: dict[str, Name], aliases: dict[str, str], own: dict[str, Definition],
-              word: str) -> Item | None:
-        """What a word means where these names are brought in."""
-        head, *path = word.split(".")
-        try:
-            return self.world.item_of(brought, aliases, own, head, path)
-        except Unknown:
-            return None
+        return meaning
 
     def clause(self, function: Function, clause: Clause) -> list[Node]:
         """What a clause says: its type, or that of the field which a promise names."""
         if clause.part:
             return self.opened(clause.part)
         term = terms.term(words.tokens_of(clause.inner.splitlines()))
+        code = self.world.code[function.path]
+        scope = self.scope({**code.brought, **function.brought}, code.aliases, {})
         place = f"{function.owner}::{function.name}" if function.owner else function.name
-        return [Node(term, self.scope_in(function), f"{place} {clause.name}".rstrip())] if term else []
+        return [Node(term, scope, f"{place} {clause.name}".rstrip())] if term else []
 
     def statement(self, path: str, name: str) -> list[Node]:
         """What a law or a statement with its proof says, by its file and its name."""
@@ -123,26 +116,27 @@ class Reader:
             return [part for each in self.parts(node) for part in self.either(each)]
         return [node]
 
-    def definition(self, node: Node) -> Definition | None:
-        """The definition that a relation is of, if it is one of ours."""
+    def meant(self, node: Node) -> object:
+        """What the head of a relation means, if it is a name."""
         if not isinstance(node.term, Relation) or node.term.head in NAMELESS:
             return None
-        found = node.scope(node.term.head)
+        return node.scope(node.term.head)
+
+    def definition(self, node: Node) -> Definition | None:
+        """The definition that a relation is of, if it is one of ours."""
+        found = self.meant(node)
         return found if isinstance(found, Definition) and is_type(found) else None
 
     def opened(self, definition: Definition) -> list[Node]:
-        """The types that a definition is made of."""
+        """The types that a definition is made of: its cases, or the fields of a record."""
         if definition not in self.known:
-            self.known[definition] = self.parted(definition)
+            specs = self.world.specs[definition.module]
+            scope = self.scope(specs.brought, specs.aliases, {**specs.constructors, **specs.definitions})
+            by_name = [(f"{definition.name}.{name}" if name else "", term) for name, term in cases(definition)]
+            # A case of several that is there never, as lists of two lengths are paired, says nothing.
+            stated = [(name, term) for name, term in by_name if name or len(by_name) == 1 or term != terms.NEVER]
+            self.known[definition] = [Node(term, scope, name or definition.name, name) for name, term in stated]
         return self.known[definition]
-
-    def parted(self, definition: Definition) -> list[Node]:
-        """The parts of a definition: its cases, or the fields of a record."""
-        scope = self.scope_of(definition)
-        by_name = [(f"{definition.name}.{name}" if name else "", term) for name, term in cases(definition)]
-        # A case of several that is there never, as lists of two lengths are paired, says nothing.
-        stated = [(name, term) for name, term in by_name if name or len(by_name) == 1 or term != terms.NEVER]
-        return [Node(term, scope, name or definition.name, name) for name, term in stated]
 
     def within(self, node: Node) -> list[Node]:
         """The arguments of a relation that may be relations."""
@@ -150,11 +144,9 @@ class Reader:
 
     def is_condition(self, node: Node) -> bool:
         """Whether a type is a relation of the kit or of the language: an equation, a comparison, that there is none."""
-        if not isinstance(node.term, Relation):
-            return False
-        found = None if node.term.head in NAMELESS else node.scope(node.term.head)
+        found = self.meant(node)
         is_of_kit = isinstance(found, KitWord) and found.name[0].isupper() and found.name not in PASSING | VALUES
-        return node.term.head in NAMELESS or is_of_kit
+        return is_of_kit or isinstance(node.term, Relation) and node.term.head in NAMELESS
 
     def values_in(self, node: Node) -> list[Definition]:
         """The definitions of ours that a condition names, as `is_name` in `IsTrue (is_name text)`."""
@@ -164,9 +156,7 @@ class Reader:
 
     def is_passing(self, node: Node) -> bool:
         """Whether a type says no more than its arguments do."""
-        if not isinstance(node.term, Relation) or node.term.head in NAMELESS:
-            return False
-        found = node.scope(node.term.head)
+        found = self.meant(node)
         return isinstance(found, KitWord) and found.name in PASSING | VALUES
 
     def parts(self, node: Node) -> list[Node]:
@@ -215,9 +205,7 @@ class Reader:
 
     def ends(self, nodes: list[Node]) -> dict[Definition, None]:
         """The relations that types end in, and those that these are made of at their own ends."""
-        found: dict[Definition, None] = {}
-        self.collect(nodes, found, self.parts, self.opened)
-        return found
+        return self.collect(nodes, {}, self.parts, self.opened)
 
     def shown(self, nodes: list[Node]) -> dict[Definition, None]:
         """The relations that are there where types are: none of one part of a sum, or of one case of several."""
@@ -228,18 +216,14 @@ class Reader:
             either = [part for part in self.either(node) if self.definition(part) not in found]
             return self.parts(node) if len(self.either(node)) == 1 else either * (len(either) == 1)
 
-        self.collect(nodes, found, certain, self.whole)
-        return found
+        return self.collect(nodes, found, certain, self.whole)
 
     def beneath(self, nodes: list[Node]) -> dict[Definition, None]:
         """The relations that types are made of, those among the arguments of others too."""
-        found: dict[Definition, None] = {}
-
         def opened(definition: Definition) -> list[Node]:
             return [each for part in self.opened(definition) for each in (part, *self.arguments(part))]
 
-        self.collect([each for node in nodes for each in (node, *self.arguments(node))], found, self.parts, opened)
-        return found
+        return self.collect([each for node in nodes for each in (node, *self.arguments(node))], {}, self.parts, opened)
 
     def arguments(self, node: Node) -> list[Node]:
         """The arguments of the relations that a type ends in."""
@@ -250,7 +234,8 @@ class Reader:
         opened = self.opened(definition)
         return opened if definition.kind == "record" or len(opened) == 1 else []
 
-    def collect(self, nodes: list[Node], found: dict[Definition, None], parts: Parts, opened: Opening) -> None:
+    def collect(self, nodes: list[Node], found: dict[Definition, None], parts: Parts,
+                opened: Opening) -> dict[Definition, None]:
         """Puts together the relations that types end in, by what is a part of a type, and what of a definition."""
         for node in nodes:
             definition = self.definition(node)
@@ -261,3 +246,4 @@ class Reader:
                 found.update(dict.fromkeys(self.values_in(node)))
             elif not definition:
                 self.collect(parts(node), found, parts, opened)
+        return found

@@ -1,6 +1,7 @@
 """The statement as text."""
 
 import re
+import textwrap
 from collections.abc import Iterable, Mapping
 
 import evidence
@@ -9,7 +10,6 @@ from promises import Promise
 from rattle.antt import Definition
 from reach import Chapter
 from source import Type
-from world import unique
 
 WIDTH = 110
 HEAD = """Of each: its sentence; the clauses that carry it; its premises, which stand left of an arrow there, and which
@@ -18,14 +18,10 @@ first, and in a crate each behind the first one that uses it; the types of the c
 definition stands what it was held against:"""
 
 
-def folded(text: str, width: int = WIDTH) -> list[str]:
+def folded(text: str) -> list[str]:
     """A text in lines of at most this many letters."""
-    lines = [""]
-    for word in text.split():
-        if lines[-1] and len(lines[-1]) + len(word) >= width:
-            lines.append("")
-        lines[-1] = f"{lines[-1]} {word}".strip()
-    return lines
+    words = " ".join(text.split())
+    return textwrap.wrap(words, WIDTH, break_long_words=False, break_on_hyphens=False) or [""]
 
 
 def counted(number: int, word: str) -> str:
@@ -85,7 +81,7 @@ class Text:
         self.say(f"({promise.fields['in']}; in the table of docs/PROMISES.md: {promise.fields['row']})", "")
         for carrier in promise.carriers:
             self.say(f"Carried by {carrier.function.label}, {carrier.function.path}:{carrier.function.line}")
-            for lines in unique(tuple(clause.lines) for clause in carrier.clauses):
+            for lines in dict.fromkeys(tuple(clause.lines) for clause in carrier.clauses):
                 self.say(*indented(lines))
             self.say("")
         self.premises(promise)

@@ -3,6 +3,7 @@
 It looks at types at the left edge, and at the signatures and the clauses of functions, never at their bodies.
 """
 
+import itertools
 import re
 from dataclasses import dataclass, field
 
@@ -28,7 +29,6 @@ class Clause:
     name: str
     inner: str
     lines: list[str]
-    line: int
     # The record that it names, of which one field alone stands, where a promise names no other.
     part: antt.Definition | None = None
 
@@ -131,12 +131,8 @@ def rust_uses(crate: str, text: str) -> dict[str, tuple[str, str]]:
 
 def comment_above(lines: list[str], number: int) -> list[str]:
     """The `///` lines above a line, past attributes."""
-    found, at = list[str](), number - 2
-    while at >= 0 and lines[at].startswith(("///", "#[")):
-        if lines[at].startswith("///"):
-            found.insert(0, lines[at][3:].strip())
-        at -= 1
-    return found
+    above = itertools.takewhile(lambda line: line.startswith(("///", "#[")), reversed(lines[: number - 1]))
+    return [line[3:].strip() for line in above if line.startswith("///")][::-1]
 
 
 def ghosts_of(text: str) -> list[tuple[str, str]]:
@@ -176,7 +172,7 @@ def clause_of(text: str, clause: code.Clause) -> Clause:
     first = line_of(text, clause.start)
     lines = text.splitlines()[first - 1 : line_of(text, clause.end - 1)]
     step = len(lines[0]) - len(lines[0].lstrip())
-    return Clause(clause.kind, clause.name, clause.inner, [line[step:] for line in lines], first)
+    return Clause(clause.kind, clause.name, clause.inner, [line[step:] for line in lines])
 
 
 def owner_of(block: str) -> str:

@@ -29,7 +29,7 @@ import premises
 import shown
 import tables
 from promises import Promise, promises
-from world import Unknown, World, unique
+from world import Unknown, World
 
 Pieces = dict[str, list[evidence.Evidence]]
 
@@ -52,9 +52,9 @@ def refused(found: list[str]) -> int:
 
 def check(every: list[Promise], pieces: Pieces) -> int:
     """The check of the gate."""
-    reached = unique(definition for promise in every for definition in promise.reach.definitions)
+    reached = dict.fromkeys(definition for promise in every for definition in promise.reach.definitions)
     bare = evidence.bare(reached, pieces)
-    lines = unique(line for promise in every if promise.chain for line in promise.chain.spoken)
+    lines = dict.fromkeys(line for promise in every if promise.chain for line in promise.chain.spoken)
     kinds = {kind: sum(line.kind == kind for line in lines) for kind in givens.WORDS}
     print(f"{len(every)} promises: {kinds['from'] + kinds['law']} lines say which clause concludes a premise, "
           f"{kinds['trust']} which is trusted, {kinds['case']} which case is spoken of; "

@@ -20,8 +20,7 @@ def rows(name: str, text: str | None = None) -> list[str]:
 
 def kit_words(text: str | None = None) -> dict[str, str]:
     """What each word of the kit means."""
-    pairs = [line.split(": ", 1) for line in rows("kit_words.txt", text)]
-    return {word: meaning for word, meaning in pairs}
+    return dict(line.split(": ", 1) for line in rows("kit_words.txt", text))
 
 
 def faults_of_kit(promises: Iterable[Any], meanings: Mapping[str, str]) -> list[str]:

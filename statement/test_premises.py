@@ -198,8 +198,6 @@ def without_example(*names: str) -> list[str]:
 
 
 class Terms(unittest.TestCase):
-    """How a type is read."""
-
     def term(self, text: str) -> terms.Term | None:
         """The tree of a type."""
         return terms.term(words.tokens_of(text.splitlines()))
@@ -230,8 +228,6 @@ class Terms(unittest.TestCase):
 
 
 class Given(unittest.TestCase):
-    """What gives a premise."""
-
     def setUp(self) -> None:
         self.room = self.enterContext(tempfile.TemporaryDirectory())
 
@@ -263,11 +259,7 @@ class Given(unittest.TestCase):
         self.assertEqual(found, ["Doors: Fits is said to come from doors cut fits, which the promise does not print",
                                  *ungrounded("doors_open")])
 
-    def test_what_clauses_give_each_other_alone_is_told(self) -> None:
-        lines = LINES.replace("doors shut shut", "doors shut again")
-        self.assertEqual(self.faults_of(lines), ungrounded("shut again", "doors_open"))
-
-    def test_each_clause_has_its_own_premises(self) -> None:
+    def test_what_clauses_give_each_other_alone_is_told_of_each_clause(self) -> None:
         lines = LINES.replace("doors shut shut", "doors shut again") + "by: doors doors_open_again\n"
         self.assertEqual(self.faults_of(lines), ungrounded("shut again", "doors_open", "doors_open_again"))
 
@@ -343,8 +335,6 @@ class Given(unittest.TestCase):
 
 
 class Planted(unittest.TestCase):
-    """What is planted in the promises of this repository is noticed."""
-
     table: str
     headline: str
     before: list[str]

@@ -306,8 +306,6 @@ class Reached(unittest.TestCase):
 
 
 class Repository(unittest.TestCase):
-    """The statement of this repository."""
-
     def test_laws_and_examples_speak_of_what_they_are_held_against(self) -> None:
         world, law = World(ROOT), "rs_time: moment_texts_read_back"
         every = promises.promises(world)

@@ -68,10 +68,6 @@ class Walk:
         self.scopes: list[set[str]] = [set(bound)]
         self.words: list[Word] = []
 
-    def is_bound(self, name: str) -> bool:
-        """Whether a name is bound within."""
-        return any(name in scope for scope in self.scopes)
-
     def expression(self, tokens: Tokens) -> None:
         """Walks over an expression."""
         at, lets = 0, list[str]()
@@ -142,17 +138,16 @@ class Walk:
         """Notes a word that is not bound within."""
         # A reserved word may be a name, `«in»`.
         head, *path = token.replace("«", "").replace("»", "").split(".")
-        if head and not self.is_bound(head):
+        if head and not any(head in scope for scope in self.scopes):
             self.words.append((head, path))
 
     def patterns(self, tokens: Tokens, is_constructor: Callable[[str], bool]) -> None:
         """Walks over the left side of an equation: it notes constructors, and binds variables."""
-        for token in tokens:
-            if is_name(token):
-                if is_constructor(token):
-                    self.tell(token)
-                else:
-                    self.scopes[-1].add(token)
+        for token in filter(is_name, tokens):
+            if is_constructor(token):
+                self.tell(token)
+            else:
+                self.scopes[-1].add(token)
 
 
 def parted(tokens: Tokens, mark: str) -> list[Tokens]:

@@ -7,10 +7,9 @@ methods, which say what each does.
 """
 
 import re
-from collections.abc import Hashable, Iterable, Mapping, Sequence
+from collections.abc import Mapping, Sequence
 from dataclasses import dataclass, replace
 from pathlib import Path
-from typing import TypeVar
 
 import source as rust
 import words
@@ -42,7 +41,6 @@ class KitWord:
 # What a word may mean, and words with what each means.
 Item = antt.Definition | rust.Type | KitWord
 Links = dict[str, Item]
-Thing = TypeVar("Thing", bound=Hashable)
 
 
 class Unknown(Exception):
@@ -108,8 +106,7 @@ class World:
 
     def proofs(self, module: str) -> antt.Specs | None:
         """A file of proofs, if this is one: those alone are read that evidence points at, and what they bring in."""
-        path = self.root / "crates" / "/".join(module.split(".")[1:])
-        path = path.with_suffix(".antt")
+        path = Path(self.root, "crates", *module.split(".")[1:]).with_suffix(".antt")
         if ".proofs." in module and path.is_file():
             self.specs[module] = antt.read(module, str(path.relative_to(self.root)), path.read_text())
         return self.specs.get(module)
@@ -154,7 +151,7 @@ class World:
 
     def uses(self, item: Item) -> list[Item]:
         """What a definition or a type reaches at once."""
-        return unique(self.links(item).values())
+        return [*dict.fromkeys(self.links(item).values())]
 
     def links_of_definition(self, item: antt.Definition) -> list[tuple[str, Item]]:
         """What the words of a definition mean, each with its word."""
@@ -183,12 +180,9 @@ class World:
 
     def rust_types(self, path: str, text: str) -> list[tuple[str, Item]]:
         """The types of our code that a text of code names."""
-        code, found = self.code[path], list[tuple[str, Item]]()
-        for name in rust.WORD.findall(rust.VARIANT.sub("", text)):
-            crate, other = (code.crate, name) if name in code.types else code.used.get(name, ("", ""))
-            if crate in self.crates:
-                found.append((name, self.type_of(crate, other)))
-        return found
+        names = rust.WORD.findall(rust.VARIANT.sub("", text))
+        found = [(name, self.rust_word(self.code[path], {}, name, [])) for name in names]
+        return [(name, item) for name, item in found if isinstance(item, rust.Type)]
 
     def ghost_words(self, path: str, brought: Mapping[str, antt.Name], bounds: Mapping[str, str], local: set[str],
                     text: str) -> list[tuple[str, Item]]:
@@ -231,10 +225,6 @@ class World:
         part = self.parts.setdefault((definition, field), words.with_field(definition, field))
         return replace(clause, part=part) if part else None
 
-    def uses_of_clause(self, function: rust.Function, clause: rust.Clause) -> list[Item]:
-        """What a clause reaches at once."""
-        return unique(self.links_of_clause(function, clause).values())
-
     def function(self, crate: str, label: str) -> rust.Function:
         """The function of a crate by its name, `Type::name` or `name`."""
         owner, _, name = label.rpartition("::")
@@ -243,8 +233,3 @@ class World:
         if len(found) != 1:
             raise Unknown(f"{crate} has {len(found)} functions {label}")
         return found[0]
-
-
-def unique(items: Iterable[Thing]) -> list[Thing]:
-    """Each of some items once, in their order."""
-    return list(dict.fromkeys(items))

@@ -62,8 +62,7 @@ def why_of_form(crate: Path, one: edit.Edit) -> str:
             continue
         own = function.name, function.block
         changed = next((one for one in functions_of(after) if (one.name, one.block) == own), None)
-        files = hand_files(crate, path, function)
-        by_hand = "".join(file.read_text() for file in files)
+        by_hand = "".join(file.read_text() for file in hand_files(crate, path, function))
         if changed is None or one.goal not in goals.ANSWERED.findall(by_hand):
             continue
         old_body, new_body = before[function.start : function.end], after[changed.start : changed.end]

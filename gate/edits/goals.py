@@ -5,18 +5,13 @@ and refuses it: the others get an answer that no check takes. Where it has an an
 may cite another.
 """
 
-from __future__ import annotations
-
 import json
 import re
 from collections.abc import Iterable
 from pathlib import Path
-from typing import TYPE_CHECKING
 
 import copies
-
-if TYPE_CHECKING:
-    from edit import Edit, Texts
+from edit import Edit, Texts
 
 FILE = "gate/edits/goals.txt"
 HEAD = "# The goal by which each must-fail edit was last seen refused. Written by `make edits`.\n"
@@ -32,8 +27,7 @@ NO_GOAL = "no_goal_of_any_function"
 def known(root: str | Path) -> dict[str, str]:
     """The goal of each edit that has a line, by its label."""
     text = Path(root, FILE).read_text() if Path(root, FILE).is_file() else ""
-    rows = [line.split(": ") for line in text.splitlines() if line and not line.startswith("#")]
-    return {label: goal for label, goal in rows}
+    return dict(line.split(": ") for line in text.splitlines() if line and not line.startswith("#"))
 
 
 def write(root: str | Path, crate: str, edits: Iterable[Edit]) -> None:

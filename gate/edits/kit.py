@@ -34,15 +34,10 @@ def require() -> None:
         sys.exit(f"there is no Rattle kit here (the command `{RT}`): a release has the built program (README.md)")
 
 
-def folder() -> Path:
-    """The kit's folder."""
-    return folder_of(RT)
-
-
 @cache
-def folder_of(command: str) -> Path:
-    """The folder of the kit of a command: that of the page that `rt doc` names."""
-    finished = subprocess.run([command, "doc"], capture_output=True, text=True, check=True)
+def folder() -> Path:
+    """The kit's folder: that of the page that `rt doc` names."""
+    finished = subprocess.run([RT, "doc"], capture_output=True, text=True, check=True)
     return Path(finished.stdout.strip()).parent
 
 

@@ -40,9 +40,8 @@ class Build(unittest.TestCase):
         write("out/\n", self.root, ".gitignore")
         subprocess.run(["git", "init", "-q"], cwd=self.root, check=True)
         out = self.root / "crates/rs_source/out"
-        for name, value in (("ROOT", self.root), ("LOG", self.root / "out/build.log"), ("BUILT", out / "rs_source"),
-                            ("MADE_OF", out / "rs_source.made_of")):
-            self.patch(build, name, value)
+        self.enterContext(mock.patch.multiple(build, ROOT=self.root, LOG=self.root / "out/build.log",
+                                              BUILT=out / "rs_source", MADE_OF=out / "rs_source.made_of"))
         self.patch(kit, "RT", f"{self.room}/rt")
         self.toolchain(failed=0)
 

@@ -78,28 +78,24 @@ class Parts(unittest.TestCase):
                                               (1, "", none, (0, unread)), (0, "", wide, (0, wide))):
             finished = mock.Mock(returncode=status, stdout=output, stderr="")
             with (mock.patch.object(subprocess, "run", lambda *words, **how: finished),
-                  mock.patch.multiple(gate, wide=lambda file: lines, files_of=lambda *kinds, **how: ["it"])):
-                self.assertEqual(gate.layout(), wanted)
+                  mock.patch.object(gate, "wide", lambda file: lines), mock.patch.object(kit, "folder")):
+                self.assertEqual(gate.layout([Path("a.rt"), Path("it.py")]), wanted)
 
-    def test_a_part_that_is_a_program_passes_by_its_status(self) -> None:
-        for status, wanted in ((0, (1, 0, 0)), (1, (0, 1, 0)), (3, (0, 1, 0)), (77, (0, 0, 1))):
-            file = write(f"raise SystemExit({status})\n", self.room, f"ends_{status}.py")
-            passed, failed, skipped, _ = result_of(file)
-            self.assertEqual((passed, len(failed), len(skipped)), wanted)
-        passed, failed, skipped, _ = result_of(Path(self.room, "is_not_there.py"))
-        self.assertEqual((passed, len(failed), len(skipped)), (0, 1, 0))
-
-    def test_a_part_that_was_not_tried_is_no_pass(self) -> None:
+    def test_a_part_that_is_a_program_passes_by_its_status_unless_it_was_not_tried(self) -> None:
         """A part that could not be tried, one of which a piece could not be, and one that fails beside; lines that only
-        look so."""
+        look so; a part that says nothing, and one that is not there."""
+        file = Path(self.room, "check.py")
+        passed, failed, skipped, _ = result_of(file)
+        self.assertEqual((passed, len(failed), len(skipped)), (0, 1, 0))
         why, piece = "page: NOT TRIED: there is no chromium here", "it_is_clean: NOT TRIED, as there is no mandoc here"
         none: list[str] = []
         for line, status, wanted in (
             (why, 77, (0, 0, [why])), (piece, 0, (1, 0, [piece])), (why, 1, (0, 1, [why])),
             ("NOT TRIED: low/one", 0, (1, 0, none)), ("all is tried", 0, (1, 0, none)),
-            ("a page says NOT TRIED where it must", 0, (1, 0, none)),
+            ("a page says NOT TRIED where it must", 0, (1, 0, none)), ("", 0, (1, 0, none)), ("", 1, (0, 1, none)),
+            ("", 3, (0, 1, none)), ("", 77, (0, 0, [f"{file} does not say why it was not tried"])),
         ):
-            file = write(f"print({line!r})\nraise SystemExit({status})\n", self.room, "check.py")
+            file.write_text(f"print({line!r})\nraise SystemExit({status})\n")
             passed, failed, skipped, output = result_of(file)
             self.assertEqual((passed, len(failed), skipped), wanted)
             self.assertEqual(output, f"{line}\n")
@@ -192,12 +188,6 @@ class Parts(unittest.TestCase):
 
         with self.assertRaises(ZeroDivisionError), contextlib.redirect_stdout(io.StringIO()):
             gate.Parts().run_beside([("one", script)], 2)
-
-    def test_each_check_has_a_program(self) -> None:
-        self.assertGreater(len(checks()), 30)
-        for check in checks():
-            place = Path(gate.ROOT, *check.module.split("."))
-            self.assertTrue(place.with_suffix(".py").is_file() or (place / "__main__.py").is_file(), check.name)
 
     def test_what_has_no_tool_is_told_by_name(self) -> None:
         """The look at operations/install/ with no tool but the shell: what needs one says so, and fails nothing."""

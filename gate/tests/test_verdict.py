@@ -9,7 +9,7 @@ import unittest
 from pathlib import Path
 from unittest import mock
 
-from samples import commit
+from samples import commit, write
 
 import gate
 import kit
@@ -19,19 +19,15 @@ MADE = verdict.Verdict("c" * 40, (), "kit-1 logic abc", 3, (), ("a: NOT TRIED: n
                        "3 passed, 0 failed, 1 skipped")
 
 
-def repository(folder: Path) -> Path:
-    """A repository with one commit of one file, which leaves out/ out."""
-    (folder / "a").write_text("a\n")
-    (folder / ".gitignore").write_text("out/\n")
-    commit(folder, "one")
-    return folder
-
-
 class Verdicts(unittest.TestCase):
-    """What is written is read again; anything else is refused in a line."""
-
     def setUp(self) -> None:
+        # A repository with one commit of one file, which leaves out/ out.
         self.root = Path(self.enterContext(tempfile.TemporaryDirectory()))
+        write("a\n", self.root, "a")
+        write("out/\n", self.root, ".gitignore")
+        commit(self.root, "one")
+        self.enterContext(mock.patch.object(gate, "ROOT", self.root))
+        self.enterContext(mock.patch.object(kit, "identity", lambda: ("kit-1", "abc")))
 
     def test_a_verdict_is_read_as_it_was_written(self) -> None:
         verdict.write(self.root, MADE)
@@ -59,59 +55,51 @@ class Verdicts(unittest.TestCase):
             self.assertIs(found.is_green, wanted)
 
     def test_files_that_are_not_the_commits_are_told(self) -> None:
-        folder = repository(self.root)
-        clean = verdict.state_of(folder)
+        clean = verdict.state_of(self.root)
         self.assertRegex(clean.commit, r"\A[0-9a-f]{40}\Z")
         self.assertEqual(clean.changes, ())
-        (folder / "out").mkdir()
-        (folder / "out/log").write_text("ignored\n")
-        self.assertEqual(verdict.state_of(folder), clean)
-        (folder / "b c").write_text("new\n")
-        (folder / "a").write_text("other\n")
-        self.assertEqual(verdict.state_of(folder).changes, ("a", "b c"))
+        write("ignored\n", self.root, "out/log")
+        self.assertEqual(verdict.state_of(self.root), clean)
+        write("new\n", self.root, "b c")
+        write("other\n", self.root, "a")
+        self.assertEqual(verdict.state_of(self.root).changes, ("a", "b c"))
 
     def test_what_changed_meanwhile_is_told(self) -> None:
-        folder = repository(self.root)
-        before = verdict.state_of(folder)
+        before = verdict.state_of(self.root)
         self.assertEqual(verdict.joined(before, before), before)
-        (folder / "a").write_text("other\n")
-        changed = verdict.state_of(folder)
+        write("other\n", self.root, "a")
+        changed = verdict.state_of(self.root)
         self.assertEqual(verdict.joined(before, changed), verdict.State(before.commit, ("a",)))
         self.assertEqual(verdict.joined(changed, before), verdict.State(before.commit, ("a",)))
-        commit(folder, "two")
-        after = verdict.state_of(folder)
+        commit(self.root, "two")
+        after = verdict.state_of(self.root)
         self.assertEqual(verdict.joined(before, after), verdict.State(before.commit, (f"commit {after.commit}",)))
 
     def test_the_gate_writes_what_it_prints(self) -> None:
-        folder = repository(self.root)
         parts = gate.Parts()
         parts.passed, parts.skipped = 2, ["a: NOT TRIED: no root"]
-        before = verdict.state_of(folder)
+        before = verdict.state_of(self.root)
         for is_strict, failed in ((False, 0), (True, 1)):
-            with mock.patch.object(gate, "ROOT", folder), mock.patch.object(kit, "identity", lambda: ("kit-1", "abc")):
-                with contextlib.redirect_stdout(io.StringIO()) as printed:
-                    gate.note(parts, is_strict, before)
-                    status = gate.conclude(parts, is_strict)
-            found = verdict.read(folder)
+            with contextlib.redirect_stdout(io.StringIO()) as printed:
+                gate.note(parts, is_strict, before)
+                status = gate.conclude(parts, is_strict)
+            found = verdict.read(self.root)
             self.assertEqual(found.line, printed.getvalue().splitlines()[-1])
             self.assertEqual((found.commit, found.changes, found.kit), (before.commit, (), "kit-1 logic abc"))
             self.assertEqual((status, len(found.failed), len(found.skipped)), (failed, failed, 1 - failed))
             self.assertIs(found.is_green, not is_strict)
 
     def test_the_gate_notes_what_was_changed_when_it_began(self) -> None:
-        folder = repository(self.root)
-        now = verdict.state_of(folder)
+        now = verdict.state_of(self.root)
         for before, wanted in ((verdict.State(now.commit, ("b",)), ("b",)),
                                (verdict.State("d" * 40, ()), (f"commit {now.commit}",))):
-            with mock.patch.object(gate, "ROOT", folder), mock.patch.object(kit, "identity", lambda: ("kit-1", "abc")):
-                gate.note(gate.Parts(), False, before)
-            found = verdict.read(folder)
+            gate.note(gate.Parts(), False, before)
+            found = verdict.read(self.root)
             self.assertEqual((found.commit, found.changes), (before.commit, wanted))
 
     def test_a_run_that_is_stopped_leaves_no_verdict(self) -> None:
-        folder = repository(self.root)
-        verdict.write(folder, MADE)
+        verdict.write(self.root, MADE)
         stopped = mock.patch.object(subprocess, "run", side_effect=KeyboardInterrupt)
-        with mock.patch.object(gate, "ROOT", folder), stopped, self.assertRaises(KeyboardInterrupt):
+        with stopped, self.assertRaises(KeyboardInterrupt):
             gate.main()
-        self.assertFalse((folder / verdict.PLACE).exists())
+        self.assertFalse((self.root / verdict.PLACE).exists())

@@ -19,19 +19,13 @@ EXPECTED = {
 }
 
 
-def is_made(folder: pathlib.Path) -> bool:
-    """Whether the prover makes this folder."""
-    return folder.name == "out" and folder.parent.parent == ROOT / "crates"
-
-
 def hand_proofs() -> Iterator[str]:
     """The path of each proof by hand, from the top of the repository."""
     for folder, folders, files in os.walk(ROOT):
         here = pathlib.Path(folder)
-        folders[:] = [name for name in folders if name != ".git" and not is_made(here / name)]
-        for name in files:
-            if name.lower() == NAME:
-                yield (here / name).relative_to(ROOT).as_posix()
+        is_crate = here.parent == ROOT / "crates"
+        folders[:] = [name for name in folders if name != ".git" and not (is_crate and name == "out")]
+        yield from ((here / name).relative_to(ROOT).as_posix() for name in files if name.lower() == NAME)
 
 
 def main() -> int:

@@ -89,10 +89,7 @@ def install(names: list[str]) -> bool:
 
 
 def setup(text: str) -> bool:
-    """Installs what is missing, where it may, and names what is left out in the end.
-
-    Gives whether the gate can begin.
-    """
+    """Installs what is missing where it may, names what is left out then, and gives whether the gate can begin."""
     lacking = missing(text)
     if not lacking:
         return True

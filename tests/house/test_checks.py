@@ -20,8 +20,6 @@ memory | never | memory | - | 0 | -
 
 
 class Table(unittest.TestCase):
-    """The tables of checks, and the page that is made from them."""
-
     def test_each_check_has_a_line(self) -> None:
         run = {module_of(file).removesuffix(".__main__") for file in imports.FILES if imports.is_run(file)}
         wanted = {module for module in run

@@ -7,8 +7,6 @@ from tests.house import imports
 
 
 class Cycles(unittest.TestCase):
-    """Modules that import themselves by way of others."""
-
     def found(self, **texts: str) -> set[str]:
         """The modules of a cycle in a package of files with these texts."""
         with tempfile.TemporaryDirectory() as room:

@@ -22,8 +22,6 @@ def strays(crate: str, place: str, text: str) -> list[str]:
 
 
 class Layers(unittest.TestCase):
-    """The picture of the layers, and the proofs that crates cite."""
-
     def test_the_picture_is_that_of_the_crates(self) -> None:
         page, uses = layers.PAGE.read_text(), crates_of(ROOT)
         self.assertEqual(layers.with_picture(page, uses), page, "python3 -m tests.house.layers --write")

@@ -8,8 +8,6 @@ from tests.house import limits
 
 
 class Limits(unittest.TestCase):
-    """The table of limits in docs/GLOSSARY.md."""
-
     def setUp(self) -> None:
         self.figures = {limit: limit.figures() for limit in limits.LIMITS}
 

@@ -41,8 +41,6 @@ def tried(ground: Made) -> tuple[int, Trials]:
 
 
 class Plants(unittest.TestCase):
-    """What counts as noticed."""
-
     def test_a_check_that_fails_with_the_bug_alone_notices_it(self) -> None:
         ground = Made(Outcome(0, "all holds"), Outcome(1, "a sum differs"))
         status, trials = tried(ground)

@@ -34,8 +34,6 @@ mod kept { pub(crate) unsafe fn take(turn: fn(u8) -> u8) {} }
 
 
 class Code(unittest.TestCase):
-    """The reading of a file of code."""
-
     def setUp(self) -> None:
         self.found = code.functions_of(TEXT)
 
@@ -74,8 +72,6 @@ class Code(unittest.TestCase):
 
 
 class Crates(unittest.TestCase):
-    """The reading of crates.txt."""
-
     def test_crates_stand_in_their_order(self) -> None:
         with tempfile.TemporaryDirectory() as room:
             Path(room, "crates.txt").write_text("# the lowest first\nlow: std # the kit's\nmiddle: low\nhigh: middle\n")

@@ -4,8 +4,8 @@ import contextlib
 import io
 import os
 import unittest
-import unittest.mock
 from pathlib import Path
+from unittest import mock
 
 from tests.house import setup
 
@@ -19,8 +19,6 @@ file | /no/such/file | test | pages
 
 
 class SetUp(unittest.TestCase):
-    """What setup installs, and what it says."""
-
     def test_what_is_missing(self) -> None:
         self.assertEqual([package.name for package in setup.packages(TABLE)], ["shell", "none", "later", "file"])
         self.assertEqual([package.name for package in setup.missing(TABLE)], ["none", "file"])
@@ -28,10 +26,8 @@ class SetUp(unittest.TestCase):
     def run_setup(self, user: int, **environment: str) -> tuple[str, list[str]]:
         """What it prints for a user, and what it installed."""
         installed: list[str] = []
-        with contextlib.ExitStack() as patched, contextlib.redirect_stdout(io.StringIO()) as out:
-            patched.enter_context(unittest.mock.patch.dict(os.environ, environment))
-            patched.enter_context(unittest.mock.patch.object(os, "getuid", lambda: user))
-            patched.enter_context(unittest.mock.patch.object(setup, "install", lambda names: installed.extend(names)))
+        with (contextlib.redirect_stdout(io.StringIO()) as out, mock.patch.dict(os.environ, environment),
+              mock.patch.object(os, "getuid", lambda: user), mock.patch.object(setup, "install", installed.extend)):
             self.assertTrue(setup.setup(TABLE))
         return out.getvalue(), installed
 
@@ -50,7 +46,7 @@ class SetUp(unittest.TestCase):
         self.assertEqual(out.getvalue(), "")
 
     def test_nothing_begins_without_what_the_gate_needs(self) -> None:
-        with contextlib.redirect_stdout(io.StringIO()), unittest.mock.patch.dict(os.environ, {"SETUP": "no"}):
+        with contextlib.redirect_stdout(io.StringIO()), mock.patch.dict(os.environ, {"SETUP": "no"}):
             self.assertFalse(setup.setup("none | no-such-command | gate | to begin with\n"))
 
     def test_the_table_says_what_for(self) -> None:

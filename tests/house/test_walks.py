@@ -33,8 +33,6 @@ def missing(text: str) -> list[str]:
 
 
 class Walks(unittest.TestCase):
-    """The walks of a page through functions."""
-
     def test_each_function_stands_in_its_crate(self) -> None:
         self.assertEqual(missing(PAGE.read_text()), [])
 

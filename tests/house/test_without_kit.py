@@ -34,8 +34,6 @@ def is_one_line(output: str) -> bool:
 
 
 class WithoutKit(unittest.TestCase):
-    """The targets of the Makefile on a machine without the kit."""
-
     def test_each_target_says_so_in_one_line(self) -> None:
         path = path_without_kit()
         self.assertIsNone(shutil.which(KIT, path=path))
@@ -60,4 +58,3 @@ class WithoutKit(unittest.TestCase):
         for output in ("", end, line + line, f"Building the program\n{line}", "FileNotFoundError: 'rt'\n",
                        f"Traceback (most recent call last):\n{line}"):
             self.assertFalse(is_one_line(output))
-

@@ -35,8 +35,6 @@ pub fn find(at: u64, n: u32) -> Run
 
 
 class Pages(unittest.TestCase):
-    """The looks at the words of pages."""
-
     def setUp(self) -> None:
         folder = tempfile.TemporaryDirectory()
         self.addCleanup(folder.cleanup)
