@@ -53,8 +53,8 @@ class Definition:
 
     @property
     def title(self) -> str:
-        """Its name, and which field of it stands here alone."""
-        return self.name + (f", its field {self.part} alone" if self.part else "")
+        """Its name, or that of the one field of it that stands here."""
+        return f"{self.name}.{self.part}, one field of the record" if self.part else self.name
 
     @property
     def code(self) -> list[str]:
@@ -75,6 +75,11 @@ class Specs:
     aliases: dict[str, str] = field(default_factory=dict)
     # What the file passes on to those who bring it in from here.
     passed: set[str] = field(default_factory=set)
+
+
+def without_comments(text: str) -> str:
+    """The text without the lines that are comments."""
+    return "".join(line for line in text.splitlines(keepends=True) if not line.lstrip().startswith("--"))
 
 
 def brought_by(line: str) -> tuple[dict[str, Name], dict[str, str], bool]:

@@ -7,7 +7,6 @@ from dataclasses import dataclass
 from rattle.lexer import PATTERNS, Kind
 
 # In comments, texts and characters braces and words mean nothing.
-COMMENT = re.compile(PATTERNS[Kind.COMMENT])
 QUIET = re.compile("|".join(PATTERNS[kind] for kind in (Kind.COMMENT, Kind.TEXT, Kind.CHAR)), re.DOTALL)
 BLOCK = re.compile(r"(?m)^[ \t]*(?:pub(?:\(\w+\))?\s+)?(?:unsafe\s+)?((?:impl|trait|mod)\b[^{;]*)\{")
 FUNCTION = re.compile(r"\bfn\s+(\w+)")
@@ -66,8 +65,8 @@ def blanked(text: str) -> str:
 
 
 def without_comments(text: str) -> str:
-    """The text with a blank in place of each comment."""
-    return COMMENT.sub(" ", text)
+    """The text with an empty line, or the end of one, in place of each comment."""
+    return QUIET.sub(lambda found: "" if found[0].startswith("//") else found[0], text)
 
 
 def closed(code: str, at: int) -> int:

@@ -103,6 +103,9 @@ class Trial:
         The goal that is known is taken first."""
         left_out = {symbol: goals.beside(one, self.folder) for symbol, one in group.tried.items()}
         found = verdict.read(self.name, report, left_out)
+        if not found.is_read:
+            count = len(group.tried)
+            print(f"-- {self.name}: {count} edits are tried alone, since one is not read: {found.first}", flush=True)
         # An error of a function that none of them changes could come from any: then each is tried alone.
         if found.is_read and {*found.own} <= {*group.tried}:
             for symbol, one in group.tried.items():

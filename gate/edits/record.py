@@ -1,8 +1,8 @@
 """The record of the crates all of whose must-fail edits were seen refused (gate/edits/record.txt).
 
 A crate's line names the kit, and holds a hash of the crate's code, specs, proofs and edits, of what the crates below
-say to it (their source without bodies and comments, and their specs), and of the program logic. `make edits` alone
-writes it.
+say to it (their source without bodies, and their specs), and of the program logic. Comments are no part of it.
+`make edits` alone writes it.
 """
 
 import datetime
@@ -12,7 +12,7 @@ from functools import cache
 from pathlib import Path
 
 import kit
-from rattle import code
+from rattle import antt, code
 from rattle.crates import below, crates_of
 
 FILE = "gate/edits/record.txt"
@@ -20,6 +20,13 @@ HEAD = ("# Crates all of whose must-fail edits were seen refused: name, number o
         "Written by `make edits`.\n")
 # What a text says is read once, however many crates stand above it.
 outline = cache(code.outline)
+
+
+def said(path: Path) -> str:
+    """What a file of a crate says beside its comments and empty lines."""
+    text = path.read_text()
+    text = {".rt": code.without_comments, ".antt": antt.without_comments}.get(path.suffix, str)(text)
+    return "\n".join(line.rstrip() for line in text.splitlines() if line.strip())
 
 
 def files(folder: str | Path, *parts: str) -> list[str]:
@@ -36,14 +43,15 @@ def edits_of(root: str | Path, name: str) -> list[str]:
 def hash_of(root: str | Path, uses: Mapping[str, list[str]], name: str, logic: str) -> str:
     """The hash that a crate's line of the record must have now."""
     total, crates = hashlib.sha256(logic.encode()), Path(root, "crates")
-    texts = [(file, (crates / name / file).read_bytes())
-             for file in files(crates / name, "src", "specs", "proofs", "must-fail")]
+    texts = [(name, " ".join(uses[name]))]
+    own = files(crates / name, "src", "specs", "proofs", "must-fail")
+    texts += [(file, said(crates / name / file)) for file in own]
     for lower in below(uses, name):
         for file in files(crates / lower, "src", "specs"):
-            text = (crates / lower / file).read_text()
-            texts.append((f"{lower}/{file}", (outline(text) if file.endswith(".rt") else text).encode()))
-    for label, data in [(name, " ".join(uses[name]).encode()), *texts]:
-        total.update(f"{label} {len(data)}\n".encode() + data)
+            path = crates / lower / file
+            texts.append((f"{lower}/{file}", outline(path.read_text()) if path.suffix == ".rt" else said(path)))
+    for label, text in texts:
+        total.update(f"{label} {len(text)}\n{text}".encode())
     return total.hexdigest()
 
 

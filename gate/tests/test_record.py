@@ -21,11 +21,11 @@ def tried(label: str, goal: str, outcome: edit.Outcome = edit.Outcome.REFUSED) -
 
 class Recording(unittest.TestCase):
     def test_what_a_change_leaves_covered(self) -> None:
-        """A body, a comment, a proof and an edit are their own crate's; what a crate says is of all above it."""
+        """A body, proof or edit is its own crate's. What a crate says is of all above it, a comment of none."""
         for crate, part, old, new, covered in rows("covered"):
             with repository(low=CODE, high=ABOVE) as room, self.subTest(part=part, old=old):
                 for folder in ("specs", "proofs"):
-                    write("one = 1\n", room, "crates/low", folder, "One.antt")
+                    write("-- one\none = 1\n", room, "crates/low", folder, "One.antt")
                 record.write(room, ["low", "high"])
                 self.assertEqual(record.uncovered(room), [])
                 file = Path(room, "crates", crate, part)

@@ -70,6 +70,10 @@ class Code(unittest.TestCase):
         self.assertEqual(code.outline(other), code.outline(TEXT))
         self.assertNotEqual(code.outline(TEXT.replace("n ≡ 1", "n ≡ 2")), code.outline(TEXT))
 
+    def test_a_comment_goes_and_a_text_stays(self) -> None:
+        found = code.without_comments('let at = "http://a"; // "b"\n/// c\nlet x = \'"\'; // d "\n')
+        self.assertEqual(found, 'let at = "http://a"; \n\nlet x = \'"\'; \n')
+
 
 class Crates(unittest.TestCase):
     def test_crates_stand_in_their_order(self) -> None:
