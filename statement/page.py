@@ -67,8 +67,12 @@ def piece_of(line: str, piece: re.Match[str], links: Links) -> str:
 class Page:
     """The page, as pieces of HTML."""
 
-    def __init__(self, world: World, evidence: dict[str, list[Evidence]], meanings: Mapping[str, str]) -> None:
+    def __init__(self, world: World, promises: list[Promise], evidence: dict[str, list[Evidence]],
+                 meanings: Mapping[str, str]) -> None:
         self.world, self.evidence, self.meanings, self.pieces = world, evidence, meanings, list[str]()
+        # What no promise opens. Nothing leads there.
+        reached = {definition for promise in promises for definition in promise.reach.definitions}
+        self.unopened = {definition for promise in promises for definition in promise.between} - reached
 
     def say(self, *pieces: str) -> None:
         """Adds pieces of HTML."""
@@ -77,8 +81,9 @@ class Page:
     def code(self, lines: Iterable[str], links: Links) -> None:
         """Lines of a definition, or of code."""
         # An operator is known by its parts too.
-        parts = {part: item for item in links.values() for part in item.name.split("◌") if "◌" in item.name and part}
-        known = {**parts, **links}
+        opened = {word: item for word, item in links.items() if item not in self.unopened}
+        parts = {part: item for item in opened.values() for part in item.name.split("◌") if "◌" in item.name and part}
+        known = {**parts, **opened}
         self.say("<pre>" + "\n".join(line_of(line, known) for line in lines) + "</pre>")
 
     def head(self, promises: list[Promise]) -> None:
@@ -162,7 +167,7 @@ class Page:
 def page(world: World, promises: list[Promise], evidence: dict[str, list[Evidence]],
          meanings: Mapping[str, str]) -> str:
     """The page of all promises."""
-    made = Page(world, evidence, meanings)
+    made = Page(world, promises, evidence, meanings)
     made.head(promises)
     for promise in promises:
         made.promise(promise)

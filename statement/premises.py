@@ -8,7 +8,7 @@ What a function requires needs no line, since the prover checks it at each call.
 alone has to be there in an example (`uninhabited`), as a promise that takes what nothing has would say nothing.
 """
 
-from dataclasses import dataclass
+from dataclasses import dataclass, replace
 
 from evidence import Evidence
 from givens import CONCLUDED, Line
@@ -43,15 +43,23 @@ def name_of(function: Function, clause: Clause) -> str:
 def clauses_of(reader: Reader, promise: Promise) -> list[Printed]:
     """The printed clauses of a promise that say what a function ensures."""
     pairs = [(carrier.function, clause) for carrier in promise.carriers for clause in carrier.clauses]
-    types = [(name_of(*pair), reader.clause(*pair)) for pair in pairs if pair[1].kind == "ensures"]
-    return [Printed(name, nodes, reader.ends(nodes)) for name, nodes in types]
+    return [printed(reader, *pair) for pair in pairs if pair[1].kind == "ensures"]
+
+
+def printed(reader: Reader, function: Function, clause: Clause) -> Printed:
+    """A clause as it is printed. Where a field of a record stands alone, the clause ends in the record all the same."""
+    nodes = reader.clause(function, clause)
+    records = map(reader.definition, reader.clause(function, replace(clause, part=None)) if clause.part else [])
+    ends = reader.ends(nodes) | {record: None for record in records if record}
+    return Printed(name_of(function, clause), nodes, ends)
 
 
 class Chain:
     """The premises of a promise, with what gives each."""
 
-    def __init__(self, reader: Reader, title: str, clauses: list[Printed], lines: list[Line]) -> None:
-        self.reader, self.title, self.clauses, self.lines = reader, title, clauses, lines
+    def __init__(self, reader: Reader, promise: Promise) -> None:
+        self.reader, self.title, self.lines = reader, promise.title, promise.premises
+        self.clauses, self.between = clauses_of(reader, promise), frozenset(promise.between)
         self.faults: list[str] = []
         # The premises that each line speaks of, by their names, in their order.
         self.spoken: dict[Line, dict[str, Node]] = {}
@@ -67,10 +75,17 @@ class Chain:
             self.opened = set()
             needed = self.needed.setdefault(clause.name, {})
             for node in clause.nodes:
-                for each in self.reader.left_of(node):
+                for each in self.reader.left_of(node, opened=self.between):
                     self.give(each, needed)
+        for definition in self.between - self.concluded():
+            self.fault(f"{definition.name} is said to be between a clause and a law, and is not")
         for name in self.ungrounded():
             self.fault(f"{name} takes what no other clause gives it first")
+
+    def concluded(self) -> set[Definition]:
+        """The relations that stand left of an arrow, and that a clause concludes."""
+        nodes = [node for line, by_name in self.spoken.items() if line.kind in CONCLUDED for node in by_name.values()]
+        return {found for node in nodes if (found := self.reader.definition(node))}
 
     def ungrounded(self) -> list[str]:
         """The clauses whose premises are given by one another alone, and by none that takes nothing from them."""
@@ -156,7 +171,7 @@ def follow(world: World, promises: list[Promise]) -> None:
     """Follows the premises of each promise to what gives them."""
     reader = Reader(world)
     for promise in promises:
-        promise.chain = Chain(reader, promise.title, clauses_of(reader, promise), promise.premises)
+        promise.chain = Chain(reader, promise)
         promise.chain.follow()
 
 

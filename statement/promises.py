@@ -5,6 +5,7 @@ from dataclasses import dataclass, field
 from typing import TYPE_CHECKING
 
 import givens
+from rattle.antt import Definition
 from reach import Reach, reach
 from source import Clause, Function
 from tables import HERE, Wrong
@@ -35,6 +36,8 @@ class Promise:
     title: str
     fields: dict[str, str] = field(default_factory=dict)
     carriers: list[Carrier] = field(default_factory=list)
+    # The relations that a clause gives and a law takes. Whatever they say, the promise holds: they are not opened.
+    between: list[Definition] = field(default_factory=list)
     # What gives its premises: its own lines, and those that stand before all promises.
     premises: list[givens.Line] = field(default_factory=list)
     # Its premises, each with the line that gives it, once they are followed.
@@ -48,8 +51,10 @@ class Promise:
 
     @property
     def grounds(self) -> list[str]:
-        """What gives its premises, a sentence for each line that speaks of them."""
-        return givens.sentences(self.chain.spoken) if self.chain else []
+        """What gives its premises, a sentence for each line that speaks of them, and which relations are not opened."""
+        names = ", ".join(definition.name for definition in self.between)
+        why = "a clause concludes each and a law takes it. The promise needs no more of them than is printed."
+        return [*(givens.sentences(self.chain.spoken) if self.chain else []), *([f"{names}: {why}"] if names else [])]
 
 
 def sections(text: str) -> list[tuple[str, list[tuple[str, str]]]]:
@@ -97,17 +102,29 @@ def lines_of(pairs: list[tuple[str, str]]) -> list[givens.Line]:
     return [givens.parsed(text) for word, text in pairs if word == "premise"]
 
 
+def relations_named(title: str, reached: Reach, names: list[str]) -> list[Definition]:
+    """The relations of these names among what a promise reaches."""
+    found = [[each for each in reached.definitions if each.name == name and not each.part] for name in names]
+    for name, each in zip(names, found):
+        if len(each) != 1:
+            raise Wrong(f"'{title}' reaches {len(each)} definitions {name}")
+    return [definition for each in found for definition in each]
+
+
 def promises(world: World, table: str | None = None) -> list[Promise]:
     """The promises in their order, each with what it reaches."""
     found = []
     (_, shared), *each = sections(table or (HERE / "promises.txt").read_text())
     every = lines_of(shared)
     for title, pairs in each:
-        promise = Promise(title, {word: text for word, text in pairs if word not in ("by", "premise")})
+        promise = Promise(title, {word: text for word, text in pairs if word not in ("by", "premise", "between")})
         promise.premises = [*lines_of(pairs), *every]
         promise.carriers = [carrier(world, text) for word, text in pairs if word == "by"]
-        promise.reach = reach(world, [used for each in promise.carriers for clause in each.clauses
-                                      for used in world.links_of_clause(each.function, clause).values()])
+        first = [used for each in promise.carriers for clause in each.clauses
+                 for used in world.links_of_clause(each.function, clause).values()]
+        names = [name for word, text in pairs if word == "between" for name in text.split()]
+        promise.between = relations_named(title, reach(world, first), names) if names else []
+        promise.reach = reach(world, first, promise.between)
         if plain(promise.sentence) not in plain((world.root / promise.fields["in"]).read_text()):
             raise Wrong(f"the sentence of '{title}' does not stand in {promise.fields['in']}")
         if f"| {promise.fields['row']} |" not in (world.root / TABLE).read_text():

@@ -8,12 +8,15 @@ Depth first over all crates would lead from the first line of the headline to th
 is read; breadth first would mix the crates.
 """
 
-from collections.abc import Iterable
+from collections.abc import Callable, Collection, Iterable
 from dataclasses import dataclass
 
 from rattle.antt import Definition
 from source import Type
 from world import Item, KitWord, World
+
+# What an item reaches at once.
+Uses = Callable[[Item], list[Item]]
 
 
 @dataclass
@@ -44,12 +47,12 @@ class Reach:
         return len(self.definitions), lines, sum(len(each.types) for each in self.chapters), len(self.kit)
 
 
-def take(world: World, crate: str, items: Iterable[Item], found: dict[Item, None]) -> None:
+def take(uses: Uses, crate: str, items: Iterable[Item], found: dict[Item, None]) -> None:
     """Takes each of these items that is of a crate, and right behind it what it uses of the crate."""
     for item in items:
         if item.crate == crate and item not in found and not isinstance(item, KitWord):
             found[item] = None
-            take(world, crate, world.uses(item), found)
+            take(uses, crate, uses(item), found)
 
 
 def closure(world: World, first: Iterable[Item]) -> set[Item]:
@@ -63,13 +66,16 @@ def closure(world: World, first: Iterable[Item]) -> set[Item]:
     return found
 
 
-def reach(world: World, first: list[Item]) -> Reach:
-    """What is reached from these items."""
-    every, chapters = [*first], list[Chapter]()
+def reach(world: World, first: list[Item], between: Collection[Item] = ()) -> Reach:
+    """What is reached from these items, but for what stands between a clause and a law, and what only that reaches."""
+    def uses(item: Item) -> list[Item]:
+        return [used for used in world.uses(item) if used not in between]
+
+    every, chapters = [item for item in first if item not in between], list[Chapter]()
     for crate in reversed(world.crates):
         found = dict[Item, None]()
-        take(world, crate, every, found)
-        every += [used for item in found for used in world.uses(item)]
+        take(uses, crate, every, found)
+        every += [used for item in found for used in uses(item)]
         if found:
             definitions = [item for item in found if isinstance(item, Definition)]
             chapters.append(Chapter(crate, definitions, [item for item in found if isinstance(item, Type)]))

@@ -282,6 +282,24 @@ class Given(unittest.TestCase):
         self.assertEqual(self.faults_of(lines, more), ["Doors: nothing gives the premise 'door ≡ 1' of AreOpened"])
         self.assertEqual(self.faults_of(lines.replace("AreOpened law:", "AreOpened from:"), more), [])
 
+    def test_what_is_between_a_clause_and_a_law_is_not_opened(self) -> None:
+        lines = LINES + "by: doors one_opens\npremise: AreOpened from: doors one_opens\n"
+        opened, unopened = (self.reached(lines + more) for more in ("", "between: AreOpened\n"))
+        self.assertEqual(opened - unopened, {"AreOpened"})
+        self.assertEqual(self.faults_of(lines + "between: AreOpened\n"), [])
+        wrong = "IsInside is said to be between a clause and a law, and is not"
+        self.assertIn(f"Doors: {wrong}", self.faults_of(lines + "between: IsInside\n"))
+        with self.assertRaises(tables.Wrong):
+            self.faults_of(lines + "between: IsNowhere\n")
+
+    def reached(self, lines: str) -> set[str]:
+        """The names of what a promise of these lines reaches."""
+        promise, = promises.promises(made(self.room), SAYS + lines)
+        return {definition.name for definition in promise.reach.definitions}
+
+    def test_a_clause_that_shows_one_field_gives_the_record(self) -> None:
+        self.assertEqual(self.faults_of(LINES.replace("doors shut shut", "doors shut IsShut.low")), [])
+
     def test_what_is_trusted_is_named_with_its_fields(self) -> None:
         shut = "premise: IsShut from: doors shut shut"
         for name, count in (("IsShut {low high}", 0), ("IsShut {low}", 1), ("IsShut", 1), ("WasOpened.shut", 1),
@@ -387,12 +405,14 @@ class Planted(unittest.TestCase):
         self.assertEqual(found, [])
 
     def test_a_headline_without_what_gives_a_premise(self) -> None:
-        """Without its formatting, its run, or the law of its sessions."""
+        """Without its formatting, its run, the law of its sessions, or a command."""
         for line, name, clause in (
-            ("rs_store Source::format holds", "Holds", "rs_store Source::format holds"),
-            ("rs_store Source::run answered at_exit untouched closed closes", "AreAnswered",
+            ("rs_store Source::format holds runs", "Holds", "rs_store Source::format holds"),
+            ("rs_store Source::run in_turn answered at_exit untouched closed closes", "AreAnswered",
              "rs_store Source::run answered"),
             ("rs_recovery sessions_follow", "AreSessions", "rs_recovery sessions_follow first"),
+            ("rs_store Source::put Answers.leads Answers.runs Answers.closed Answers.closes", "Answers",
+             "rs_store Source::put"),
         ):
             found = self.without(f"by: {line}\n")
             fault = f"{name} is said to come from {clause}, which the promise does not print"
