@@ -17,7 +17,7 @@ use Rattle.rs_http.specs.Outcomes.{RequestGives}
 use Rattle.rs_http.specs.Responses.{RequestOutcome, replied, shown, response_text, go_on}
 use Rattle.rs_http.specs.Serving.{IsBroken}
 
--- the reply that the outcome of a request tells, where a command was accepted
+-- the reply in the outcome of a request, where the source accepted a command
 abbrev pub told_by : RequestOutcome → List Reply
 told_by (replied reply) = reply ∷ []
 told_by outcome = []
@@ -45,7 +45,7 @@ IsAsked input outcome = Unit {0}
 -- command that the source accepted, and where it held a state, its disk saw this command answered from that state on. This holds on every
 -- disk, also on one whose last sync fails: a reply that was sent before the commit would be false there.
 -- `asked`: something is shown only where the bytes that the reader gave are a GET or a HEAD. What is shown may have the bytes of a
--- reply; so a response with these bytes to any other request is the reply.
+-- reply. A response with these bytes to any other request is the reply.
 pub record TellsReply {D : Type 0} (device : D → DiskState) (old new : Stored D) (ends : Ends) : Type 0 where
   pub outcomes : List RequestOutcome
   pub replied : HasReplied device old (flat_map told_by outcomes) new

@@ -83,9 +83,9 @@ pub fn serve_one<D: Disk, R: Read, W: Write>(
     ensures run { RunsAtMost D.state source.old 1 source.new }
 
     // Whatever the result, where the source held a state, its disk saw commands answered from that state
-    // on. The reply that the writer took is that to the accepted one of these commands. Only to a GET or a
-    // HEAD is a 200 anything else. If it is open at the end, it holds the state after those that count. A
-    // closed source accepts none and stays closed.
+    // on. The reply that the writer took is that to the accepted one of these commands. To anything but a
+    // GET or a HEAD a 200 is such a reply. If it is open at the end, it holds the state after those that
+    // count. A closed source accepts none and stays closed.
     ensures answered { TellsReply D.state source.old source.new
         (ends_of R.remaining reader.old reader.new W.contents writer.old writer.new) }
 {

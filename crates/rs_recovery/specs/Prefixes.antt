@@ -67,7 +67,7 @@ Recovers device old commands new = (s : Source) → Holds device old s → Leave
 abbrev pub HasAnswered : {D : Type 0} → (D → DiskState) → Stored D → Stored D → Type 0
 HasAnswered device old new = (replies : List Reply) × HasReplied device old replies new
 
--- A stop of any run leaves what the first counted commands make.
+-- A stop of any run leaves what the first commands that count make.
 abbrev pub RunsRecover : {D : Type 0} → (D → DiskState) → Type 0
 RunsRecover {D} device = (old new : Stored D) (commands : List (Command × ℕ)) → IsRunOf device old commands new → Recovers device old commands new
 

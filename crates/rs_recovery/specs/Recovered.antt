@@ -78,8 +78,9 @@ pub record IsRecovered {D : Type 0} (device : D → DiskState) (disk : D) (resul
 -- state the latest Resource List, followed by the changes recorded after its at-moment in their order, yields exactly
 -- the resources held, with their lengths, hashes and types. The first session began with the state that a formatting
 -- and some commands made: no commands where the source was formatted, and those behind the copied source where it is a
--- copy. The latest session is `x`; those before it are `past`, the latest of them first. Each session may be on a disk of
--- another type than this one, since a file that is opened anew has another type.
+-- copy. The latest session is `x`. Those before it are `past`, the latest of them first. Over several sessions the prefix
+-- has the first commands of each session, one session after another. Each session may be on a disk of another type than
+-- this one, since a file that is opened anew has another type.
 abbrev pub Headline : {D : Type 0} → (D → DiskState) → D → Result (Stored D) (D × OpenFault) → Type 0
 Headline {D} device disk result = (base : List ℕ) (limit moment : ℕ) (before : List (Command × ℕ)) (x : Session) (past : List Session)
     → let start = fold_of (start_of base limit moment) before in

@@ -25,7 +25,7 @@ replies_in acks = flat_map (λ a. reply_in a.reply) acks
 
 -- What a source did, where these are its replies to the commands that it accepted.
 -- `answered`: where it held a state, its disk saw commands answered in their order, from that state on. If it is open at the
--- end, it holds the state after the counted ones, and answered Device to none. So what comes next begins with that state.
+-- end, it holds the state after those that count, and answered Device to none. So what comes next begins with that state.
 -- `closed`: where it was closed, it accepts no command and stays closed, and only the counts of the disk change.
 pub record HasReplied {D : Type 0} (device : D → DiskState) (old : Stored D) (replies : List Reply) (new : Stored D) : Type 0 where
   pub answered : (s : Source) → Holds device old s

@@ -16,16 +16,19 @@ use Rattle.rs_store.specs.Laws.{AreNotDevice}
 use Rattle.rs_store.specs.Runs.{Condition, Holding, condition_behind, AreAnswered}
 
 -- A stop: it came before or within any disk call, after any number of calls from the first moment to the last, with any
--- image of that moment. The call in progress is thought to its end, and the stop is put inside it.
+-- image of that moment. `last` is the disk as if nothing had stopped. At the stop so many calls are done, and the next one
+-- perhaps in part.
 pub record IsStop (first last : DiskState) (stop : ℕ) (image : List ℕ) : Type 0 where
   pub from : first.calls ≤ stop
   pub to : stop ≤ last.calls
   pub left : IsImageAt last stop image
 
--- A session, on a disk of any type: the disk when its source was made or opened; the commands with their answers; the
--- command that was never answered, if the machine stopped in one; `last`, the disk as it would be had the machine not
--- stopped (`commands` may hold some that come after the stop); and the stop: after how many counted calls it came, and
--- which image of the disk it left.
+-- A session, on a disk of any type.
+-- `first`: the disk when its source was made or opened.
+-- `commands`, `acks`: the commands that were answered, with their answers. Some may come behind the stop.
+-- `unanswered`: the command that was never answered, if the machine stopped in one.
+-- `last`: the disk as it would be behind all these commands, if the machine had not stopped.
+-- `stop`, `image`: after how many calls of the disk the stop came, and which image of the disk it left.
 pub record Session : Type 0 where
   pub first : DiskState
   pub commands : List (Command × ℕ)
@@ -80,12 +83,12 @@ abbrev pub SessionsFollow : Type 0
 SessionsFollow = (start s : Source) (x y : Session) (past : List Session) → AreSessions start (y ∷ past) → StandsFor y.image s → IsStopped s x
     → AreSessions start (x ∷ y ∷ past)
 
--- the commands behind the image of the latest stop, where of each session this many of its counted commands survive
+-- the commands behind the image of the latest stop, where of each session this many of the commands that count survive
 abbrev pub commands_left : List Session → List ℕ → List (Command × ℕ)
 commands_left (x ∷ past) (j ∷ standing) = commands_left past standing ++ take j (counted x)
 commands_left sessions standing = []
 
--- Of each session this many of its counted commands survive. No command that was acknowledged by the stop is missing,
+-- Of each session this many of the commands that count survive. No command that was acknowledged by the stop is missing,
 -- and none is there that had not begun. The image of the stop stands for the state that these commands make, after
 -- those of the sessions before.
 abbrev pub AreLeft : Source → List Session → List ℕ → Type 0
@@ -100,7 +103,7 @@ abbrev pub OneStanding : Type 0
 OneStanding = (start : Source) (sessions : List Session) (standing others : List ℕ) → AreSessions start sessions
     → AreLeft start sessions standing → AreLeft start sessions others → others ≡ standing
 
--- A disk is as a session left it: the stop might have left each of its images.
+-- An opening finds the disk as the stop of a session left it: each image that this disk has is one that the stop may have left.
 pub record IsLeftBy (x : Session) (disk : DiskState) : Type 0 where
   pub images : (image : List ℕ) → IsImage disk.now image → IsImageAt x.last x.stop image
 
@@ -124,8 +127,8 @@ abbrev pub HeldSourcesBegin : {D : Type 0} → (D → DiskState) → Type 0
 HeldSourcesBegin {D} device = (source : Stored D) (s : Source) → Holds device source s
     → AreAnswered (device source.disk) (Holding s) [] [] (device source.disk)
 
--- A session goes on. Commands were answered from a state on, none of them Device, so that the source holds the state that the counted ones
--- make; and then more were answered from that state on, as in another run. So all of them were answered in one session.
+-- A session goes on. Commands were answered from a state on, none of them Device. So the source holds the state that those make which
+-- count. Then more commands were answered from that state on, as in another run. All of them were answered in one session.
 abbrev pub SessionsGoOn : Type 0
 SessionsGoOn = (s : Source) (old mid new : DiskState) (first then : List (Command × ℕ)) (early late : List Ack)
     → AreAnswered old (Holding s) first early mid → AreNotDevice early

@@ -13,12 +13,12 @@ use Rattle.rs_script.specs.Answers.{output_of}
 use Rattle.rs_script.specs.Script.{ScriptGives}
 use Rattle.rs_script.specs.Session.{ScriptState, LineOutcome, replied, verified}
 
--- the reply that the outcome of a statement tells, where a command was accepted
+-- the reply in the outcome of a statement, where the source accepted a command
 abbrev pub line_reply : LineOutcome → List Reply
 line_reply (replied reply) = reply ∷ []
 line_reply outcome = []
 
--- the names that the outcome of a statement tells are lawful
+-- the names in the outcome of a statement are lawful
 abbrev pub NamesAreLawful : LineOutcome → Type 0
 NamesAreLawful (verified names sound) = All (λ name. IsTrue (is_name name)) names
 NamesAreLawful outcome = Unit {0}

@@ -63,16 +63,17 @@ abbrev pub Connections : {D : Type 0} → (D → DiskState) → Stored D → ℕ
 Connections device old zero new = new ≡ old
 Connections {D} device old (suc count) new = (mid : Stored D) × Connections device old count mid × MayConnect device mid new
 
--- One connection was told what its source did. `is_new`: its writer is its own, and no call of it was made before. `tells`: what this
--- writer took tells the reply to the command that the source accepted meanwhile, and no other. What it shows, the bytes that the
--- connection's reader gave have asked for.
+-- One connection was told what its source did.
+-- `ends`: its reader and its writer, before and behind it. `is_new`: no call of this writer was made before, so it took nothing else.
+-- `tells`: what the writer took has the reply to the command that the source accepted meanwhile, and no other. What it shows was
+-- asked for by the bytes that the reader gave.
 pub record IsTold {D : Type 0} (device : D → DiskState) (old new : Stored D) : Type 0 where
   pub ends : Ends
   pub is_new : calls ends.before ≡ 0
   pub tells : TellsReply device old new ends
 
--- So many connections were told, one after another, or were not served and left the source as it was. `mid` is the source when the last one
--- begins: each is told of what the source did in its own turn.
+-- So many connections were told, one after another, or were not served and left the source as it was. `mid` is the source when the
+-- last one begins. So each is told of what the source did in its own turn.
 abbrev pub AreTold : {D : Type 0} → (D → DiskState) → Stored D → ℕ → Stored D → Type 0
 AreTold device old zero new = new ≡ old
 AreTold {D} device old (suc count) new = (mid : Stored D) × AreTold device old count mid × ((new ≡ mid) ⊎ IsTold device mid new)

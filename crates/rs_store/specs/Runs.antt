@@ -16,9 +16,9 @@ use Rattle.rs_store.specs.Refusals.{named_as}
 use Rattle.rs_store.specs.Answered.{Answers}
 use Rattle.rs_store.specs.Counted.{counted_commands, acknowledged, begun}
 
--- The source does no command: it may only have been read, or have met a put whose body did not come whole. It is as open or closed
--- as it was, still holds the state that it held, and each image of a crash meanwhile represents it. While it is closed, only the
--- counts of the disk change.
+-- The source does no command. It may have been read, and free blocks may have been written for a put whose body did not come whole.
+-- It is as open or closed as it was, still holds the state that it held, and each image of a crash meanwhile represents it. While it
+-- is closed, only the counts of the disk change.
 pub record IsIdle {D : Type 0} (device : D → DiskState) (old new : Stored D) : Type 0 where
   pub is_closed : new.is_closed ≡ old.is_closed
   pub holds : (s : Source) → Holds device old s → Holds device new s × Leaves (device old.disk) (device new.disk) (λ _ image. StandsFor image s)
