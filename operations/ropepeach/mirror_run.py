@@ -7,14 +7,14 @@ import time
 from collections.abc import Callable, Iterable, Iterator
 
 from ropepeach import mirror_notes
-from ropepeach.facts import Facts, dated, length_of
+from ropepeach.facts import Facts, date_of, dated, length_of
 from ropepeach.faults import Fault
 from ropepeach.limits import Limits
 from ropepeach.lists import Changes, Dropped, Entry, Source, Unheld
 from ropepeach.mirror_folder import Folder
 from ropepeach.mirror_known import row_of
 from ropepeach.mirror_news import CREATED, DELETED, UPDATED, News, NewsBox
-from ropepeach.moments import milliseconds
+from ropepeach.moments import milliseconds, moment_text
 from ropepeach.progress import Progress
 
 BASELINE, INCREMENTAL = "baseline", "incremental"
@@ -30,14 +30,19 @@ Wanted = dict[str, Facts | None]
 
 @dataclasses.dataclass
 class Aim:
-    """Where a run goes: which way, what it wants of each name, since which moment, and the changes that were
-    read.
+    """Where a run goes: which way, what it wants of each name, since which moment, the changes that were read,
+    and the newest moment that the Resource List has of a resource, or "".
     """
 
     way: str
     wanted: Wanted
     since: str
     changes: Changes
+    listed: str = ""
+
+    def newest(self, changes: Changes) -> str:
+        """The newest moment that was read. A Change List from a cache may lack changes that the Resource List has."""
+        return max(changes.newest, self.listed)
 
 
 class Run:
@@ -64,11 +69,14 @@ class Run:
             if self.folder.newest <= changes.newest and is_one_history(self.folder.mark, changes):
                 return Aim(INCREMENTAL, self.filtered(facts_of(changes.entries)), self.folder.until, changes)
         at, wanted, changes = self.source.lists_that_meet(dated_facts)
+        dates = (date_of(facts) for facts in wanted.values() if facts is not None)
+        latest = max((date for date in dates if date is not None), default=None)
+        listed = "" if latest is None else moment_text(latest)
         wanted.update(facts_of(changes.entries))
         wanted = self.filtered(wanted)
         for name in self.folder.names():
             wanted.setdefault(name)
-        return Aim(BASELINE, wanted, at, changes)
+        return Aim(BASELINE, wanted, at, changes, listed)
 
     def filtered(self, wanted: Wanted) -> Wanted:
         """What is wanted of the names that --include and --exclude let in."""
@@ -99,7 +107,7 @@ class Run:
         self.outcome, self.words = wanted if self.way == BASELINE else dict(wanted), first_words(changes)
         for _ in range(PASSES):
             if wanted:
-                self.folder.promise(changes.newest)
+                self.folder.promise(aim.newest(changes))
             missing = self.done(wanted)
             if not missing:
                 break
@@ -118,7 +126,7 @@ class Run:
             more = [f"and {len(wrong) - NAMED:,} more"] if len(wrong) > NAMED else []
             raise Fault(*list(wrong.values())[:NAMED], *more, MEANWHILE)
         self.note()
-        self.folder.remember(until, changes.newest, mark)
+        self.folder.remember(until, aim.newest(changes), mark)
         return self.summary(until)
 
     def rows(self) -> Iterator[mirror_notes.Values]:

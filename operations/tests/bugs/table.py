@@ -31,6 +31,12 @@ OF_MIRROR = [
         MIRROR,
     ),
     tool(
+        "the newest moment is that of the Change List alone", "mirror_run",
+        "return max(changes.newest, self.listed)",
+        "return changes.newest",
+        "operations.tests.tools.mirror_known - a_source_that_went_back_is_seen_by_its_resources",
+    ),
+    tool(
         "a fault is forgotten where two more passes come", "mirror_run",
         "in (wrong | missing).items()",
         "in missing.items()",

@@ -18,7 +18,7 @@ import time
 from collections.abc import Callable
 from typing import Any
 
-from operations.tests.tools.hostile_source import MOMENT, Liar, answered, changed, lying
+from operations.tests.tools.hostile_source import MOMENT, Liar, answered, changed, entry, lying
 from operations.tests.tools.mirrored import AFTER, change, goes_on, hold_files, mirrored, state
 from operations.tests.tools.running import begun, ended, has, ropepeach, rows, same, wait_until
 from ropepeach import mirror_notes
@@ -254,6 +254,22 @@ def a_source_that_went_back_is_seen(program: str, room: pathlib.Path) -> None:
         mirrored("in parts", liar, says="incremental: fetched 1 ")
 
 
+def a_source_that_went_back_is_seen_by_its_resources(program: str, room: pathlib.Path) -> None:
+    """A cache kept back the Change List that goes with the Resource List. By the moments of the resources the next run
+    sees all the same that the source went back.
+    """
+    with lying() as liar:
+        liar.resources([entry(f"{liar.base}/resource/a", b"new", moment=AFTER[4])], attributes=f' at="{AFTER[9]}"')
+        changed(liar, [])
+        liar.documents({"/resource/a": b"new"})
+        mirrored("an old Change List", liar, says="baseline: fetched 1 ")
+        same("the newest moment", AFTER[4], state()["newest"])
+        hold_files(liar, {"a": b"old"})
+        goes_on(liar, {"b": b"b"}, change(liar, "b", 3, "created", b"b"))
+        mirrored("it went back", liar, says="baseline: fetched 2 ")
+        same("the file", b"old", pathlib.Path("m/a").read_bytes())
+
+
 def several_connections_fetch(program: str, room: pathlib.Path) -> None:
     """With --connections all is fetched, at so many connections at once; limits and faults hold as with one."""
     files = {f"f{number}": b"%d" % number * 90 for number in range(60)}
@@ -330,7 +346,8 @@ def a_collection_refuses_what_goes_with_one_source(program: str, room: pathlib.P
 
 CHECKS = [what_is_known_follows_the_lists, what_increments_changed_goes_into_one_file, moments_in_facts,
           what_is_known_is_not_trusted, each_change_is_told_once_at_least, a_baseline_tells_what_differs,
-          changes_that_wait_are_not_trusted, a_source_that_went_back_is_seen, several_connections_fetch,
+          changes_that_wait_are_not_trusted, a_source_that_went_back_is_seen,
+          a_source_that_went_back_is_seen_by_its_resources, several_connections_fetch,
           a_killed_run_at_several_connections_ends_whole, a_collection_refuses_what_goes_with_one_source]
 
 if __name__ == "__main__":
