@@ -172,8 +172,9 @@ def long_lines(rng, number, limit):
     """Lines about as long as a line may be, and bodies about as long as a body may be."""
     front = b"put %s " % rng.choice(NAMES[:9])
     every = [
-        lambda: b"x" * LONGEST,
+        lambda: b"x" * LONGEST + b"\r",
         lambda: b"x" * (LONGEST + 1),
+        lambda: b"x" * LONGEST,
         lambda: front + b"ab" * 16_777_216 + b" a/b",
         lambda: front + b"AB" * 16_777_217 + b" a/b",
         lambda: b"put e - a/" + b"b" * (LONGEST - 10),

@@ -271,7 +271,7 @@ OF_ORDERS = [
         "    items.iter().any(|item| name.bytes() == item.name().bytes())\n",
         "    items\n        .iter()\n"
         "        .any(|item| matches!(item, Item::Put { .. }) && name.bytes() == item.name().bytes())\n",
-        ROWS,
+        CALLS,
     ),
     body(
         "the longest line that ends with CR LF is too long", "script", "line",

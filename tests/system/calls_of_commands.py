@@ -44,6 +44,7 @@ SHORT = [
     Line("publish", []),
     Line("verify", None),
     Line(group(put("c", 600), put("a", 5), put("c", 700), put("d", 0)), [5, 700]),
+    Line(group(put("f", 700), put("a", 6), "delete f"), [6]),
     Line("put e 6 text/plain", None),
     Line("show /resource/b", None),
     Line("delete a", []),
