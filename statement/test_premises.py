@@ -287,8 +287,11 @@ class Given(unittest.TestCase):
         opened, unopened = (self.reached(lines + more) for more in ("", "between: AreOpened\n"))
         self.assertEqual(opened - unopened, {"AreOpened"})
         self.assertEqual(self.faults_of(lines + "between: AreOpened\n"), [])
-        wrong = "IsInside is said to be between a clause and a law, and is not"
-        self.assertIn(f"Doors: {wrong}", self.faults_of(lines + "between: IsInside\n"))
+        self.assertNotIn("IsShut", self.reached(LINES + "between: IsShut\n"))
+        wrong = "is said to be between a clause and a law, and is not"
+        self.assertIn(f"Doors: IsInside {wrong}", self.faults_of(lines + "between: IsInside\n"))
+        trusted = LINES.replace("IsShut from: doors shut shut", "IsShut {low high} trust: somebody shuts them")
+        self.assertEqual(self.faults_of(trusted + "between: IsShut\n"), [f"Doors: IsShut {wrong}"])
         with self.assertRaises(tables.Wrong):
             self.faults_of(lines + "between: IsNowhere\n")
 

@@ -4,7 +4,7 @@ import tempfile
 import unittest
 from pathlib import Path
 
-from rattle import code, crates
+from rattle import antt, code, crates
 
 TEXT = '''//! Doors {.
 pub trait Opens {
@@ -73,6 +73,7 @@ class Code(unittest.TestCase):
     def test_a_comment_goes_and_a_text_stays(self) -> None:
         found = code.without_comments('let at = "http://a"; // "b"\n/// c\nlet x = \'"\'; // d "\n')
         self.assertEqual(found, 'let at = "http://a"; \n\nlet x = \'"\'; \n')
+        self.assertEqual(antt.without_comments("-- a\nb = 1 -- c\n  -- d\n"), "b = 1 -- c\n")
 
 
 class Crates(unittest.TestCase):

@@ -259,14 +259,16 @@ def a_source_that_went_back_is_seen_by_its_resources(program: str, room: pathlib
     sees all the same that the source went back.
     """
     with lying() as liar:
-        liar.resources([entry(f"{liar.base}/resource/a", b"new", moment=AFTER[4])], attributes=f' at="{AFTER[9]}"')
+        held = [entry(f"{liar.base}/resource/{name}", body, moment=AFTER[at])
+                for name, body, at in (("a", b"new", 4), ("b", b"b", 2))]
+        liar.resources(held, attributes=f' at="{AFTER[9]}"')
         changed(liar, [])
-        liar.documents({"/resource/a": b"new"})
-        mirrored("an old Change List", liar, says="baseline: fetched 1 ")
+        liar.documents({"/resource/a": b"new", "/resource/b": b"b"})
+        mirrored("an old Change List", liar, says="baseline: fetched 2 ")
         same("the newest moment", AFTER[4], state()["newest"])
         hold_files(liar, {"a": b"old"})
         goes_on(liar, {"b": b"b"}, change(liar, "b", 3, "created", b"b"))
-        mirrored("it went back", liar, says="baseline: fetched 2 ")
+        mirrored("it went back", liar, says="baseline: fetched 1 ")
         same("the file", b"old", pathlib.Path("m/a").read_bytes())
 
 
