@@ -61,23 +61,12 @@ class Trial:
             self.run(["--yes"])
 
     def restored(self) -> None:
-        """The source is back from an old copy: the next run sees it, before changes follow. Its keeper asks for a
-        baseline where the run cannot see it, since a cache kept back each change that is undone.
-        """
+        """The source is back from an old copy: the next run sees it, before changes follow."""
         self.history.restore()
-        is_blind = self.weather.has_lied and self.cannot_see()
         self.weather.calm()
         self.weather.has_lied = True
-        self.run(["--yes", *(["--baseline"] if is_blind else [])])
+        self.run(["--yes"])
         self.counts["sources that went back"] += 1
-        self.counts["sources that went back behind a cache"] += is_blind
-
-    def cannot_see(self) -> bool:
-        """Whether the mirror is behind changes that the source lacks now, and read the moment of none of them."""
-        state = self.folder / "#state"
-        found = json.loads(state.read_text()) if state.exists() else {"until": None, "newest": None}
-        until, newest = found["until"], found["newest"]
-        return until is not None and newest is not None and newest <= self.history.newest() < until
 
     def disturbed(self) -> list[str]:
         """Lets somebody else change files of the mirror, at times. Gives the options that put them right."""
