@@ -59,7 +59,7 @@ class Chain:
 
     def __init__(self, reader: Reader, promise: Promise) -> None:
         self.reader, self.title, self.lines = reader, promise.title, promise.premises
-        self.clauses, self.between = clauses_of(reader, promise), frozenset(promise.between)
+        self.clauses, self.between, self.unopened = clauses_of(reader, promise), promise.between, promise.unopened
         self.faults: list[str] = []
         # The premises that each line speaks of, by their names, in their order.
         self.spoken: dict[Line, dict[str, Node]] = {}
@@ -75,9 +75,9 @@ class Chain:
             self.opened = set()
             needed = self.needed.setdefault(clause.name, {})
             for node in clause.nodes:
-                for each in self.reader.left_of(node, opened=self.between):
+                for each in self.reader.left_of(node, opened=self.unopened):
                     self.give(each, needed)
-        for definition in self.between - self.concluded():
+        for definition in {*self.between} - self.concluded():
             self.fault(f"{definition.name} is said to be between a clause and a law, and is not")
         for name in self.ungrounded():
             self.fault(f"{name} takes what no other clause gives it first")

@@ -9,7 +9,7 @@ from rattle.antt import Definition
 from reach import Reach, reach
 from source import Clause, Function
 from tables import HERE, Wrong
-from world import World
+from world import Item, World
 
 if TYPE_CHECKING:
     from premises import Chain
@@ -38,6 +38,8 @@ class Promise:
     carriers: list[Carrier] = field(default_factory=list)
     # The relations that a clause gives and a law takes. Whatever they say, the promise holds: they are not opened.
     between: list[Definition] = field(default_factory=list)
+    # What another promise opens, by its title: words of which the sentence of this one says nothing.
+    elsewhere: dict[str, list[Definition]] = field(default_factory=dict)
     # What gives its premises: its own lines, and those that stand before all promises.
     premises: list[givens.Line] = field(default_factory=list)
     # Its premises, each with the line that gives it, once they are followed.
@@ -50,11 +52,23 @@ class Promise:
         return self.fields["says"]
 
     @property
+    def unopened(self) -> frozenset[Definition]:
+        """What stands in its clauses and is not opened."""
+        return frozenset([*self.between, *(definition for each in self.elsewhere.values() for definition in each)])
+
+    @property
     def grounds(self) -> list[str]:
-        """What gives its premises, a sentence for each line that speaks of them, and which relations are not opened."""
-        names = ", ".join(definition.name for definition in self.between)
-        why = "a clause concludes each and a law takes it. The promise needs no more of them than is printed."
-        return [*(givens.sentences(self.chain.spoken) if self.chain else []), *([f"{names}: {why}"] if names else [])]
+        """What gives its premises, a sentence for each line that speaks of them, and which words are not opened."""
+        why = "a clause concludes each and a law takes it. Read each as no more than what its law concludes."
+        between = [f"{listed(self.between)}: {why}"] if self.between else []
+        elsewhere = [f"{listed(words)}: the promise '{title}' prints what they mean."
+                     for title, words in self.elsewhere.items()]
+        return [*(givens.sentences(self.chain.spoken) if self.chain else []), *between, *elsewhere]
+
+
+def listed(definitions: list[Definition]) -> str:
+    """The names of definitions."""
+    return ", ".join(definition.name for definition in definitions)
 
 
 def sections(text: str) -> list[tuple[str, list[tuple[str, str]]]]:
@@ -111,23 +125,44 @@ def relations_named(title: str, reached: Reach, names: list[str]) -> list[Defini
     return [definition for each in found for definition in each]
 
 
+def unopened(world: World, promise: Promise, pairs: list[tuple[str, str]], first: list[Item]) -> None:
+    """Notes the words that a promise does not open, as the lines `between` and `elsewhere` say."""
+    named = [(word, *text.rpartition(": ")[::2]) for word, text in pairs if word in ("between", "elsewhere")]
+    whole = reach(world, first) if named else Reach([], [])
+    for word, title, names in named:
+        found = relations_named(promise.title, whole, names.split())
+        if word == "between":
+            promise.between += found
+        else:
+            promise.elsewhere[title] = found
+
+
 def promises(world: World, table: str | None = None) -> list[Promise]:
     """The promises in their order, each with what it reaches."""
     found = []
     (_, shared), *each = sections(table or (HERE / "promises.txt").read_text())
     every = lines_of(shared)
     for title, pairs in each:
-        promise = Promise(title, {word: text for word, text in pairs if word not in ("by", "premise", "between")})
+        promise = Promise(title, {word: text for word, text in pairs if word in ("row", "in", "says")})
         promise.premises = [*lines_of(pairs), *every]
         promise.carriers = [carrier(world, text) for word, text in pairs if word == "by"]
         first = [used for each in promise.carriers for clause in each.clauses
                  for used in world.links_of_clause(each.function, clause).values()]
-        names = [name for word, text in pairs if word == "between" for name in text.split()]
-        promise.between = relations_named(title, reach(world, first), names) if names else []
-        promise.reach = reach(world, first, promise.between)
+        unopened(world, promise, pairs, first)
+        promise.reach = reach(world, first, promise.unopened)
         if plain(promise.sentence) not in plain((world.root / promise.fields["in"]).read_text()):
             raise Wrong(f"the sentence of '{title}' does not stand in {promise.fields['in']}")
         if f"| {promise.fields['row']} |" not in (world.root / TABLE).read_text():
             raise Wrong(f"{TABLE} has no row '{promise.fields['row']}'")
         found.append(promise)
+    for promise in found:
+        look_elsewhere(promise, found)
     return found
+
+
+def look_elsewhere(promise: Promise, every: list[Promise]) -> None:
+    """Looks whether the promises that are said to print words do."""
+    for title, words in promise.elsewhere.items():
+        printed = {definition for each in every if each.title == title for definition in each.reach.definitions}
+        if missing := [word for word in words if word not in printed]:
+            raise Wrong(f"'{title}' does not print {listed(missing)} for '{promise.title}'")

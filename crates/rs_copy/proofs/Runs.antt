@@ -1,5 +1,5 @@
 -- Runs of calls of both disks of a copy: of one disk alone, one after another, and with another answer.
-use Rattle.std.proofs.Common.{◌≡◌, inl, inr, ◌<◌, ◌≤◌, List, Result, Err, refl, ◌∙◌, arith}
+use Rattle.std.proofs.Common.{◌≡◌, inl, inr, ◌≤◌, List, Result, Err, refl, ◌∙◌, arith}
 use Rattle.std.specs.Prelude.{IsErrOf}
 use Rattle.std.specs.Result.{IsErrAnd}
 use Rattle.rs_disk.specs.Medium.{DiskState}
@@ -9,7 +9,7 @@ use Rattle.rs_extent.specs.declared.Extent.{Extent}
 use Rattle.rs_extent.specs.Extents.{in_some, IsSubset}
 use Rattle.rs_body.specs.Outside.{WritesOnly}
 use Rattle.rs_copy.specs.declared.faults.CopyFault.{CopyFault}
-use Rattle.rs_copy.specs.Copies.{Disks, StopsCopying}
+use Rattle.rs_copy.specs.Copies.{Disks}
 use Rattle.rs_copy.specs.Copying.{CopiesOnly, RunsCopying}
 use Rattle.rs_copy.proofs.Handed.{handed_err, told_on}
 

@@ -24,9 +24,13 @@ use Rattle.rs_copy.specs.Laying.{IsLaidOut, LacksCopyRoom, all_stored}
 abbrev pub HasItsBody : List ℕ → Record → Type 0
 HasItsBody image r = (digests (part r.extent r.length image)).sha256 ≡ r.digests.sha256
 
--- the calls that read the bodies of these records once each, in pieces of 16,384 bytes
+-- the calls that read a body of n bytes once, in pieces of 16,384 bytes
+abbrev pub calls_to_read : ℕ → ℕ
+calls_to_read n = (n + 16383) / 16384
+
+-- the calls that read the bodies of these records once each
 abbrev pub calls_for : List Record → ℕ
-calls_for rs = sum_by (λ r. (r.length + 16383) / 16384) rs
+calls_for rs = sum_by (λ r. calls_to_read r.length) rs
 
 -- A copy stands on a disk: its root has generation 1 and the version that is written, the slots can be changed, memory is sound,
 -- and each body has its SHA-256.

@@ -1,17 +1,23 @@
 -- A GET and a HEAD ask to see something, also behind an empty line. A POST does not: its 200 is a reply.
-use Rattle.std.proofs.Common.{◌≡◌, ℕ, List, [], ◌∷◌, ◌++◌, codes, refl, subst, IsTrue}
+use Rattle.std.proofs.Common.{◌≡◌, ℕ, false, List, [], ◌∷◌, ◌++◌, codes, Result, Ok, refl, subst, IsTrue}
 use Rattle.httparse.specs.Ascii.{space}
 use Rattle.httparse.specs.Grammar.{LineEnd, crlf, lf, print_blank}
+use Rattle.rs_model.specs.declared.command.Command.{Command}
+use Rattle.rs_model.specs.declared.command.Command.TheVariants as commands
+use Rattle.rs_model.specs.declared.command.Item.TheVariants as items
 use Rattle.rs_model.specs.declared.command.Reply.{Reply}
 use Rattle.rs_store.specs.declared.refusal.Refusal.{Refusal}
 use Rattle.rs_store.specs.declared.refusal.Refusal.TheVariants.{NotHeld}
 use Rattle.rs_items.specs.declared.item.ItemFault.TheVariants as faults
+use Rattle.rs_items.specs.Fields.{fields}
+use Rattle.rs_items.specs.Items.{item_of_line}
 use Rattle.rs_http.specs.declared.request.RequestFault.{RequestFault}
 use Rattle.rs_http.specs.declared.request.RequestFault.TheVariants.{Line}
 use Rattle.rs_http.specs.declared.status.StatusCode.TheVariants as statuses
 use Rattle.rs_http.specs.Checks.{is_get}
 use Rattle.rs_http.specs.Responses.{RequestOutcome, faulted, replied, shown, refused, fault_status, refusal_status, status_of}
-use Rattle.rs_http.specs.Told.{AsksToSee, IsAsked}
+use Rattle.rs_http.specs.declared.request.RequestPlan.TheVariants.{Group}
+use Rattle.rs_http.specs.Told.{AsksToSee, IsAsked, AsksCommand}
 
 pub get_asks : (rest : List ℕ) → AsksToSee (codes "GET " ++ rest)
 get_asks rest = record { blank = []; method = codes "GET"; gets = refl; rest = rest; bytes_are = refl }
@@ -47,3 +53,14 @@ post_is_told more (replied reply) asked is = (reply, refl)
 post_is_told more (shown kind bytes) asked is = absurd (post_asks_not more asked)
 post_is_told more (faulted fault) asked is = absurd (fault_is_no_ok fault is)
 post_is_told more (refused refusal) asked is = absurd (refusal_is_no_ok refusal is)
+
+-- a group asks for its items where its whole body came, and for nothing where a byte of it is missing
+abbrev group_body : List ℕ
+group_body = codes "delete a\n"
+
+pub group_asks : (answer : Result Reply Refusal) → AsksCommand (Ok (Group 9 false)) group_body answer (commands.Group (items.Delete (codes "a") ∷ []))
+unfolding item_of_line fields
+group_asks answer = (refl, items.Delete (codes "a") ∷ [], refl, refl)
+
+pub cut_group_asks_nothing : (answer : Result Reply Refusal) (command : Command) → AsksCommand (Ok (Group 10 false)) group_body answer command → ⊥
+cut_group_asks_nothing answer command asks = let never = asks.0 in absurd cc

@@ -3,11 +3,11 @@
 //! Each function here does nothing: its contract is the law, which the check proves.
 
 ghost use Rattle.rs_http.specs.Laws.{RequestsAreRuns, BrokenBodiesAreRuns, RequestsRecover, BrokenBodiesRecover, RequestsMakeWalks, BrokenBodiesMakeNoEvent};
-ghost use Rattle.rs_http.specs.Told.{RequestsReply, BrokenBodiesReplyNothing};
+ghost use Rattle.rs_http.specs.Told.{RequestsGetOne, BrokenBodiesIdle};
 
 use rs_caps::laws::answered::paths_are_answered;
 use rs_disk::Disk;
-use rs_recovery::laws::{replies_are_seen, runs_go_on, runs_recover};
+use rs_recovery::laws::{runs_go_on, runs_recover};
 use rs_recovery::walking::commands_make_walks;
 use rs_store::laws::held_sources_rest;
 
@@ -32,15 +32,14 @@ pub fn requests_recover<D: Disk>()
     runs_recover::<D>();
 }
 
-/// The reply that the outcome of a request tells is that to the command that the source accepted. Where the reader failed
-/// in the body of a put or of a group, there is none.
-pub fn requests_reply<D: Disk>()
-    ensures answered { RequestsReply D.state }
-    ensures broken { BrokenBodiesReplyNothing D.state }
+/// The source gets one command at most for a request, the one that the request asks for, and the answer is the outcome.
+/// Where the reader failed in the body of a put or of a group, it gets none.
+pub fn requests_get_one<D: Disk>()
+    ensures answered { RequestsGetOne D.state }
+    ensures broken { BrokenBodiesIdle D.state }
 {
     held_sources_rest::<D>();
     runs_go_on::<D>();
-    replies_are_seen::<D>();
 }
 
 /// A request makes a walk of one event or none. A command is tried where the model decides the answer, refused where

@@ -6,17 +6,17 @@ ghost use Rattle.rs_store.specs.Advancing.{GoesOnOnce};
 ghost use Rattle.rs_http.specs.Counted.{RunsAtMost};
 ghost use Rattle.rs_http.specs.Turn.{turn};
 ghost use Rattle.rs_http.specs.Serving.{Serves, Breaks, Halts};
-ghost use Rattle.rs_http.specs.Told.{TellsReply};
+ghost use Rattle.rs_http.specs.Told.{TellsRequest};
 
 use crate::answer::answer;
 use crate::head::{HEAD_LIMIT, read_head};
-use crate::laws::{requests_are_runs, requests_make_walks, requests_recover, requests_reply};
+use crate::laws::{requests_are_runs, requests_get_one, requests_make_walks, requests_recover};
 use crate::plan::read_request;
 use crate::status::StatusCode;
 use rs_disk::Disk;
 use rs_io::{StreamFault, Watched};
-use rs_recovery::laws::replies_are_seen;
 use rs_store::Source;
+use rs_store::laws::held_sources_rest;
 use rs_time::Moment;
 use std::alloc::Global;
 use std::io::{Read, Write};
@@ -82,16 +82,14 @@ pub fn serve_one<D: Disk, R: Read, W: Write>(
     // Whatever the result, the call is a run of at most one counted command.
     ensures run { RunsAtMost D.state source.old 1 source.new }
 
-    // Whatever the result, where the source held a state, its disk saw commands answered from that state
-    // on. The reply that the writer took is that to the accepted one of these commands. To anything but a
-    // GET or a HEAD a 200 is such a reply. If it is open at the end, it holds the state after those that
-    // count. A closed source accepts none and stays closed.
-    ensures answered { TellsReply D.state source.old source.new
+    // Whatever the result, the source got one command at most, the one that the request asks for, and what
+    // the writer took tells its answer. To anything but a GET or a HEAD a 200 is such an answer.
+    ensures answered { TellsRequest (turn D.state source.old now source.new)
         (ends_of R.remaining reader.old reader.new W.contents writer.old writer.new) }
 {
+    held_sources_rest::<D>();
     requests_are_runs::<D>();
-    requests_reply::<D>();
-    replies_are_seen::<D>();
+    requests_get_one::<D>();
     requests_recover::<D>();
     requests_make_walks::<D>();
     let mut buf = [0u8; HEAD_LIMIT];

@@ -3,6 +3,7 @@ pub mod ForCallers
 pub mod Below
 pub mod Opened
 pub mod TurnsJoined
+pub mod Coming
 pub mod Counts
 pub mod Sessions
 pub mod Missing

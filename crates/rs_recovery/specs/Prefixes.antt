@@ -15,7 +15,6 @@ use Rattle.rs_store.specs.Source.{Stored, Holds}
 use Rattle.rs_store.specs.Answered.{Answers}
 use Rattle.rs_store.specs.Counted.{counted_commands, acknowledged}
 use Rattle.rs_store.specs.Runs.{IsIdle, InTurn, Holding, AreAnswered}
-use Rattle.rs_recovery.specs.Replies.{HasReplied}
 
 -- A command counts where it was accepted, and where the device failed in it, since its step may stand then.
 abbrev pub counted_as : Command → ℕ → Result Reply Refusal → List (Command × ℕ)
@@ -63,17 +62,9 @@ pub record LeavesPrefixes {D : Type 0} (device : D → DiskState) (old : Stored 
 abbrev pub Recovers : {D : Type 0} → (D → DiskState) → Stored D → List (Command × ℕ) → Stored D → Type 0
 Recovers device old commands new = (s : Source) → Holds device old s → LeavesPrefixes device old s commands new
 
--- A source answered commands, whatever its replies were.
-abbrev pub HasAnswered : {D : Type 0} → (D → DiskState) → Stored D → Stored D → Type 0
-HasAnswered device old new = (replies : List Reply) × HasReplied device old replies new
-
 -- A stop of any run leaves what the first commands that count make.
 abbrev pub RunsRecover : {D : Type 0} → (D → DiskState) → Type 0
 RunsRecover {D} device = (old new : Stored D) (commands : List (Command × ℕ)) → IsRunOf device old commands new → Recovers device old commands new
-
--- A source that made a run has answered its commands.
-abbrev pub RunsHaveAnswered : {D : Type 0} → (D → DiskState) → Type 0
-RunsHaveAnswered {D} device = (old new : Stored D) (commands : List (Command × ℕ)) → IsRunOf device old commands new → HasAnswered device old new
 
 -- A source that idles ran no command that counts.
 abbrev pub IdleIsRun : {D : Type 0} → (D → DiskState) → Type 0

@@ -25,9 +25,9 @@ pub record IsStop (first last : DiskState) (stop : ℕ) (image : List ℕ) : Typ
 
 -- A session, on a disk of any type.
 -- `first`: the disk when its source was made or opened.
--- `commands`, `acks`: the commands that were answered, with their answers. Some may come behind the stop.
+-- `commands`, `acks`: the commands that were answered, with their answers. Some may come after the stop.
 -- `unanswered`: the command that was never answered, if the machine stopped in one.
--- `last`: the disk as it would be behind all these commands, if the machine had not stopped.
+-- `last`: the disk after all these commands, as it would be had the machine gone on. The stop picks a moment of this run.
 -- `stop`, `image`: after how many calls of the disk the stop came, and which image of the disk it left.
 pub record Session : Type 0 where
   pub first : DiskState

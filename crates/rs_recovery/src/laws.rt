@@ -11,9 +11,9 @@ ghost use Rattle.rs_store.specs.declared.running.Ack.{Ack};
 ghost use Rattle.rs_store.specs.Runs.{StandsForPrefix};
 ghost use Rattle.rs_store.specs.Laws.{TurnsGoOn};
 ghost use Rattle.rs_recovery.specs.Below.{Below};
-ghost use Rattle.rs_recovery.specs.Turns.{CommandsAreTurns, ReadingsIdle, CutPutsIdle};
-ghost use Rattle.rs_recovery.specs.Prefixes.{RunsRecover, RunsHaveAnswered, IdleIsRun, CommandIsRun, RunsJoin};
-ghost use Rattle.rs_recovery.specs.Replies.{IdleHasNoReply, CommandHasReply, RepliesJoin, RepliesAreSeen};
+ghost use Rattle.rs_recovery.specs.Turns.{CommandsAreTurns, PutsComeInTurn, ReadingsIdle, CutPutsIdle};
+ghost use Rattle.rs_recovery.specs.Prefixes.{RunsRecover, IdleIsRun, CommandIsRun, RunsJoin};
+ghost use Rattle.rs_recovery.specs.Replies.{TurnsAreSeen};
 ghost use Rattle.rs_recovery.specs.Sessions.{
   StopsEndSessions,
   SessionsBegin,
@@ -28,28 +28,31 @@ ghost use Rattle.rs_recovery.specs.Sessions.{
 };
 ghost use Rattle.rs_recovery.specs.Served.{SessionsStand};
 ghost use Rattle.rs_recovery.specs.Recovered.{YieldsHeld, HeldNamesAreLawful};
-ghost use Rattle.rs_recovery.specs.Documents.{DocumentsAreOfTheState};
+ghost use Rattle.rs_recovery.specs.Documents.{DocumentsAreOfTheState, HeldSourcesShow};
 
 use rs_caps::laws::served::blocks_are_not_shown;
 use rs_disk::Disk;
 use rs_image::laws::stands_once;
 use rs_model::fold_is_regular;
 use rs_store::laws::{
-    answers_leave_prefixes, closed_sources_stay, held_sources_rest, runs_are_answered,
-    runs_leave_prefixes, turns_go_on,
+    answers_leave_prefixes, closed_sources_stay, early_faults_leave, held_sources_rest,
+    refused_is_not_done, runs_are_answered, runs_leave_prefixes, turns_go_on,
 };
 
-/// All requests to a source join into runs. One run and then another are one run. One command is a run of its own. A
-/// source idles while it only reads, as for a body or for the list of damaged ones, and when the body of a put does not
-/// come whole.
+/// All requests to a source join into runs. One run and then another are one run. One command is a run of its own, and so
+/// is a put whose body comes from a reader. A source idles while it only reads, as for a body or for the list of damaged
+/// ones, and when the body of a put does not come whole.
 pub fn runs_go_on<D: Disk>()
     ensures join { TurnsGoOn D.state }
     ensures command { CommandsAreTurns D.state }
+    ensures coming { PutsComeInTurn D.state }
     ensures reading { ReadingsIdle D.state }
     ensures cut { CutPutsIdle D.state }
 {
     turns_go_on::<D>();
     held_sources_rest::<D>();
+    early_faults_leave::<D>();
+    refused_is_not_done::<D>();
 }
 
 /// Requests to a source one by one are a run: each command by itself, reads between them, and one run after another.
@@ -59,7 +62,6 @@ pub fn runs_go_on<D: Disk>()
 /// failed.
 pub fn runs_recover<D: Disk>()
     ensures recover { RunsRecover D.state }
-    ensures answered { RunsHaveAnswered D.state }
     ensures idle { IdleIsRun D.state }
     ensures command { CommandIsRun D.state }
     ensures join { RunsJoin D.state }
@@ -69,17 +71,12 @@ pub fn runs_recover<D: Disk>()
     runs_go_on::<D>();
 }
 
-/// The replies of a source to the commands that it accepts, turn by turn. The disk sees these commands answered, with these
-/// replies. So what a front tells of accepted commands is what a session has.
-pub fn replies_are_seen<D: Disk>()
-    ensures idle { IdleHasNoReply D.state }
-    ensures command { CommandHasReply D.state }
-    ensures join { RepliesJoin D.state }
-    ensures seen { RepliesAreSeen D.state }
+/// The disk of a source sees the commands that the source answers in their turn, with these answers, and no others. So
+/// what a script or a request is told of its commands is what a session has.
+pub fn turns_are_seen<D: Disk>()
+    ensures { TurnsAreSeen D.state }
 {
     laws_below::<D>();
-    turns_go_on::<D>();
-    runs_go_on::<D>();
 }
 
 /// The laws of the crates below that runs rest on.
@@ -142,6 +139,13 @@ pub fn documents_are_of_the_state()
     ensures { DocumentsAreOfTheState }
 {
     blocks_are_not_shown();
+}
+
+/// A source that holds a state shows the documents of this state.
+pub fn held_sources_show<D: Disk>()
+    ensures { HeldSourcesShow D.state }
+{
+    documents_are_of_the_state();
 }
 
 /// Each name that is held in the state of an image is lawful.

@@ -19,6 +19,7 @@ pub mod Replies
 pub mod ToldNames
 pub mod Parts
 pub mod SplitExamples
+pub mod ToldExamples
 pub mod NamedDocuments
 pub mod Walks
 pub mod WalkedLines

@@ -1,7 +1,8 @@
 -- The answers of a script before a stop and behind it.
-use Rattle.std.proofs.Common.{◌≡◌, ◌≤◌, ◌<◌, inl, inr, ℕ, Bool, true, false, List, [], ◌∷◌, ◌++◌, length, length-append, append_assoc, Result, Ok, Err, refl, ap, sym, ◌∙◌, cond, ◌&&◌, nat_le, arith}
+use Rattle.std.proofs.Common.{◌≡◌, ◌≤◌, ◌<◌, inl, inr, ℕ, Bool, true, false, List, [], ◌∷◌, ◌++◌, length, length-append, append_assoc, append-nil, Option, Some, None, Result, Ok, Err, refl, ap, sym, ◌∙◌, cond, ◌&&◌, nat_le, arith}
 use Rattle.std.proofs.lemmas.Bool.{cases_lt}
 use Rattle.std.proofs.lemmas.Bool.Decides.{nat_tests}
+use Rattle.std.proofs.lemmas.Grind.{flat_map-append}
 use Rattle.std.specs.Prelude.{flat_map, is_ok}
 use Rattle.rs_disk.specs.Medium.{DiskState}
 use Rattle.rs_disk.specs.Leaves.{Leaves}
@@ -13,10 +14,18 @@ use Rattle.rs_store.specs.declared.running.Ack.{Ack}
 use Rattle.rs_store.specs.Counted.{acknowledged}
 use Rattle.rs_store.specs.Laws.{AnswersLeavePrefixes}
 use Rattle.rs_store.specs.Runs.{Condition, Holding, condition_after, AreAnswered}
-use Rattle.rs_recovery.specs.Replies.{reply_in, replies_in}
+use Rattle.rs_recovery.specs.Replies.{AnsweredCommand, ack_of, reply_in, replies_in}
+use Rattle.rs_script.specs.Outcomes.{outcome_of_reply}
 use Rattle.rs_script.specs.Session.{LineOutcome, moment_set, replied, shown, counted, verified, refused}
 use Rattle.rs_script.specs.Stopped.{replies_by, BeginsWithReply, SplitAtStop, ScriptsSplit}
-use Rattle.rs_script.specs.Told.{line_reply}
+use Rattle.rs_script.specs.Statements.{request_by}
+use Rattle.rs_script.specs.declared.refusal.Refusal.{Refusal}
+use Rattle.rs_script.specs.declared.request.Request.{Request}
+use Rattle.rs_script.specs.Told.{line_reply, DoneStatement, IsOwnOutcome, IsOutcomeOf, moment_behind, AreDone, commands_of, acks_of, outcomes_of}
+
+told_reply : (result : Result Reply stored.Refusal) → line_reply (outcome_of_reply result) ≡ reply_in result
+told_reply (Ok reply) = refl
+told_reply (Err refusal) = refl
 
 one_reply : (reply : Result Reply stored.Refusal) (b : Bool) → length (cond b (reply_in reply) []) ≡ cond (is_ok reply && b) 1 0
 one_reply (Ok reply) true = refl
@@ -137,13 +146,30 @@ parts prefixes s old commands acks new outcomes all are =
           };
     }
 
+-- a statement's own outcome is no reply
+own_is_silent : (request : Result Request Refusal) (outcome : LineOutcome) → IsOwnOutcome request outcome → line_reply outcome ≡ []
+own_is_silent request (replied reply) own = absurd own
+own_is_silent request moment_set own = refl
+own_is_silent request (shown bytes) own = refl
+own_is_silent request (counted status) own = refl
+own_is_silent request (verified names sound) own = refl
+own_is_silent request (refused refusal) own = refl
+
+-- the outcome of a statement has the reply to its command
+one_told : (request : Result Request Refusal) (now : ℕ) (got : Option AnsweredCommand) (outcome : LineOutcome) → IsOutcomeOf request now got outcome
+    → replies_in (ack_of got) ≡ line_reply outcome
+one_told request now None outcome is = sym (own_is_silent request outcome is)
+one_told request now (Some got) outcome is = append-nil (reply_in got.ack.reply) ∙ sym (told_reply got.ack.reply) ∙ ap line_reply (sym is.2)
+
+-- the replies to the commands that the source got are those that are told
+all_told : (now : ℕ) (done : List DoneStatement) → AreDone now done → replies_in (acks_of done) ≡ flat_map line_reply (outcomes_of done)
+all_told now [] each = refl
+all_told now (d ∷ done) each =
+    let request = request_by d.statement in
+    flat_map-append (λ (a : Ack). reply_in a.reply) (ack_of d.got) (acks_of done)
+    ∙ ap (λ (l : List Reply). l ++ replies_in (acks_of done)) (one_told request now d.got d.outcome each.0)
+    ∙ ap (λ (l : List Reply). line_reply d.outcome ++ l) (all_told (moment_behind request now d.outcome) done each.1)
+
 pub stops_split : {D : Type 0} (device : D → DiskState) → AnswersLeavePrefixes → ScriptsSplit device
-stops_split device prefixes old new outcomes s told held =
-    let are = told.answered s held in
-    record {
-      commands = are.0;
-      acks = are.1;
-      answered = are.3;
-      replies = are.2;
-      stops = parts prefixes s (device old.disk) are.0 are.1 (device new.disk) outcomes are.3 are.2;
-    }
+stops_split device prefixes old new done s done_so seen held =
+    parts prefixes s (device old.disk) (commands_of done) (acks_of done) (device new.disk) (outcomes_of done) (seen.answered s held) (all_told 0 done done_so)

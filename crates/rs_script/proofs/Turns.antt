@@ -3,6 +3,7 @@ use Rattle.std.proofs.Common.{◌≡◌, ℕ, ◌+◌, ◌*◌, ◌≤◌, ◌^�
 use Rattle.std.proofs.KnownBytes.{Consumes-trans, Appends-kept}
 use Rattle.std.proofs.lemmas.Grind.{flat_map-append}
 use Rattle.std.specs.Io.KnownBytes.{Consumes, Appends, Keeps as KnownKeeps}
+use Rattle.std.specs.Prelude.{All}
 use Rattle.rs_disk.specs.Medium.{DiskState}
 use Rattle.rs_io.specs.declared.watch.Watched.{Watched}
 use Rattle.rs_io.specs.Watch.{watched, calls, failures, is_broken, seen_by, IsCalledOnce, Took, FlushFailed, ends_of}
@@ -14,7 +15,7 @@ use Rattle.rs_script.specs.Finished.{bytes_of, StopsReading, StopsWriting, Reads
 use Rattle.rs_script.specs.Progress.{IsCalled, Beginning, Stand, Progress, Answered, Came, ReadsNoMore}
 use Rattle.rs_script.specs.Script.{ScriptGives, ScriptsRecover, ScriptsMakeWalks}
 use Rattle.rs_script.specs.Session.{script_state, LineOutcome}
-use Rattle.rs_script.specs.Told.{ScriptsTellReplies, ScriptsTellNames, TellsReplies}
+use Rattle.rs_script.specs.Told.{NamesAreLawful, CameWhole, ScriptsDoStatements, ScriptsTellNames, TellsStatements}
 use Rattle.rs_script.proofs.ReaderCalls.{one_more, calls_more}
 use Rattle.rs_script.proofs.Steps.{Progress-whole, ran_of, broke_after, no_more}
 
@@ -117,46 +118,61 @@ module _ {D R W : Type 0} (device : D → DiskState) (remaining : R → Option (
     read = read;
   }
 
--- what was told of the commands that were accepted
-module _ {D W : Type 0} (device : D → DiskState) (contents : W → Option (List ℕ)) (laws : ScriptsRecover device × ScriptsMakeWalks device) (telling : ScriptsTellReplies device × ScriptsTellNames device)
-    (start : Stored D) (before after : Watched W) where
+-- what was told of the statements
+module _ {D R W : Type 0} (device : D → DiskState) (remaining : R → Option (List ℕ)) (contents : W → Option (List ℕ)) (laws : ScriptsRecover device × ScriptsMakeWalks device)
+    (doing : ScriptsDoStatements device × ScriptsTellNames device) (start : Stored D) (first reader : Watched R) (before after : Watched W) where
+  Tells : Stored D → Type 0
+  Tells new = TellsStatements device start new (ends_of remaining first reader contents before after)
+
   module _ (new : Stored D) (last : ℕ) (input : List ℕ) (outcomes : List LineOutcome) (commands : List (Command × ℕ))
-      (gives : ScriptGives device (script_state start 0) input outcomes commands (script_state new last)) where
+      (gives : ScriptGives device (script_state start 0) input outcomes commands (script_state new last))
+      (came : CameWhole (seen_by remaining first) (seen_by remaining reader) input) where
+    -- these bytes of the answers are written
+    tells : (part left_out : List ℕ) → part ++ left_out ≡ output_of outcomes → Appends (contents (watched before)) (contents (watched after)) part → Tells new
+    unfolding Tells
+    tells part left_out bytes took =
+        let all = doing.0 (script_state start 0) (script_state new last) input outcomes commands gives in
+        record {
+          done = all.done;
+          input = input;
+          came = came;
+          cut = all.cut;
+          done_so = all.done_so;
+          in_turn = all.in_turn;
+          named = λ s holds honest. subst (All NamesAreLawful) (sym all.outcomes_are)
+              (doing.1 (script_state start 0) (script_state new last) input outcomes commands gives s holds honest);
+          part = part;
+          left_out = left_out;
+          bytes_are = bytes ∙ ap output_of (sym all.outcomes_are);
+          took = took;
+        }
+
     -- all answers are written
-    pub tells_all : Appends (contents (watched before)) (contents (watched after)) (output_of outcomes) → TellsReplies device start new (seen_by contents before) (seen_by contents after)
-    tells_all took = record {
-      outcomes = outcomes;
-      replied = telling.0 (script_state start 0) (script_state new last) input outcomes commands gives;
-      named = telling.1 (script_state start 0) (script_state new last) input outcomes commands gives;
-      part = output_of outcomes;
-      left_out = [];
-      bytes_are = append-nil (output_of outcomes);
-      took = took;
-    }
+    pub tells_all : Appends (contents (watched before)) (contents (watched after)) (output_of outcomes)
+        → TellsStatements device start new (ends_of remaining first reader contents before after)
+    unfolding Tells
+    tells_all took = tells (output_of outcomes) [] (append-nil (output_of outcomes)) took
 
     -- the last one is written in part
-    pub tells_part : BreaksLast contents before after outcomes → TellsReplies device start new (seen_by contents before) (seen_by contents after)
+    pub tells_part : BreaksLast contents before after outcomes → TellsStatements device start new (ends_of remaining first reader contents before after)
+    unfolding Tells
     tells_part breaks =
-        let first = output_of breaks.whole in
+        let whole = output_of breaks.whole in
         let text = outcome_text breaks.last in
         let last_one : output_of (breaks.last ∷ []) ≡ text = append-nil text in
-        let all : output_of outcomes ≡ first ++ text =
-        ap output_of breaks.outcomes_are ∙ flat_map-append outcome_text breaks.whole (breaks.last ∷ []) ∙ ap (λ l. first ++ l) last_one in
-        record {
-          outcomes = outcomes;
-          replied = telling.0 (script_state start 0) (script_state new last) input outcomes commands gives;
-          named = telling.1 (script_state start 0) (script_state new last) input outcomes commands gives;
-          part = first ++ breaks.failed.part;
-          left_out = breaks.failed.left_out;
-          bytes_are = append_assoc first breaks.failed.part breaks.failed.left_out ∙ ap (λ l. first ++ l) breaks.failed.bytes_are ∙ sym all;
-          took = breaks.failed.took;
-        }
+        let all : output_of outcomes ≡ whole ++ text =
+        ap output_of breaks.outcomes_are ∙ flat_map-append outcome_text breaks.whole (breaks.last ∷ []) ∙ ap (λ l. whole ++ l) last_one in
+        tells (whole ++ breaks.failed.part) breaks.failed.left_out
+        (append_assoc whole breaks.failed.part breaks.failed.left_out ∙ ap (λ l. whole ++ l) breaks.failed.bytes_are ∙ sym all) breaks.failed.took
 
   -- between two reads
   pub tells_so_far : (here : Stand D W) (input : List ℕ) → Progress device contents (from_start start before) input here
-      → KnownKeeps (contents (watched here.writer)) (contents (watched after)) → TellsReplies device start here.source (seen_by contents before) (seen_by contents after)
-  tells_so_far here input progress kept =
+      → Consumes (remaining (watched first)) (remaining (watched reader)) input
+      → KnownKeeps (contents (watched here.writer)) (contents (watched after))
+      → TellsStatements device start here.source (ends_of remaining first reader contents before after)
+  tells_so_far here input progress came kept =
       let whole = Progress-whole device contents laws start before input here progress in
       let ran = whole.0 in
       tells_all here.source ran.last ran.input ran.outcomes ran.commands ran.gives
+      (inr (whole.3, whole.1, subst (λ (bytes : List ℕ). Consumes (remaining (watched first)) (remaining (watched reader)) bytes) whole.2 came))
       (Appends-kept (contents (watched before)) (contents (watched here.writer)) (contents (watched after)) (output_of ran.outcomes) whole.5.0 kept)

@@ -7,10 +7,10 @@ use Rattle.rs_model.specs.declared.command.Command.{Command}
 use Rattle.rs_model.specs.declared.command.Reply.{Reply}
 use Rattle.rs_store.specs.declared.running.Ack.{Ack}
 use Rattle.rs_store.specs.Source.{Stored, Holds}
-use Rattle.rs_store.specs.Runs.{Holding, AreAnswered, StandsForPrefix}
-use Rattle.rs_recovery.specs.Replies.{reply_in, replies_in, HasReplied}
+use Rattle.rs_store.specs.Runs.{StandsForPrefix}
+use Rattle.rs_recovery.specs.Replies.{reply_in, HasAnswered}
 use Rattle.rs_script.specs.Session.{LineOutcome, replied}
-use Rattle.rs_script.specs.Told.{line_reply}
+use Rattle.rs_script.specs.Told.{line_reply, DoneStatement, AreDone, commands_of, acks_of, outcomes_of}
 
 -- the replies to the commands that were accepted and acknowledged at a count of m calls, in their order
 abbrev pub replies_by : ℕ → List Ack → List Reply
@@ -25,8 +25,9 @@ BeginsWithReply (outcome ∷ outcomes) = (reply : Reply) × (outcome ≡ replied
 -- The disk of a script stopped after m calls and left this image. Its commands were answered so, and its statements have these
 -- outcomes.
 -- `first`, `later`, `next`: the outcomes before the first reply that was not acknowledged then, and all from that one on. The answers
--- to the first ones are all that may have been written by then. (That a script writes an answer behind the calls of its statement is
--- tested: no clause orders the calls of two ends.)
+-- to the first ones are all that may have been written by then. (No clause orders the calls of the writer and those of the disk. But a
+-- reply that is written before its commit would be false where the last sync fails, and `in_turn` of `TellsStatements` holds there too.
+-- The order itself is tested.)
 -- `by_then`: the replies in these answers are exactly those that were acknowledged then.
 -- `kept`, `each_kept`: the image represents what the first commands that count make, and each command with a reply in these answers
 -- is one of them.
@@ -39,18 +40,8 @@ pub record SplitAtStop (s : Source) (commands : List (Command × ℕ)) (acks : L
   pub kept : StandsForPrefix s commands acks m image
   pub each_kept : length (flat_map line_reply first) ≤ kept.j
 
--- A script whose source held a state had these outcomes.
--- `answered`, `replies`: its disk saw commands answered from that state on, and the replies in the outcomes are those to the accepted
--- ones.
--- `stops`: each stop meanwhile splits the outcomes.
-pub record EachStopSplits {D : Type 0} (device : D → DiskState) (old : Stored D) (s : Source) (outcomes : List LineOutcome) (new : Stored D) : Type 0 where
-  pub commands : List (Command × ℕ)
-  pub acks : List Ack
-  pub answered : AreAnswered (device old.disk) (Holding s) commands acks (device new.disk)
-  pub replies : replies_in acks ≡ flat_map line_reply outcomes
-  pub stops : Leaves (device old.disk) (device new.disk) (SplitAtStop s commands acks outcomes)
-
--- Each stop splits the outcomes of each script that tells replies.
+-- A script did these statements, and its source held a state. Each stop meanwhile splits their outcomes.
 abbrev pub ScriptsSplit : {D : Type 0} → (D → DiskState) → Type 0
-ScriptsSplit {D} device = (old new : Stored D) (outcomes : List LineOutcome) (s : Source)
-    → HasReplied device old (flat_map line_reply outcomes) new → Holds device old s → EachStopSplits device old s outcomes new
+ScriptsSplit {D} device = (old new : Stored D) (done : List DoneStatement) (s : Source)
+    → AreDone 0 done → HasAnswered device old (commands_of done) (acks_of done) new → Holds device old s
+    → Leaves (device old.disk) (device new.disk) (SplitAtStop s (commands_of done) (acks_of done) (outcomes_of done))

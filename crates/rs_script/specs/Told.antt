@@ -1,17 +1,24 @@
--- What a script tells of the commands that the source accepted.
-use Rattle.std.specs.Prelude.{◌≡◌, ℕ, List, [], ◌∷◌, ◌++◌, flat_map, All, IsTrue}
-use Rattle.std.specs.Io.KnownBytes.{Appends}
+-- What a script tells of its statements, and which commands its source got for them.
+use Rattle.std.specs.Prelude.{◌≡◌, ◌⊎◌, ℕ, List, [], ◌∷◌, ◌++◌, map, flat_map, All, IsTrue, Option, Some, None, Result, Ok}
+use Rattle.std.specs.Io.KnownBytes.{Consumes, Appends, IsAtEnd}
 use Rattle.rs_disk.specs.Medium.{DiskState}
-use Rattle.rs_io.specs.Watch.{watched, End}
+use Rattle.rs_io.specs.Watch.{watched, End, Ends}
 use Rattle.rs_model.specs.State.{Source}
 use Rattle.rs_model.specs.declared.command.Command.{Command}
 use Rattle.rs_model.specs.declared.command.Reply.{Reply}
 use Rattle.rs_record.specs.Name.{is_name}
+use Rattle.rs_store.specs.declared.running.Ack.{Ack}
+use Rattle.rs_store.specs.Runs.{InTurn}
 use Rattle.rs_store.specs.Source.{Stored, Holds}
-use Rattle.rs_recovery.specs.Replies.{HasReplied}
+use Rattle.rs_recovery.specs.Replies.{AnsweredCommand, command_of, ack_of}
+use Rattle.rs_script.specs.declared.refusal.Refusal.{Refusal}
+use Rattle.rs_script.specs.declared.request.Request.{Request}
+use Rattle.rs_script.specs.declared.request.Request.TheVariants.{At, Run, Document, Body, Status, Verify}
 use Rattle.rs_script.specs.Answers.{output_of}
+use Rattle.rs_script.specs.Outcomes.{outcome_of_reply}
 use Rattle.rs_script.specs.Script.{ScriptGives}
-use Rattle.rs_script.specs.Session.{ScriptState, LineOutcome, replied, verified}
+use Rattle.rs_script.specs.Session.{ScriptState, LineOutcome, moment_set, replied, shown, counted, verified, refused}
+use Rattle.rs_script.specs.Statements.{Statement, request_by, IsScript, AreWholeStatements}
 
 -- the reply in the outcome of a statement, where the source accepted a command
 abbrev pub line_reply : LineOutcome → List Reply
@@ -23,24 +30,91 @@ abbrev pub NamesAreLawful : LineOutcome → Type 0
 NamesAreLawful (verified names sound) = All (λ name. IsTrue (is_name name)) names
 NamesAreLawful outcome = Unit {0}
 
--- Answers were written, the last of them perhaps in part. The replies among them are those to the commands that the source
--- accepted, and where it held a state, its disk saw these commands answered from that state on. This holds on every disk, also on one
--- whose last sync fails.
--- `named`: where it held a state, and its device has followed the model, each name among them is lawful. So it has no line feed, and
--- passes for no reply.
-pub record TellsReplies {D : Type 0} (device : D → DiskState) (old new : Stored D) (before after : End) : Type 0 where
-  pub outcomes : List LineOutcome
-  pub replied : HasReplied device old (flat_map line_reply outcomes) new
-  pub named : (s : Source) → Holds device old s → IsTrue (device new.disk).honest → All NamesAreLawful outcomes
+-- A statement that is done, the command that the source got for it, if it got one, and the outcome that is told.
+pub record DoneStatement : Type 0 where
+  pub statement : Statement
+  pub got : Option AnsweredCommand
+  pub outcome : LineOutcome
+
+-- Without a command a request is refused, or gets what it asks for: a moment, bytes, counts or names. None of these is a reply.
+abbrev pub IsOwnOutcome : Result Request Refusal → LineOutcome → Type 0
+IsOwnOutcome request (refused refusal) = Unit {0}
+IsOwnOutcome (Ok (At t)) moment_set = Unit {0}
+IsOwnOutcome (Ok (Document doc)) (shown bytes) = Unit {0}
+IsOwnOutcome (Ok (Body name)) (shown bytes) = Unit {0}
+IsOwnOutcome (Ok Status) (counted status) = Unit {0}
+IsOwnOutcome (Ok Verify) (verified names sound) = Unit {0}
+IsOwnOutcome request outcome = ⊥
+
+-- Where the source got a command for a statement, the statement asks for this command, which came at the moment of the script, and its
+-- answer is the outcome. Where the source got none, the outcome is the statement's own.
+abbrev pub IsOutcomeOf : Result Request Refusal → ℕ → Option AnsweredCommand → LineOutcome → Type 0
+IsOutcomeOf request now None outcome = IsOwnOutcome request outcome
+IsOutcomeOf request now (Some got) outcome = (request ≡ Ok (Run got.asked.0)) × (got.asked.1 ≡ now) × (outcome ≡ outcome_of_reply got.ack.reply)
+
+-- the moment of a script behind a statement with this outcome
+abbrev pub moment_behind : Result Request Refusal → ℕ → LineOutcome → ℕ
+moment_behind (Ok (At t)) now moment_set = t
+moment_behind request now outcome = now
+
+-- statements are done one after another, the first of them at this moment
+abbrev pub AreDone : ℕ → List DoneStatement → Type 0
+AreDone now [] = Unit {0}
+AreDone now (d ∷ done) =
+    IsOutcomeOf (request_by d.statement) now d.got d.outcome × AreDone (moment_behind (request_by d.statement) now d.outcome) done
+
+abbrev pub statements_of : List DoneStatement → List Statement
+statements_of done = map (λ d. d.statement) done
+
+abbrev pub outcomes_of : List DoneStatement → List LineOutcome
+outcomes_of done = map (λ d. d.outcome) done
+
+-- the commands that the source got for these statements, in their order
+abbrev pub commands_of : List DoneStatement → List (Command × ℕ)
+commands_of done = flat_map (λ d. command_of d.got) done
+
+-- the answers to them
+abbrev pub acks_of : List DoneStatement → List Ack
+acks_of done = flat_map (λ d. ack_of d.got) done
+
+-- The bytes of a script came, and its reader gave no others; or whole statements of it came, and the reader may have given more.
+abbrev pub CameWhole : End → End → List ℕ → Type 0
+CameWhole left rest input =
+    (Consumes (watched left) (watched rest) input × IsAtEnd (watched rest))
+    ⊎ (AreWholeStatements input × (more : List ℕ) × Consumes (watched left) (watched rest) (input ++ more))
+
+-- Statements of a script are done, and their outcomes were written, the last of them perhaps in part.
+-- `input`, `came`, `cut`: what came of the script are these statements, each of them once.
+-- `in_turn`, `done_so`: the source got one command at most for each statement, the one that it asks for, and answered these commands
+-- in their order, and no others. Each answer is the outcome that is told. This holds on every disk, also on one whose last sync
+-- fails.
+-- `named`: where the source held a state, and its device has followed the model, each name that is told is lawful. So it has no
+-- line feed, and passes for no reply.
+pub record TellsStatements {D : Type 0} (device : D → DiskState) (old new : Stored D) (ends : Ends) : Type 0 where
+  pub done : List DoneStatement
+  pub input : List ℕ
+  pub came : CameWhole ends.left ends.rest input
+  pub cut : IsScript input (statements_of done)
+  pub done_so : AreDone 0 done
+  pub in_turn : InTurn device old (commands_of done) (acks_of done) new
+  pub named : (s : Source) → Holds device old s → IsTrue (device new.disk).honest → All NamesAreLawful (outcomes_of done)
   pub part : List ℕ
   pub left_out : List ℕ
-  pub bytes_are : part ++ left_out ≡ output_of outcomes
-  pub took : Appends (watched before) (watched after) part
+  pub bytes_are : part ++ left_out ≡ output_of (outcomes_of done)
+  pub took : Appends (watched ends.before) (watched ends.after) part
 
--- a script tells the replies to the commands that its source accepted
-abbrev pub ScriptsTellReplies : {D : Type 0} → (D → DiskState) → Type 0
-ScriptsTellReplies {D} device = (old new : ScriptState (Stored D)) (input : List ℕ) (outcomes : List LineOutcome) (commands : List (Command × ℕ))
-    → ScriptGives device old input outcomes commands new → HasReplied device old.source (flat_map line_reply outcomes) new.source
+-- The statements of this input are done from a moment on, with these outcomes.
+pub record DoesStatements {D : Type 0} (device : D → DiskState) (old new : Stored D) (input : List ℕ) (now : ℕ) (outcomes : List LineOutcome) : Type 0 where
+  pub done : List DoneStatement
+  pub cut : IsScript input (statements_of done)
+  pub done_so : AreDone now done
+  pub in_turn : InTurn device old (commands_of done) (acks_of done) new
+  pub outcomes_are : outcomes_of done ≡ outcomes
+
+-- a script does the statements of its input, each of them once
+abbrev pub ScriptsDoStatements : {D : Type 0} → (D → DiskState) → Type 0
+ScriptsDoStatements {D} device = (old new : ScriptState (Stored D)) (input : List ℕ) (outcomes : List LineOutcome) (commands : List (Command × ℕ))
+    → ScriptGives device old input outcomes commands new → DoesStatements device old.source new.source input old.now outcomes
 
 -- the names that a script tells are lawful, where its source held a state and the device has followed the model
 abbrev pub ScriptsTellNames : {D : Type 0} → (D → DiskState) → Type 0

@@ -3,9 +3,9 @@
 ghost use Rattle.std.specs.Prelude.{◌≡◌, ◌^◌, OnOk, IsErr, IsErrOf, IsTrue};
 ghost use Rattle.rs_io.specs.Watch.{watched, is_broken, seen_by, IsRefused, ends_of};
 ghost use Rattle.rs_script.specs.Finished.{EndsWell, StopsReading, StopsWriting, ReadsWithin};
-ghost use Rattle.rs_script.specs.Told.{TellsReplies};
+ghost use Rattle.rs_script.specs.Told.{TellsStatements};
 
-use crate::laws::{scripts_make_walks, scripts_recover, scripts_tell_replies};
+use crate::laws::{scripts_do_statements, scripts_make_walks, scripts_recover};
 use crate::pending::Pending;
 use rs_disk::Disk;
 use rs_io::{StreamFault, Watched};
@@ -55,12 +55,11 @@ pub fn script<D: Disk, R: Read, W: Write>(
     ensures write { IsErrOf result StreamFault.Write → StopsWriting D.state source.old source.new
         (ends_of R.remaining reader.old reader.new W.contents writer.old writer.new) }
 
-    // Whatever the result, where the source held a state, its disk saw commands answered from that state
-    // on. The replies that the writer took are those to the accepted ones of these commands. If it is open
-    // at the end, it holds the state after those that count. A closed source accepts none and stays closed.
-    // If the device has followed the model, each name that the writer took is lawful.
-    ensures answered { TellsReplies D.state source.old source.new
-        (seen_by W.contents writer.old) (seen_by W.contents writer.new) }
+    // Whatever the result, the source got the commands that the statements ask for, one at most for each,
+    // and no others. What the writer took tells their answers. If the device has followed the model, each
+    // name that the writer took is lawful.
+    ensures answered { TellsStatements D.state source.old source.new
+        (ends_of R.remaining reader.old reader.new W.contents writer.old writer.new) }
 
     // Whatever the result, it made at most 2^40 reads of at most 65,536 bytes each, and none after one
     // that failed.
@@ -77,7 +76,7 @@ pub fn script<D: Disk, R: Read, W: Write>(
         × (watched reader.new ≡ watched reader.old) × (source.new ≡ source.old) }
 {
     scripts_recover::<D>();
-    scripts_tell_replies::<D>();
+    scripts_do_statements::<D>();
     scripts_make_walks::<D>();
     let mut pending = Pending::new(alloc);
     let mut buf = [0u8; PIECE];

@@ -6,11 +6,11 @@ ghost use Rattle.rs_script.specs.Lines.{Splits};
 ghost use Rattle.rs_script.specs.Script.{ScriptsAreRuns, ScriptsRecover, ScriptsMakeWalks, ScriptsFollowTheModel, ScriptsTellTheFold, ScriptsHoldTheFold};
 ghost use Rattle.rs_script.specs.Statements.{Statement, IsScript};
 ghost use Rattle.rs_script.specs.Stopped.{ScriptsSplit};
-ghost use Rattle.rs_script.specs.Told.{ScriptsTellReplies, ScriptsTellNames};
+ghost use Rattle.rs_script.specs.Told.{ScriptsDoStatements, ScriptsTellNames};
 
 use rs_caps::laws::answered::paths_are_answered;
 use rs_disk::Disk;
-use rs_recovery::laws::{held_names_are_lawful, replies_are_seen, runs_go_on, runs_recover};
+use rs_recovery::laws::{held_names_are_lawful, runs_go_on, runs_recover};
 use rs_recovery::walking::commands_make_walks;
 use rs_store::laws::{answers_leave_prefixes, held_sources_rest};
 
@@ -58,16 +58,16 @@ pub fn scripts_recover<D: Disk>()
     runs_recover::<D>();
 }
 
-/// A script tells the replies to the commands that its source accepted. Where the source held a state, its disk saw these
-/// commands answered from that state on. Each name that it tells is lawful, if the device has followed the model.
-pub fn scripts_tell_replies<D: Disk>()
-    ensures replies { ScriptsTellReplies D.state }
+/// A script does the statements of its input, each of them once. Its source gets one command at most for each, the one that
+/// the statement asks for, and the answer is the outcome. Each name that the script tells is lawful, if its source held a
+/// state and the device has followed the model.
+pub fn scripts_do_statements<D: Disk>()
+    ensures done { ScriptsDoStatements D.state }
     ensures names { ScriptsTellNames D.state }
 {
     held_sources_rest::<D>();
     held_names_are_lawful();
     runs_go_on::<D>();
-    replies_are_seen::<D>();
 }
 
 /// A stop splits the answers of a script. Those that may have been written by then have exactly the replies to the commands

@@ -1,8 +1,11 @@
 -- What connections do to a source.
-use Rattle.std.specs.Prelude.{◌≡◌, ◌⊎◌, ℕ, Bool, zero, suc, true, false, nat_le, Result, Ok, Err}
+use Rattle.std.specs.Prelude.{◌≡◌, ◌⊎◌, ℕ, Bool, zero, suc, true, false, nat_le, List, [], ◌++◌, Option, None, Some, Result, Ok, Err}
 use Rattle.rs_disk.specs.Medium.{DiskState}
 use Rattle.rs_io.specs.Watch.{calls, failures, is_flushed, Ends}
+use Rattle.rs_model.specs.declared.command.Command.{Command}
+use Rattle.rs_store.specs.declared.running.Ack.{Ack}
 use Rattle.rs_store.specs.Source.{Stored}
+use Rattle.rs_recovery.specs.Replies.{AnsweredCommand, command_of, ack_of, HasAnswered}
 use Rattle.rs_io.specs.declared.fault.StreamFault.{StreamFault}
 use Rattle.rs_io.specs.declared.fault.StreamFault.TheVariants.{Read, Write}
 use Rattle.rs_http.specs.declared.serve.Served.{Served}
@@ -11,7 +14,7 @@ use Rattle.rs_store.specs.Advancing.{GoesOnOnce}
 use Rattle.rs_http.specs.Counted.{RunsAtMost}
 use Rattle.rs_http.specs.Turn.{Turn, turn}
 use Rattle.rs_http.specs.Serving.{Serves, Breaks, Halts}
-use Rattle.rs_http.specs.Told.{TellsReply}
+use Rattle.rs_http.specs.Told.{TellsRequest}
 use Rattle.rs_http.specs.Statuses.{code_of}
 
 -- what one request does between these two ends, by its result: it was answered, or the reader failed in it, or the writer failed
@@ -33,30 +36,29 @@ pub record AreNew (ends : Ends) : Type 0 where
   pub writer : (failures ends.before).all ≡ 0
   pub flushed : is_flushed ends.before ≡ true
 
--- One request was served, at some moment and between two new ends.
+-- One request was served at this moment, between two new ends.
 -- `request`: what these ends gave and took is one request, with this result.
--- `answered`: its response has the reply to the command that the source accepted, which its disk saw answered with this reply.
+-- `answered`: the source got one command at most, the one that the request asks for, and the response tells its answer.
 -- `once`, `run`: that is at most one command of the model, and a run.
-pub record Connects {D : Type 0} (device : D → DiskState) (old new : Stored D) : Type 0 where
-  pub now : ℕ
+pub record Connects {D : Type 0} (device : D → DiskState) (old : Stored D) (now : ℕ) (new : Stored D) : Type 0 where
   pub ends : Ends
   pub result : Result Served StreamFault
   pub request : Requests (turn device old now new) ends result
   pub begun : AreNew ends
-  pub answered : TellsReply device old new ends
+  pub answered : TellsRequest (turn device old now new) ends
   pub once : GoesOnOnce device old now new
   pub run : RunsAtMost device old 1 new
 
 -- What one connection does. Where it could not be accepted, or there was no memory for its buffers, the source stays as
--- it was. Otherwise its one request is served. The kit's sockets have no contract. So no clause says which of the two it is, or that
--- the ends are those of the connection.
+-- it was. Otherwise its one request is served, at some moment. The kit's sockets and clocks have no contract. So no clause says which of
+-- the two it is, that the ends are those of the connection, or that the moment is that of the clock.
 abbrev pub MayConnect : {D : Type 0} → (D → DiskState) → Stored D → Stored D → Type 0
-MayConnect device old new = (new ≡ old) ⊎ Connects device old new
+MayConnect device old new = (new ≡ old) ⊎ ((now : ℕ) × Connects device old now new)
 
--- What one accepted connection does, and whether its request was refused. Without memory for its buffers there is no request.
-abbrev pub TellsRefused : {D : Type 0} → (D → DiskState) → Stored D → Stored D → Bool → Type 0
-TellsRefused device old new refused =
-    ((new ≡ old) × (refused ≡ false)) ⊎ ((one : Connects device old new) × (refused ≡ was_refused one.result))
+-- What one connection does that is accepted at this moment, and whether its request was refused. Without memory for its buffers there is no request.
+abbrev pub TellsRefused : {D : Type 0} → (D → DiskState) → Stored D → ℕ → Stored D → Bool → Type 0
+TellsRefused device old now new refused =
+    ((new ≡ old) × (refused ≡ false)) ⊎ ((one : Connects device old now new) × (refused ≡ was_refused one.result))
 
 -- what this many connections do, one after another
 abbrev pub Connections : {D : Type 0} → (D → DiskState) → Stored D → ℕ → Stored D → Type 0
@@ -65,15 +67,32 @@ Connections {D} device old (suc count) new = (mid : Stored D) × Connections dev
 
 -- One connection was told what its source did.
 -- `ends`: its reader and its writer, before and behind it. `is_new`: no call of this writer was made before, so it took nothing else.
--- `tells`: what the writer took has the reply to the command that the source accepted meanwhile, and no other. What it shows was
--- asked for by the bytes that the reader gave.
-pub record IsTold {D : Type 0} (device : D → DiskState) (old new : Stored D) : Type 0 where
+-- `tells`, `got_is`: the source got this command at most, which the bytes of the reader ask for, and the writer took its answer, or a
+-- beginning of it.
+pub record IsTold {D : Type 0} (device : D → DiskState) (old : Stored D) (got : Option AnsweredCommand) (new : Stored D) : Type 0 where
+  pub now : ℕ
   pub ends : Ends
   pub is_new : calls ends.before ≡ 0
-  pub tells : TellsReply device old new ends
+  pub tells : TellsRequest (turn device old now new) ends
+  pub got_is : tells.got ≡ got
 
--- So many connections were told, one after another, or were not served and left the source as it was. `mid` is the source when the
--- last one begins. So each is told of what the source did in its own turn.
-abbrev pub AreTold : {D : Type 0} → (D → DiskState) → Stored D → ℕ → Stored D → Type 0
-AreTold device old zero new = new ≡ old
-AreTold {D} device old (suc count) new = (mid : Stored D) × AreTold device old count mid × ((new ≡ mid) ⊎ IsTold device mid new)
+-- One connection was told, or it was not served and left the source as it was.
+abbrev pub MayBeTold : {D : Type 0} → (D → DiskState) → Stored D → Option AnsweredCommand → Stored D → Type 0
+MayBeTold device old None new = (new ≡ old) ⊎ IsTold device old None new
+MayBeTold device old (Some got) new = IsTold device old (Some got) new
+
+-- So many connections were told, one after another, and these are all commands that the source got from them, with its answers. `mid`
+-- is the source when the last connection begins. So each is told of what the source did in its own turn.
+abbrev pub AreTold : {D : Type 0} → (D → DiskState) → Stored D → ℕ → List (Command × ℕ) → List Ack → Stored D → Type 0
+AreTold device old zero commands acks new = (commands ≡ []) × (acks ≡ []) × (new ≡ old)
+AreTold {D} device old (suc count) commands acks new =
+    (mid : Stored D) × (before : List (Command × ℕ)) × (early : List Ack) × (last : Option AnsweredCommand)
+    × (commands ≡ before ++ command_of last) × (acks ≡ early ++ ack_of last)
+    × AreTold device old count before early mid × MayBeTold device mid last new
+
+-- So many connections were told, and the source did what they were told.
+pub record AnswersConnections {D : Type 0} (device : D → DiskState) (old : Stored D) (count : ℕ) (new : Stored D) : Type 0 where
+  pub commands : List (Command × ℕ)
+  pub acks : List Ack
+  pub told : AreTold device old count commands acks new
+  pub answered : HasAnswered device old commands acks new

@@ -5,9 +5,8 @@ ghost use Rattle.std.specs.Duration.{as_nanos};
 ghost use Rattle.rs_model.specs.declared.command.Command.{Command};
 ghost use Rattle.rs_io.specs.Watch.{ends_of};
 ghost use Rattle.rs_store.specs.Advancing.{GoesOnBy, GoesOnOnce};
-ghost use Rattle.rs_recovery.specs.Prefixes.{HasAnswered};
 ghost use Rattle.rs_http.specs.Counted.{RunsAtMost};
-ghost use Rattle.rs_http.specs.Told.{TellsReply};
+ghost use Rattle.rs_http.specs.Told.{TellsRequest};
 ghost use Rattle.rs_http.specs.Turn.{turn};
 ghost use Rattle.rs_source.specs.Serving.{
   Requests,
@@ -15,13 +14,13 @@ ghost use Rattle.rs_source.specs.Serving.{
   MayConnect,
   TellsRefused,
   Connections,
-  AreTold,
+  AnswersConnections,
 };
 
 use rs_disk::Disk;
 use rs_http::{Served, serve_one};
 use rs_io::{StreamFault, Watched};
-use rs_recovery::laws::runs_recover;
+use rs_recovery::laws::{runs_go_on, runs_recover, turns_are_seen};
 use rs_store::Source;
 use rs_store::laws::held_sources_rest;
 use rs_time::Moment;
@@ -77,9 +76,9 @@ fn serve_request<D: Disk, R: Read, W: Write>(
     ensures request { Requests (turn D.state source.old now source.new)
         (ends_of R.remaining reader.old reader.new W.contents writer.old writer.new) result }
 
-    // The reply that the writer took is that to the command which the source accepted. Only to a GET or a
-    // HEAD is a 200 anything else.
-    ensures answered { TellsReply D.state source.old source.new
+    // The source got one command at most, the one that the request asks for, and what the writer took tells
+    // its answer. Only to a GET or a HEAD is a 200 anything else.
+    ensures answered { TellsRequest (turn D.state source.old now source.new)
         (ends_of R.remaining reader.old reader.new W.contents writer.old writer.new) }
 
     ensures once { GoesOnOnce D.state source.old now source.new }
@@ -102,7 +101,7 @@ fn answer_stream<D: Disk>(
     stream: &TcpStream,
     now: Moment,
 ) -> bool
-    ensures { TellsRefused D.state source.old source.new result }
+    ensures { TellsRefused D.state source.old now source.new result }
 {
     let Ok(input) = BufReader::with_capacity(alloc, READ_AHEAD, stream) else {
         return false;
@@ -189,21 +188,20 @@ pub fn serve_connections<D: Disk, C: Clock>(
     ensures goes_on { (commands : List (Command × ℕ)) × (length commands ≤ count)
         × GoesOnBy D.state source.old source.new commands }
 
-    // What the writer of a connection took tells the reply to the command that the source accepted in this
-    // connection. What is shown was asked for by what its reader gave. The next connection begins with the
-    // source as this one left it.
-    ensures told { AreTold D.state source.old count source.new }
-
     // The connections together are a run of at most one counted command each. So whenever the disk
     // stops, it holds the state after the first of these commands.
     ensures run { RunsAtMost D.state source.old count source.new }
 
-    // Where the source held a state, its disk saw commands answered from that state on. If it is open at
-    // the end, it holds the state after those that count. A closed source accepts none and stays closed.
-    ensures answered { HasAnswered D.state source.old source.new }
+    // From each connection the source got one command at most, the one that its reader asked for, and its
+    // writer took the answer. What is shown was asked for too. The next connection begins with the source
+    // as this one left it. Where the source held a state at first, its disk saw all these commands answered
+    // from that state on.
+    ensures answered { AnswersConnections D.state source.old count source.new }
 {
     held_sources_rest::<D>();
+    runs_go_on::<D>();
     runs_recover::<D>();
+    turns_are_seen::<D>();
     for _ in 0..count {
         accept_one(alloc, source, listener, clock);
     }

@@ -42,8 +42,8 @@ pub record IsCarriedOut {D : Type 0} (device : D → DiskState) (old new : Store
 -- `planned`: an accepted command is carried out by its plan, so the rules determine pages and places.
 -- `generation`, `version`: each accepted command takes one generation of the root, and gives the root the version that is written.
 -- `leads`: if the source holds a state, what it holds then, and what each image of a crash meanwhile represents.
--- `runs`: it answers Device exactly where a device call failed, and makes no call behind a failed one; the disk keeps its size, and
--- its counts do not fall.
+-- `runs`: it answers Device only where a device call failed or the count of calls is at its last value, and another answer only where
+-- none failed. It makes no call behind a failed one. The disk keeps its size, and its counts do not fall.
 -- `closed`: a closed source answers Closed, and nothing changes.
 -- `closes`, `stays_open`: Device closes it, and nothing else does.
 -- `unchanged`: any other refusal leaves the memory as it was.

@@ -1,5 +1,6 @@
 -- What a source shows of its state.
-use Rattle.std.specs.Prelude.{◌≡◌, ◌+◌, ◌/◌, ℕ, List, length, Option, option_map, sum_by}
+use Rattle.std.specs.Prelude.{◌≡◌, ℕ, List, length, Option, option_map, sum_by}
+use Rattle.rs_copy.specs.Copies.{calls_to_read}
 use Rattle.rs_fixity.specs.Digests.{digests}
 use Rattle.rs_record.specs.declared.facts.Facts.{Facts}
 use Rattle.rs_model.specs.declared.value.Held.{Held}
@@ -18,9 +19,9 @@ pub record AreAsRecorded (facts : Facts) (bytes : List ℕ) : Type 0 where
 abbrev pub HasItsDigest : Held → Type 0
 HasItsDigest held = (digests held.bytes).sha256 ≡ held.entry.facts.digests.sha256
 
--- the calls that read each held body once, in pieces of 16,384 bytes
+-- the calls that read each held body once
 abbrev pub calls_for_held : Names Held → ℕ
-calls_for_held all = sum_by (λ held. (held.1.entry.facts.length + 16383) / 16384) all
+calls_for_held all = sum_by (λ held. calls_to_read held.1.entry.facts.length) all
 
 -- the refusals of the question for a body
 abbrev pub IsOfBody : Refusal → Type 0

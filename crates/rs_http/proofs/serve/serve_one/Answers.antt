@@ -45,7 +45,7 @@ returns-in_default-clause-run g c = still_runs c.requests_are_runs.ensures.answe
 
 pub returns-in_default-clause-answered : goal.returns-in_default-clause-answered
 returns-in_default-clause-answered g c =
-    silent_tells c.replies_are_seen.ensures.seen c.requests_reply.ensures.answered c.requests_reply.ensures.broken (turn g.D.Disk.state c.args.source.now c.args.now c.args.source.now)
+    silent_tells c.held_sources_rest.ensures.idle c.requests_get_one.ensures.answered c.requests_get_one.ensures.broken (turn g.D.Disk.state c.args.source.now c.args.now c.args.source.now)
     (seen_by g.R.Read.remaining c.args.reader.now) (seen_by g.R.Read.remaining c.read_head.new.reader) (seen_by g.W.Write.contents c.args.writer.now) c.in_default.ensures.err.0 c.in_default.ensures.err.1 refl
 
 pub returns-in_default-read_request-clause-run : goal.returns-in_default-read_request-clause-run
@@ -53,7 +53,7 @@ returns-in_default-read_request-clause-run g c = still_runs c.requests_are_runs.
 
 pub returns-in_default-read_request-clause-answered : goal.returns-in_default-read_request-clause-answered
 returns-in_default-read_request-clause-answered g c =
-    silent_tells c.replies_are_seen.ensures.seen c.requests_reply.ensures.answered c.requests_reply.ensures.broken (turn g.D.Disk.state c.args.source.now c.args.now c.args.source.now)
+    silent_tells c.held_sources_rest.ensures.idle c.requests_get_one.ensures.answered c.requests_get_one.ensures.broken (turn g.D.Disk.state c.args.source.now c.args.now c.args.source.now)
     (seen_by g.R.Read.remaining c.args.reader.now) (seen_by g.R.Read.remaining c.read_head.new.reader) (seen_by g.W.Write.contents c.args.writer.now) (take c.in-Ok.came c.read_head.new.buf) c.in-Ok.ensures.ok.1.0 refl
 
 pub returns-clause-run : goal.returns-clause-run
@@ -61,7 +61,7 @@ returns-clause-run g c = request_runs c.requests_are_runs.ensures.answered c.req
 
 pub returns-clause-answered : goal.returns-clause-answered
 returns-clause-answered g c =
-    ends_tell c.replies_are_seen.ensures.seen c.requests_reply.ensures.answered c.requests_reply.ensures.broken (turn g.D.Disk.state c.args.source.now c.args.now c.answer.new.source)
+    ends_tell c.held_sources_rest.ensures.idle c.requests_get_one.ensures.answered c.requests_get_one.ensures.broken (turn g.D.Disk.state c.args.source.now c.args.now c.answer.new.source)
     (ends_of g.R.Read.remaining c.args.reader.now c.answer.new.reader g.W.Write.contents c.args.writer.now c.answer.new.writer)
     (seen_by g.R.Read.remaining c.read_head.new.reader) c.in-Some.request (take c.in-Ok.came c.read_head.new.buf) c.in-Ok.read
     c.in-Ok.ensures.ok.1.0 c.in-Some.ensures (Ok c.in_ok-status.status) c.in_ok-status.ensures.ends
@@ -71,7 +71,7 @@ returns-in_err-status-clause-run g c = request_runs c.requests_are_runs.ensures.
 
 pub returns-in_err-status-clause-answered : goal.returns-in_err-status-clause-answered
 returns-in_err-status-clause-answered g c =
-    ends_tell c.replies_are_seen.ensures.seen c.requests_reply.ensures.answered c.requests_reply.ensures.broken (turn g.D.Disk.state c.args.source.now c.args.now c.answer.new.source)
+    ends_tell c.held_sources_rest.ensures.idle c.requests_get_one.ensures.answered c.requests_get_one.ensures.broken (turn g.D.Disk.state c.args.source.now c.args.now c.answer.new.source)
     (ends_of g.R.Read.remaining c.args.reader.now c.answer.new.reader g.W.Write.contents c.args.writer.now c.answer.new.writer)
     (seen_by g.R.Read.remaining c.read_head.new.reader) c.in-Some.request (take c.in-Ok.came c.read_head.new.buf) c.in-Ok.read
     c.in-Ok.ensures.ok.1.0 c.in-Some.ensures (Err c.in_err-status.field-0.0) c.in_err-status.ensures.ends

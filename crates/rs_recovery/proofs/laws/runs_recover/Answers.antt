@@ -1,12 +1,8 @@
 use Rattle.rs_recovery.proofs.Prefixes.{runs_recover, idle_is_run, command_is_run, runs_join}
-use Rattle.rs_recovery.proofs.Replies.{runs_have_answered}
 use Rattle.rs_recovery.proofs.laws.runs_recover.Goals as goal
 
 pub returns-clause-recover : goal.returns-clause-recover
 returns-clause-recover g c = runs_recover g.D.Disk.state c.laws_below.ensures c.turns_go_on.ensures.calls
-
-pub returns-clause-answered : goal.returns-clause-answered
-returns-clause-answered g c = runs_have_answered g.D.Disk.state c.laws_below.ensures
 
 pub returns-clause-idle : goal.returns-clause-idle
 returns-clause-idle g c = idle_is_run g.D.Disk.state c.laws_below.ensures

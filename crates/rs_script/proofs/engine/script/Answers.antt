@@ -127,34 +127,43 @@ loop-preserved g c =
 
 pub returns-in_err-flush-clause-answered : goal.returns-in_err-flush-clause-answered
 returns-in_err-flush-clause-answered g c =
-    tells_so_far g.D.Disk.state g.W.Write.contents (c.scripts_recover.ensures, c.scripts_make_walks.ensures) (c.scripts_tell_replies.ensures.replies, c.scripts_tell_replies.ensures.names) c.args.source.now c.args.writer.now c.flush.new.self
-    (stand c.loop.pending c.loop.source c.loop.writer) c.loop.invariant.input c.loop.invariant.progress c.flush.ensures.bytes
+    tells_so_far g.D.Disk.state g.R.Read.remaining g.W.Write.contents (c.scripts_recover.ensures, c.scripts_make_walks.ensures) (c.scripts_do_statements.ensures.done, c.scripts_do_statements.ensures.names)
+    c.args.source.now c.args.reader.now c.loop.reader c.args.writer.now c.flush.new.self
+    (stand c.loop.pending c.loop.source c.loop.writer) c.loop.invariant.input c.loop.invariant.progress c.loop.invariant.reads.took.0 c.flush.ensures.bytes
 
 pub returns-in_err-count-clause-answered : goal.returns-in_err-count-clause-answered
 returns-in_err-count-clause-answered g c =
-    tells_so_far g.D.Disk.state g.W.Write.contents (c.scripts_recover.ensures, c.scripts_make_walks.ensures) (c.scripts_tell_replies.ensures.replies, c.scripts_tell_replies.ensures.names) c.args.source.now c.args.writer.now c.flush.new.self
-    (stand c.loop.pending c.loop.source c.loop.writer) c.loop.invariant.input c.loop.invariant.progress c.flush.ensures.bytes
+    tells_so_far g.D.Disk.state g.R.Read.remaining g.W.Write.contents (c.scripts_recover.ensures, c.scripts_make_walks.ensures) (c.scripts_do_statements.ensures.done, c.scripts_do_statements.ensures.names)
+    c.args.source.now c.args.reader.now c.read.new.self c.args.writer.now c.flush.new.self
+    (stand c.loop.pending c.loop.source c.loop.writer) c.loop.invariant.input c.loop.invariant.progress
+    (Consumes-kept (g.R.Read.remaining (watched c.args.reader.now)) (g.R.Read.remaining (watched c.loop.reader)) (g.R.Read.remaining (watched c.read.new.self)) c.loop.invariant.input c.loop.invariant.reads.took.0 c.in_err-count.ensures.err)
+    c.flush.ensures.bytes
 
 pub returns-clause-answered : goal.returns-clause-answered
 returns-clause-answered g c =
-    tells_so_far g.D.Disk.state g.W.Write.contents (c.scripts_recover.ensures, c.scripts_make_walks.ensures) (c.scripts_tell_replies.ensures.replies, c.scripts_tell_replies.ensures.names) c.args.source.now c.args.writer.now c.loop.writer
-    (stand c.loop.pending c.loop.source c.loop.writer) c.loop.invariant.input c.loop.invariant.progress (Keeps-refl (g.W.Write.contents (watched c.loop.writer)))
+    tells_so_far g.D.Disk.state g.R.Read.remaining g.W.Write.contents (c.scripts_recover.ensures, c.scripts_make_walks.ensures) (c.scripts_do_statements.ensures.done, c.scripts_do_statements.ensures.names)
+    c.args.source.now c.args.reader.now c.loop.reader c.args.writer.now c.loop.writer
+    (stand c.loop.pending c.loop.source c.loop.writer) c.loop.invariant.input c.loop.invariant.progress c.loop.invariant.reads.took.0 (Keeps-refl (g.W.Write.contents (watched c.loop.writer)))
 
 pub returns-in_err-take_end-clause-answered : goal.returns-in_err-take_end-clause-answered
 returns-in_err-take_end-clause-answered g c =
     let inv = c.loop.invariant in
     let p = Progress-kept g.D.Disk.state g.W.Write.contents _ inv.input _ c.flush.new.self c.flush.ensures.bytes c.in_ok-flush.ensures.sound inv.progress in
+    let gave = Consumes-end _ _ _ inv.input c.read.new.buf c.in_ok-count.count c.if-count-eq0.true inv.reads.took.0 c.in_ok-count.ensures.ok.0 in
     let end = c.in_err-take_end.ensures.err _ inv.input p in
-    tells_part g.D.Disk.state g.W.Write.contents (c.scripts_recover.ensures, c.scripts_make_walks.ensures) (c.scripts_tell_replies.ensures.replies, c.scripts_tell_replies.ensures.names) c.args.source.now c.args.writer.now c.take_end.new.writer
-    c.take_end.new.source c.take_end.new.self.between.moment inv.input end.0 end.1 end.2 end.3
+    tells_part g.D.Disk.state g.R.Read.remaining g.W.Write.contents (c.scripts_recover.ensures, c.scripts_make_walks.ensures) (c.scripts_do_statements.ensures.done, c.scripts_do_statements.ensures.names)
+    c.args.source.now c.args.reader.now c.read.new.self c.args.writer.now c.take_end.new.writer
+    c.take_end.new.source c.take_end.new.self.between.moment inv.input end.0 end.1 end.2 (inl (gave, c.in_ok-count.ensures.end c.if-count-eq0.true (omega arith))) end.3
 
 pub returns-in_err-flush-2-clause-answered : goal.returns-in_err-flush-2-clause-answered
 returns-in_err-flush-2-clause-answered g c =
     let inv = c.loop.invariant in
     let p = Progress-kept g.D.Disk.state g.W.Write.contents _ inv.input _ c.flush.new.self c.flush.ensures.bytes c.in_ok-flush.ensures.sound inv.progress in
+    let gave = Consumes-end _ _ _ inv.input c.read.new.buf c.in_ok-count.count c.if-count-eq0.true inv.reads.took.0 c.in_ok-count.ensures.ok.0 in
     let end = c.in_ok-take_end.ensures.ok _ inv.input p in
-    tells_all g.D.Disk.state g.W.Write.contents (c.scripts_recover.ensures, c.scripts_make_walks.ensures) (c.scripts_tell_replies.ensures.replies, c.scripts_tell_replies.ensures.names) c.args.source.now c.args.writer.now c.flush-then-count-eq0.new.self
-    c.take_end.new.source c.take_end.new.self.between.moment inv.input end.0 end.1 end.2
+    tells_all g.D.Disk.state g.R.Read.remaining g.W.Write.contents (c.scripts_recover.ensures, c.scripts_make_walks.ensures) (c.scripts_do_statements.ensures.done, c.scripts_do_statements.ensures.names)
+    c.args.source.now c.args.reader.now c.read.new.self c.args.writer.now c.flush-then-count-eq0.new.self
+    c.take_end.new.source c.take_end.new.self.between.moment inv.input end.0 end.1 end.2 (inl (gave, c.in_ok-count.ensures.end c.if-count-eq0.true (omega arith)))
     (Appends-kept (g.W.Write.contents (watched c.args.writer.now)) (g.W.Write.contents (watched c.take_end.new.writer))
     (g.W.Write.contents (watched c.flush-then-count-eq0.new.self)) (output_of end.0) end.3.0 c.flush-then-count-eq0.ensures.bytes)
 
@@ -162,9 +171,11 @@ pub returns-then-count-eq0-clause-answered : goal.returns-then-count-eq0-clause-
 returns-then-count-eq0-clause-answered g c =
     let inv = c.loop.invariant in
     let p = Progress-kept g.D.Disk.state g.W.Write.contents _ inv.input _ c.flush.new.self c.flush.ensures.bytes c.in_ok-flush.ensures.sound inv.progress in
+    let gave = Consumes-end _ _ _ inv.input c.read.new.buf c.in_ok-count.count c.if-count-eq0.true inv.reads.took.0 c.in_ok-count.ensures.ok.0 in
     let end = c.in_ok-take_end.ensures.ok _ inv.input p in
-    tells_all g.D.Disk.state g.W.Write.contents (c.scripts_recover.ensures, c.scripts_make_walks.ensures) (c.scripts_tell_replies.ensures.replies, c.scripts_tell_replies.ensures.names) c.args.source.now c.args.writer.now c.flush-then-count-eq0.new.self
-    c.take_end.new.source c.take_end.new.self.between.moment inv.input end.0 end.1 end.2
+    tells_all g.D.Disk.state g.R.Read.remaining g.W.Write.contents (c.scripts_recover.ensures, c.scripts_make_walks.ensures) (c.scripts_do_statements.ensures.done, c.scripts_do_statements.ensures.names)
+    c.args.source.now c.args.reader.now c.read.new.self c.args.writer.now c.flush-then-count-eq0.new.self
+    c.take_end.new.source c.take_end.new.self.between.moment inv.input end.0 end.1 end.2 (inl (gave, c.in_ok-count.ensures.end c.if-count-eq0.true (omega arith)))
     (Appends-kept (g.W.Write.contents (watched c.args.writer.now)) (g.W.Write.contents (watched c.take_end.new.writer))
     (g.W.Write.contents (watched c.flush-then-count-eq0.new.self)) (output_of end.0) end.3.0 c.flush-then-count-eq0.ensures.bytes)
 
@@ -174,5 +185,8 @@ returns-in_err-take_piece-clause-answered g c =
     let p = Progress-kept g.D.Disk.state g.W.Write.contents _ inv.input _ c.flush.new.self c.flush.ensures.bytes c.in_ok-flush.ensures.sound inv.progress in
     let e = c.in_err-take_piece.ensures.err in
     let stops = e.3 _ inv.input p in
-    tells_part g.D.Disk.state g.W.Write.contents (c.scripts_recover.ensures, c.scripts_make_walks.ensures) (c.scripts_tell_replies.ensures.replies, c.scripts_tell_replies.ensures.names) c.args.source.now c.args.writer.now c.take_piece.new.writer
-    c.take_piece.new.source c.take_piece.new.self.between.moment (inv.input ++ e.0) stops.0.0 stops.0.1 stops.0.2 stops.0.3
+    let gave = Gave-front _ _ _ inv.input (take c.in_ok-count.count c.read.new.buf) e.0 e.1 e.2 inv.reads.took.0 c.in_ok-count.ensures.ok.0 in
+    tells_part g.D.Disk.state g.R.Read.remaining g.W.Write.contents (c.scripts_recover.ensures, c.scripts_make_walks.ensures) (c.scripts_do_statements.ensures.done, c.scripts_do_statements.ensures.names)
+    c.args.source.now c.args.reader.now c.read.new.self c.args.writer.now c.take_piece.new.writer
+    c.take_piece.new.source c.take_piece.new.self.between.moment (inv.input ++ e.0) stops.0.0 stops.0.1 stops.0.2
+    (inr (stops.1, gave.0, gave.1)) stops.0.3

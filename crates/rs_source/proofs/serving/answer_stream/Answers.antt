@@ -1,11 +1,10 @@
 -- The request was served, between two new ends.
-use Rattle.std.proofs.Common.{inr, ap, refl}
+use Rattle.std.proofs.Common.{inr, ap}
 use Rattle.rs_source.proofs.serving.answer_stream.Goals as goal
 
 pub returns : goal.returns
 returns g c = inr (
   record {
-    now = c.args.now;
     ends = _;
     result = c.serve_request.result;
     request = c.serve_request.ensures.request;
