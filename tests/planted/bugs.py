@@ -341,5 +341,38 @@ OF_EDGES = [
         "    for _ in 0..count.min(2_000) {\n",
         EDGES,
     ),
+    body(
+        "a copy is synced before its slots are closed", "copy", "writing",
+        "    close_slots(to)?;\n",
+        "    to.sync()?;\n    close_slots(to)?;\n",
+        CALLS,
+    ),
+    body(
+        "an opening reads both slots in one call", "commit", "reading",
+        "    let first = read_slot(disk, Slot::First)?;\n    let second = read_slot(disk, Slot::Second)?;\n",
+        "    let (mut both, mut slot) = ([0; 566], [0; 54]);\n    disk.read(0, &mut both)?;\n"
+        "    slot.copy_from_slice(&both[..54]);\n    let first = content(&slot);\n"
+        "    slot.copy_from_slice(&both[512..]);\n    let second = content(&slot);\n",
+        CALLS,
+    ),
+    body(
+        "a request comes at the moment 0", "source", "serving",
+        "    if answer_stream(alloc, source, &stream, now) {\n",
+        "    let now = if now > Moment::first() { Moment::first() } else { now };\n"
+        "    if answer_stream(alloc, source, &stream, now) {\n",
+        EDGES,
+    ),
+    body(
+        "the rest of a refused request is not read", "source", "serving",
+        "        read_rest(&stream, clock);\n",
+        "        let _ = || read_rest(&stream, clock);\n",
+        EDGES,
+    ),
+    body(
+        "the rest of a refused request has all the time", "source", "serving",
+        ">= LONGEST_REST",
+        ">= LONGEST_REST * 1_000",
+        EDGES,
+    ),
 ]
 BUGS = [*OF_CALLS, *OF_SIZES, *OF_MEMORY, *OF_LIBRARIES, *OF_ORDERS, *OF_EDGES]
