@@ -4,8 +4,9 @@ A premise stands left of an arrow in a clause of the promise, or in what it ends
 apart until a line of promises.txt speaks of it: a relation into the relations of its cases, a record into its fields.
 What is left is a condition, as an equation is.
 
-What a function requires needs no line, since the prover checks it at each call. A relation that stands left of arrows
-alone has to be there in an example (`uninhabited`), as a promise that takes what nothing has would say nothing.
+What a function requires needs no line, since the prover checks it at each call. A relation that is assumed has to be
+there (`uninhabited`), as a promise that takes what nothing has would say nothing. An example has it, or a clause
+concludes it from relations that are there. So no clause shows what it takes itself.
 """
 
 from dataclasses import dataclass, replace
@@ -198,9 +199,19 @@ def shown_by(reader: Reader, pieces: dict[str, list[Evidence]]) -> set[Definitio
     return found
 
 
+def there(reader: Reader, clauses: list[Printed], shown: set[Definition]) -> set[Definition]:
+    """The relations that examples have, and those that clauses conclude from what is there already."""
+    known, before = set(shown), -1
+    while before < len(known):
+        before = len(known)
+        for clause in clauses:
+            known |= reader.given(clause.nodes, known).keys()
+    return known
+
+
 def uninhabited(reader: Reader, found: list[Chain], shown: set[Definition]) -> list[str]:
-    """The relations that stand left of an arrow alone, and that no example has."""
-    known = shown | {definition for chain in found for clause in chain.clauses for definition in clause.ends}
+    """The relations that stand left of an arrow, and that nothing shows to be there."""
+    known = there(reader, [clause for chain in found for clause in chain.clauses], shown)
     assumed = {definition: None for chain in found for definition in chain.assumed}
     return [definition.label for definition in assumed if not known & {definition, *reader.same_as(definition)}]
 

@@ -1,6 +1,6 @@
 """Takes relations apart: what a definition's type is made of, what stands left of its arrows, and what it ends in."""
 
-from collections.abc import Callable, Iterator
+from collections.abc import Callable, Iterable, Iterator
 from dataclasses import dataclass, field
 
 import terms
@@ -206,6 +206,23 @@ class Reader:
     def ends(self, nodes: list[Node]) -> dict[Definition, None]:
         """The relations that types end in, and those that these are made of at their own ends."""
         return self.collect(nodes, {}, self.parts, self.opened)
+
+    def given(self, nodes: list[Node], known: set[Definition]) -> dict[Definition, None]:
+        """The relations that types end in, behind no arrow that takes what is not known."""
+        def past(node: Node) -> list[Node]:
+            parts = self.parts(node)
+            if isinstance(node.term, Arrow):
+                return parts if self.are_known(map(node.at, node.term.premises), known) else []
+            if isinstance(node.term, Joined) and node.term.sign == "↔":
+                return [part for part, other in zip(parts, reversed(parts)) if self.are_known([other], known)]
+            return parts
+
+        return self.collect(nodes, {}, past, self.opened)
+
+    def are_known(self, nodes: Iterable[Node], known: set[Definition]) -> bool:
+        """Whether each relation of ours that types are made of is known."""
+        return all(known & {each, *self.same_as(each)} for each in self.ends([*nodes])
+                   if is_type(each) and not is_of_values(each))
 
     def shown(self, nodes: list[Node]) -> dict[Definition, None]:
         """The relations that are there where types are: none of one part of a sum, or of one case of several."""

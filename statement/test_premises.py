@@ -54,6 +54,10 @@ Opening = (keys : List Key) (doors : List ℕ) → AreOpened keys doors → IsIn
 abbrev pub OneOpens : Type 0
 OneOpens = (key : Key) (door : ℕ) → WasOpened key door → AreOpened (key ∷ []) (door ∷ [])
 
+-- whoever is inside opened doors
+abbrev pub InsideOpened : Type 0
+InsideOpened = (keys : List Key) (doors : List ℕ) → IsInside doors → AreOpened keys doors
+
 -- inside, whatever the doors are
 pub record IsInside (doors : List ℕ) : Type 0 where
   pub once : (door : ℕ) → door ≤ 3 → IsShut door
@@ -91,7 +95,7 @@ same = made
 
 CODE = """//! Doors.
 ghost use Rattle.std.specs.Prelude.{ℕ, ◌≡◌, ◌↔◌, ◌≤◌, IfOk};
-ghost use Rattle.doors.specs.Doors.{Key, Fits, Opening, OneOpens, IsShut};
+ghost use Rattle.doors.specs.Doors.{Key, Fits, Opening, OneOpens, InsideOpened, IsShut};
 
 /// Makes a key.
 pub fn cut(door: u8) -> Result<u8, u8>
@@ -126,6 +130,12 @@ pub fn one_opens()
 {
 }
 
+/// Who is inside opened doors.
+pub fn inside_opened()
+    ensures { InsideOpened }
+{
+}
+
 /// A door is shut exactly where it is the first.
 pub fn first_is_shut(door: u8)
     ensures { IsShut door ↔ (door ≡ 1) }
@@ -146,14 +156,15 @@ NOTHING = "nothing gives the premise"
 # A definition of rs_recovery, a text in it, one in its place, and what is found wrong with the headline then.
 PLANTED = [
     ("Sessions.Session", "  pub stop : ℕ", "  pub stop : ℕ\n  pub never : ⊥", f"{NOTHING} '⊥' of Session.never"),
-    ("Sessions.IsStopped", "  pub stopped :", "  pub never : ⊥\n  pub stopped :", f"{NOTHING} '⊥' of IsStopped.never"),
+    ("Sessions.IsSessionFrom", "  pub stopped :", "  pub never : ⊥\n  pub stopped :",
+     f"{NOTHING} '⊥' of IsSessionFrom.never"),
     ("Sessions.IsStop", "  pub left :", "  pub at_end : stop ≡ last.calls\n  pub left :",
      "IsStop is trusted by other fields than it has: IsStop {from to at_end left}"),
-    ("Sessions.AreSessions", "= IsStopped start x", "= IsStopped start x × (x.acks ≡ [])",
+    ("Sessions.AreSessions", "= IsSessionFrom start x", "= IsSessionFrom start x × (x.acks ≡ [])",
      rf"{NOTHING} 'x.acks ≡ \[\]' of AreSessions"),
     *((f"Sessions.{name}", place, f"→ x.acks ≡ [] {place}", rf"{NOTHING} 'x.acks ≡ \[\]' of {name}")
-      for name, place in (("StopsEndSessions", "→ IsStopped s x"), ("SessionsBegin", "→ AreSessions start"),
-                          ("SessionsFollow", "→ IsStopped s x"))),
+      for name, place in (("StopsEndSessions", "→ IsSessionFrom s x"), ("SessionsBegin", "→ AreSessions start"),
+                          ("SessionsFollow", "→ IsSessionFrom s x"))),
     # In a field of the record that the headline ends in, in a record within it, and in the headline.
     ("Recovered.IsRecovered", "  pub yields : ", "  pub yields : IsTimely start → ", f"{NOTHING}.*"),
     ("Recovered.YieldsHeld", "  pub mirrored : ", "  pub mirrored : IsTimely s → ", f"{NOTHING}.*"),
@@ -341,6 +352,25 @@ class Given(unittest.TestCase):
             law = SHOWN.replace("example", kind).replace("proofs/Examples.antt: one", "src/doors.rt: doors_open")
             self.assertEqual(self.faults_of(LINES, shown=law), both)
 
+    def test_a_law_does_not_show_what_it_takes(self) -> None:
+        """It ends in a relation of which a field is the very one that it takes."""
+        lines = LINES + "by: doors one_opens\npremise: AreOpened law: doors one_opens\n"
+        self.assertEqual(self.faults_of(lines, shown=""), without_example("AreOpened", "WasOpened"))
+        # Where an example has what it takes, the law shows what it concludes.
+        self.assertEqual(self.faults_of(lines, shown=SHOWN.replace("AreOpened ", "")), [])
+
+    def test_two_laws_do_not_show_what_each_takes_from_the_other(self) -> None:
+        lines = LINES + "by: doors inside_opened\n"
+        self.assertEqual(self.faults_of(lines), [])
+        self.assertEqual(self.faults_of(lines, shown=""), without_example("AreOpened", "WasOpened", "IsInside"))
+
+    def test_a_side_of_both_ways_is_shown_by_the_other(self) -> None:
+        lines = LINES.replace("IsShut from: doors shut shut", "IsShut {low high} trust: somebody shuts them")
+        lines = lines.replace("by: doors shut shut\n", "")
+        self.assertEqual(self.faults_of(lines, shown=""), without_example("AreOpened", "WasOpened", "IsShut"))
+        lines += "by: doors first_is_shut\npremise: door ≡ 1 case: it is the first\n"
+        self.assertEqual(self.faults_of(lines, shown=""), without_example("AreOpened", "WasOpened"))
+
     def test_a_relation_within_another_has_to_be_there_too(self) -> None:
         specs = SPECS.replace("→ AreOpened keys doors →", "→ AreOpened keys doors → Each Thing →") + THINGS
         lines = LINES + "premise: Each trust: all are things\n"
@@ -420,6 +450,15 @@ class Planted(unittest.TestCase):
         stands = "× StandsFor y.image s"
         found = self.change("rs_recovery.Sessions.AreSessions", stands, f"{stands} × StandsFor x.image s")
         self.assertEqual(found, [])
+
+    def test_a_stop_without_its_example(self) -> None:
+        """The law that ends in a stop takes one."""
+        lines = (ROOT / "statement" / "evidence.txt").read_text().splitlines()
+        shown = "\n".join(line for line in lines if not line.endswith(": are_stops"))
+        found = faults(self.world, self.headline, shown, first=1)
+        fault = "rs_recovery.Sessions.IsStop stands only left of an arrow, and no example has it"
+        self.assertIn(f"statement/evidence.txt: {fault}", found)
+        self.assertNotIn(f"statement/evidence.txt: {fault}", self.before)
 
     def test_a_headline_without_what_gives_a_premise(self) -> None:
         """Without its formatting, its run, the law of its sessions, or a command."""

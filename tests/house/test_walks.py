@@ -42,5 +42,5 @@ class Walks(unittest.TestCase):
         self.assertEqual(text.count("```"), 6)
 
     def test_a_function_that_moved_is_noticed(self) -> None:
-        wrong = PAGE.read_text().replace("put_from, drafted_put", "put_from, moment_of_put", 1)
+        wrong = PAGE.read_text().replace("put_from, accept_put", "put_from, moment_of_put", 1)
         self.assertEqual(missing(wrong), ["rs_store: moment_of_put"])

@@ -342,9 +342,9 @@ OF_EDGES = [
         EDGES,
     ),
     body(
-        "a copy is synced before its slots are closed", "copy", "writing",
+        "a copy is synced before its slots are closed by one write", "copy", "writing",
         "    close_slots(to)?;\n",
-        "    to.sync()?;\n    close_slots(to)?;\n",
+        "    to.sync()?;\n    to.write(0, &[0; 1024])?;\n    to.sync()?;\n",
         CALLS,
     ),
     body(

@@ -51,8 +51,8 @@ impl Catalogue {
         }
     }
 
-    /// The catalogue of these records, whose names strictly ascend: in pages of 64, of which the last
-    /// has the rest. All of them are touched.
+    /// The catalogue of these records, at most 50,000, whose names strictly ascend: in pages of 64, of
+    /// which the last has the rest. All of them are touched.
     ///
     /// # Errors
     ///

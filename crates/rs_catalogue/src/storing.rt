@@ -39,22 +39,15 @@ impl Catalogue {
         self.pages.place_touched(used)
     }
 
-    /// Writes each page that was given blocks, by one device call a page. Pages that are on the disk
-    /// already are not written again.
+    /// Writes each page that was given blocks, as [`Pages::store_touched`] does.
     ///
     /// No page is touched, and the extents of those that were given blocks lie on the disk and have
-    /// no block in common. A read gives the pages from then on; a crash may leave anything in their
-    /// blocks until the next sync. Nothing else on the disk changes, whether it succeeds or not:
-    /// each set of blocks beside these extents stays as it is, at every moment of the run.
+    /// no block in common.
     ///
     /// # Errors
     ///
-    /// - [`StoreFault::NoMemory`] where the memory for a page's bytes is refused. Pages before it may
-    ///   have been written then.
-    /// - [`StoreFault::Device`] where the device fails. The extents may then hold anything.
-    ///
-    /// After each of them the records are as they were, and each page is as it was, or is written and
-    /// stored.
+    /// Those of [`Pages::store_touched`]. After each of them the records are as they were, and each page
+    /// is as it was, or is written and stored.
     pub fn store_touched<D: Disk>(&mut self, alloc: Global, disk: &mut D) -> Result<(), StoreFault>
         requires placed { All (λ page. ¬ IsTouched page.place) self.old }
         requires room { AreOnDisk (placed_extents self.old) (D.state disk.old).size }

@@ -54,9 +54,9 @@ impl History {
         }
     }
 
-    /// The history of these changes, whose moments strictly rise: in pages of 64, of which the last
-    /// has the rest. All of them are touched. The number of its first part is `first`, at most
-    /// 253,402,300,799,999.
+    /// The history of these changes, at most 50,000, whose moments strictly rise: in pages of 64, of
+    /// which the last has the rest. All of them are touched. The number of its first part is `first`,
+    /// at most 253,402,300,799,999.
     ///
     /// # Errors
     ///
@@ -129,9 +129,9 @@ impl History {
         self.pages.at(i)
     }
 
-    /// The places of part `k`, counted from 0, where the changes are dealt into parts of `limit`
-    /// each: from the one of its first change up to the one after its last change. Only the last
-    /// part may have fewer, and where there is no part `k` the range is empty.
+    /// The places of part `k`, counted from 0 at the first kept one, where the changes are dealt into
+    /// parts of `limit` each: from the one of its first change up to the one after its last change.
+    /// Only the last part may have fewer, and where there is no part `k` the range is empty.
     ///
     /// A source has a limit from 2 to 4,000; any other has its parts too. It takes no memory.
     pub fn part(&self, k: u64, limit: u16) -> Range<usize>

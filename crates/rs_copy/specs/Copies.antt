@@ -67,8 +67,8 @@ pub record StopsCopying (old new : Disks) : Type 0 where
 -- `stops`: it makes no call behind a failed one of the same disk, and at most one call fails.
 -- `damaged`: a body lacks its recorded SHA-256, if the first disk has followed the model.
 -- `copied`, `lies`: what Ok leaves; `holds`: then each image of the second disk tells the state that the first one told.
--- `any_moment`: once a first sync of the second disk has succeeded, which is its third call, each of its images tells no root, or
--- represents that state.
+-- `any_moment`: if the second disk had more than three calls, or none failed, then from its third call on each of its images tells no
+-- root, or represents that state.
 pub record Copies (root : Rooted) (old new : Disks) (result : Result Copied CopyFault) : Type 0 where
   pub rests : Rests old.from new.from
   pub once : CallsAtMost (calls_for (records_of root.contents.catalogue)) old.from new.from

@@ -32,7 +32,7 @@ use Rattle.rs_http.specs.Outcomes.{outcome_replied, IsShownAs, RunComesTo, Unask
 use Rattle.rs_http.specs.Requests.{Asks}
 use Rattle.rs_http.specs.Responses.{RequestOutcome, refused, response_text, go_on}
 use Rattle.rs_http.specs.Serving.{preface_of, IsBroken, IsUnsaid, IsCutOff, RequestEnds}
-use Rattle.rs_http.specs.Told.{told_by, IsAsked, AsksCommand, LeavesCut, IsOutcomeOf, IsOutcomeFor, Gets, TellsRequest, RequestsGetOne, BrokenBodiesIdle}
+use Rattle.rs_http.specs.Told.{told_by, IsAsked, AsksCommand, LeavesCut, IsRequestOutcome, IsPlanOutcome, Gets, TellsRequest, RequestsGetOne, BrokenBodiesIdle}
 use Rattle.rs_http.specs.Turn.{Turn}
 use Rattle.rs_http.proofs.Seeing.{is_asked}
 use Rattle.rs_http.proofs.Walks.{begins_one}
@@ -163,7 +163,7 @@ module _ {D : Type 0} {device : D → DiskState} (rest : RestIsIdle device) (get
 
     -- the command of a plan is the one that the bytes ask for
     bytes_ask : (head more : List ℕ) (read : HeadRead) (request : Request) (outcome : RequestOutcome) → input ≡ head ++ more → Asks head read (Some request)
-        → LeavesCut turn request.plan more → (got : Option AnsweredCommand) → IsOutcomeFor request.plan more turn.now got outcome → IsOutcomeOf turn input got (Some outcome)
+        → LeavesCut turn request.plan more → (got : Option AnsweredCommand) → IsPlanOutcome request.plan more turn.now got outcome → IsRequestOutcome turn input got (Some outcome)
     bytes_ask head more read request outcome bytes asks left None is = is
     bytes_ask head more read request outcome bytes asks left (Some got) is = (
       record { head = head; body = more; read = read; request = request; bytes_are = bytes; asks = asks; command_is = is.0; cut = left },

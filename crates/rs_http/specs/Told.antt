@@ -89,9 +89,9 @@ pub record BytesAsk {D : Type 0} {device : D → DiskState} (turn : Turn device)
 
 -- Where the source got a command, these bytes ask for it, it came at the moment of the request, and its answer is the outcome, which is
 -- sent. Where it got none, no reply is sent.
-abbrev pub IsOutcomeOf : {D : Type 0} {device : D → DiskState} → Turn device → List ℕ → Option AnsweredCommand → Option RequestOutcome → Type 0
-IsOutcomeOf turn input None sent = reply_sent sent ≡ []
-IsOutcomeOf turn input (Some got) sent =
+abbrev pub IsRequestOutcome : {D : Type 0} {device : D → DiskState} → Turn device → List ℕ → Option AnsweredCommand → Option RequestOutcome → Type 0
+IsRequestOutcome turn input None sent = reply_sent sent ≡ []
+IsRequestOutcome turn input (Some got) sent =
     BytesAsk turn input got.ack.reply got.asked.0 × (got.asked.1 ≡ turn.now) × (sent ≡ Some (outcome_replied got.ack.reply))
 
 -- One response was written, or a beginning of it, or none; the word to go on may come first.
@@ -104,7 +104,7 @@ pub record TellsRequest {D : Type 0} {device : D → DiskState} (turn : Turn dev
   pub came : Consumes (watched ends.left) (watched ends.rest) input
   pub got : Option AnsweredCommand
   pub sent : Option RequestOutcome
-  pub is : IsOutcomeOf turn input got sent
+  pub is : IsRequestOutcome turn input got sent
   pub in_turn : InTurn device turn.old (command_of got) (ack_of got) turn.new
   pub asked : IfSome sent (IsAsked input)
   pub first : List ℕ
@@ -118,15 +118,15 @@ pub record TellsRequest {D : Type 0} {device : D → DiskState} (turn : Turn dev
 
 -- The source got the command that a plan asks for, at this moment, and its answer is the outcome; or it got none, and the outcome is
 -- no reply.
-abbrev pub IsOutcomeFor : Result RequestPlan RequestFault → List ℕ → ℕ → Option AnsweredCommand → RequestOutcome → Type 0
-IsOutcomeFor plan more now None outcome = told_by outcome ≡ []
-IsOutcomeFor plan more now (Some got) outcome =
+abbrev pub IsPlanOutcome : Result RequestPlan RequestFault → List ℕ → ℕ → Option AnsweredCommand → RequestOutcome → Type 0
+IsPlanOutcome plan more now None outcome = told_by outcome ≡ []
+IsPlanOutcome plan more now (Some got) outcome =
     AsksCommand plan more got.ack.reply got.asked.0 × (got.asked.1 ≡ now) × (outcome ≡ outcome_replied got.ack.reply)
 
 -- What the source got for a plan with this outcome.
 pub record Gets {D : Type 0} {device : D → DiskState} (turn : Turn device) (plan : Result RequestPlan RequestFault) (more : List ℕ) (outcome : RequestOutcome) : Type 0 where
   pub got : Option AnsweredCommand
-  pub is : IsOutcomeFor plan more turn.now got outcome
+  pub is : IsPlanOutcome plan more turn.now got outcome
   pub cut : LeavesCut turn plan more
   pub in_turn : InTurn device turn.old (command_of got) (ack_of got) turn.new
 

@@ -159,7 +159,8 @@ module _ (mirrors : DestinationMirrors) (was_held : MirrorWasHeld) (catalogued :
           (all_both Part InTime (part_paths document) (asks.changes text document here read) (asks.parts_by_last text document here read));
     };
     no_gap = λ at from listed changes resources moves.
-        asks.no_gap at from listed changes (ap gather_resources alike ∙ resources) (ap gather_changes alike ∙ moves);
+        asks.no_gap (record { at = at; listed = listed; from = from; changes = changes })
+        (record { resources = ap gather_resources alike ∙ resources; changes = ap gather_changes alike ∙ moves });
   }
 
   -- a mirror is what was held after the first j standing commands, and then the first changes of the next one
@@ -184,7 +185,8 @@ module _ (mirrors : DestinationMirrors) (was_held : MirrorWasHeld) (catalogued :
       let front : IsPrefixOf (take j whole ++ at.0 ∷ []) both.behind_last =
       subst (λ (l : Commands). IsPrefixOf (take j whole ++ at.0 ∷ []) l) (first_are both.behind_last whole last_stands)
       (subst (λ (l : Commands). IsPrefixOf l (take (length both.behind_last) whole)) at.1 (first_of_first (suc j) (length both.behind_last) whole short)) in
-      (take k (changes_made (fold_of start (take j whole)) at.0), (inr (at.0, front, k, found.0, refl), is ∙ found.1))
+      let made : List Change = take k (changes_made (fold_of start (take j whole)) at.0) in
+      (made, (inr (record { next = at.0; comes = front; count = k; fewer = found.0; first = refl }), is ∙ found.1))
 
   -- the same of what was held at a point of the walk
   held_at : (j : ℕ) (mirror : Names Entry) (w : WasHeld formatted events when latest mirror) → w.passed.point ≡ length before + j
@@ -212,19 +214,20 @@ module _ (mirrors : DestinationMirrors) (was_held : MirrorWasHeld) (catalogued :
       let last_first = first_are both.behind_last whole last_stands in
       let head_first = first_are (both.behind changes_head) whole (stand.served (both.asking changes_head) (both.behind changes_head) (both.served changes_head)).1 in
       record {
-        at = m.at;
-        listed = m.listed;
-        from = m.start;
-        changes = m.changes;
+        gathered = record { at = m.at; listed = m.listed; from = m.start; changes = m.changes };
         commands = take j whole;
         made = found.0;
-        resources_gathered = ap gather_resources alike ∙ m.resources_gathered;
-        changes_gathered = ap gather_changes alike ∙ m.changes_gathered;
-        after_head = subst (λ (l : Commands). IsPrefixOf l (take j whole)) head_first
-            (first_of_first (length (both.behind changes_head)) j whole (omega (arith, after)));
-        by_last = subst (λ (l : Commands). IsPrefixOf (take j whole) l) last_first
-            (first_of_first j (length both.behind_last) whole (omega (arith, until)));
-        stands = (drop j whole, take-append-drop j whole);
+        has = record {
+          resources = ap gather_resources alike ∙ m.resources_gathered;
+          changes = ap gather_changes alike ∙ m.changes_gathered;
+        };
+        stand = record {
+          after_head = subst (λ (l : Commands). IsPrefixOf l (take j whole)) head_first
+              (first_of_first (length (both.behind changes_head)) j whole (omega (arith, after)));
+          by_last = subst (λ (l : Commands). IsPrefixOf (take j whole) l) last_first
+              (first_of_first j (length both.behind_last) whole (omega (arith, until)));
+          survive = (drop j whole, take-append-drop j whole);
+        };
         next = found.1.0;
         mirrored = found.1.1;
       }

@@ -1,13 +1,13 @@
--- Two sessions, computed: a machine stops in a put that it never answers, and a destination asks for the Resource List in
--- the first session and for the Change List in the second.
-use Rattle.std.proofs.Common.{◌≡◌, inl, inr, ℕ, sym, ap, subst, ◌∙◌, arith, List, [], ◌∷◌, ◌++◌, refl, Option, Some, None, Bool, true, false, Ok}
-use Rattle.std.specs.Prelude.{codes, is_some, IsTrue}
+-- Stops of a small disk, computed. Then two sessions, computed: a machine stops in a put that it never answers, and a
+-- destination asks for the Resource List in the first session and for the Change List in the second.
+use Rattle.std.proofs.Common.{◌≡◌, inl, inr, ℕ, zero, suc, ◌<◌, sym, ap, subst, ◌∙◌, arith, List, [], ◌∷◌, ◌++◌, refl, Option, Some, None, Bool, true, false, Ok}
+use Rattle.std.specs.Prelude.{codes, is_some, get_or, replicate, IsTrue}
 use Rattle.std.specs.List.{AllByRecursion}
 use Rattle.std.specs.Fmt.{digits}
 use Rattle.hex.specs.Hex.{encode_with, decode_pairs}
 use Rattle.md5.specs.Md5.{block_words, rounds, compress, hash_after, digest_bytes, md5}
 use Rattle.sha2.specs.Sha256.{first_words, schedule, rounds as rounds_256, compress as compress_256, hash_after as hash_after_256, digest_bytes as digest_bytes_256, sha256}
-use Rattle.rs_disk.specs.Medium.{DiskState, Medium, IsImage, IsImageAt, resting}
+use Rattle.rs_disk.specs.Medium.{DiskState, Medium, IsImage, IsImageAt, marked, widened, written, resting}
 use Rattle.rs_time.specs.Calendar.{date_of, period_of, days_of}
 use Rattle.rs_time.specs.Moment.{moment_text}
 use Rattle.rs_time.specs.ReadMoment.{read_moment, moment_digits, same_bytes}
@@ -32,16 +32,78 @@ use Rattle.rs_caps.specs.Readings.{ChangeEntry, Document, ListedResource}
 use Rattle.rs_caps.specs.Readings.Document.{ResourceList, ChangeListIndex}
 use Rattle.rs_caps.specs.ReadLines.{read_facts, read_resource, read_bound, read_deleted, read_end, read_resource_entry, read_change_entry, before_end, read_up, read_resource_md, read_change_md}
 use Rattle.rs_caps.specs.Reads.{reads, read_list, read_index, read_children, read_resource_list, read_change_list, read_resource_index, read_change_index}
-use Rattle.rs_caps.specs.Gather.{parts_at, gather_resources, gather_changes}
+use Rattle.rs_caps.specs.Gather.{parts_at}
 use Rattle.rs_caps.specs.Destination.{part_paths}
 use Rattle.rs_store.specs.declared.running.Ack.{Ack}
 use Rattle.rs_store.specs.Runs.{Holding, AreAnswered}
 use Rattle.rs_recovery.specs.Sessions.{Session, IsStop, IsLeftBy, AreSessions}
 use Rattle.rs_recovery.proofs.FromBelow.{resting_image}
 use Rattle.rs_recovery.specs.Served.{Asking, CouldServe, HasServedIn, HasServed, IsNoLater}
-use Rattle.rs_recovery.specs.Mirrored.{AreLawfulSessions, list_head, changes_head, Asked, answered_by, IsAskedPart, AsksBoth}
+use Rattle.rs_recovery.specs.Mirrored.{AreLawfulSessions, list_head, changes_head, Asked, answered_by, IsAskedPart, Gathered, HasGathered, AsksBoth, AreFirstOfNext, IsMirrored}
 use Rattle.rs_recovery.proofs.Below.{Commands, Acks}
 use Rattle.rs_recovery.proofs.Missing.{answers_may_be_missing}
+
+-- the bytes of a disk before a write of the last two and behind it, and those that a stop in between may leave
+abbrev old_bytes : List ℕ
+old_bytes = 1 ∷ 2 ∷ 3 ∷ []
+
+abbrev new_bytes : List ℕ
+new_bytes = 1 ∷ 8 ∷ 9 ∷ []
+
+abbrev torn_bytes : List ℕ
+torn_bytes = 1 ∷ 7 ∷ 9 ∷ []
+
+-- what the disk holds within the write, and within the sync that follows
+abbrev held_within : ℕ → Medium
+held_within zero = widened (resting old_bytes) 1 2
+held_within (suc m) = written (resting old_bytes) 1 (8 ∷ 9 ∷ [])
+
+-- the disk after so many calls, all settled
+abbrev disk_after : ℕ → List ℕ → DiskState
+disk_after calls bytes = record {
+  size = 3;
+  calls = calls;
+  faults = 0;
+  last_failed = false;
+  honest = true;
+  now = resting bytes;
+  within = held_within;
+}
+
+-- The write settles nothing. So until the sync has ended, any bytes may stand where it goes.
+beside_write : (i : ℕ) → i < 3 → get_or (marked (replicate 3 false) 1 2) i false ≡ false
+    → get_or torn_bytes i 0 ≡ get_or old_bytes i 0
+beside_write zero lt off = refl
+beside_write (suc zero) lt off = absurd cc
+beside_write (suc (suc zero)) lt off = absurd cc
+beside_write (suc (suc (suc i))) lt off = absurd (omega arith)
+
+pub is_image : (m : ℕ) → IsImage (held_within m) torn_bytes
+is_image zero = record { size = refl; same = beside_write }
+is_image (suc m) = record { size = refl; same = beside_write }
+
+-- A stop comes within the write or within the sync, or at the end, where it leaves what a read gives.
+pub are_stops :
+    IsStop (disk_after 0 old_bytes) (disk_after 2 new_bytes) 0 torn_bytes
+    × IsStop (disk_after 0 old_bytes) (disk_after 2 new_bytes) 1 torn_bytes
+    × IsStop (disk_after 0 old_bytes) (disk_after 2 new_bytes) 2 new_bytes
+are_stops = (
+  record {
+    from = omega arith;
+    to = omega arith;
+    left = record { past = λ lt. is_image 0; now = λ le. absurd (omega arith) };
+  },
+  record {
+    from = omega arith;
+    to = omega arith;
+    left = record { past = λ lt. is_image 1; now = λ le. absurd (omega arith) };
+  },
+  record {
+    from = omega arith;
+    to = omega arith;
+    left = record { past = λ lt. absurd (omega arith); now = λ le. record { size = refl; same = λ i lt off. refl } };
+  },
+)
 
 -- a source of item limit 2, formatted at the first moment
 abbrev start : Source
@@ -166,6 +228,9 @@ listed = record { name = codes "a"; facts = no_bytes; moment = 1 } ∷ []
 abbrev changes : List Change
 changes = bound (codes "a") false 1 no_bytes ∷ bound (codes "b") false 3 no_bytes ∷ deleted (codes "a") 4 ∷ []
 
+abbrev gathered : Gathered
+gathered = record { at = 2; listed = listed; from = 0; changes = changes }
+
 abbrev between : List ℕ → ℕ → Option ℕ → ChangeEntry
 between path from until = record { path = path; start = from; until = until }
 
@@ -176,10 +241,9 @@ index = ChangeListIndex 0 None (between (codes "/changelist/0.xml") 0 (Some 3) �
 pub documents :
     ((answered_by asking list_head >>= reads) ≡ Some (ResourceList 2 listed))
     × ((answered_by asking changes_head >>= reads) ≡ Some index)
-    × (gather_resources (answered_by asking) ≡ Some (2, listed))
-    × (gather_changes (answered_by asking) ≡ Some (0, changes))
+    × HasGathered (answered_by asking) gathered
 unfolding digits encode_with decode_pairs block_words rounds compress hash_after digest_bytes md5 first_words schedule rounds_256 compress_256 hash_after_256 digest_bytes_256 sha256 date_of period_of days_of moment_text read_moment moment_digits read_hash list_text strip cut lines_of characters read_number doc_of read_count last_part resource_part change_part document_text read_facts read_resource read_bound read_deleted read_end read_resource_entry read_change_entry before_end read_up read_resource_md read_change_md reads read_list read_index read_children read_resource_list read_change_list read_resource_index read_change_index parts_at
-documents = (refl, refl, refl, refl)
+documents = (refl, refl, record { resources = refl; changes = refl })
 
 same_document : (head text : List ℕ) (known document : Document) → (answered_by asking head >>= reads) ≡ Some known → answered_by asking head ≡ Some text
     → reads text ≡ Some document → known ≡ document
@@ -207,8 +271,33 @@ asks_both = record {
   parts_by_last = λ text document h r.
       subst (λ d. AllByRecursion (λ path. IsNoLater (asking path) (asking_in false)) (part_paths d)) (same_document changes_head text index document documents.1 h r)
       (inr (refl, omega arith), (inr (refl, omega arith), tt));
-  no_gap = λ at from all these h g.
-      let resources : 2 ≡ at = same_moment (2, listed) (at, all) (sym documents.2 ∙ h) in
-      let followed : 0 ≡ from = same_moment (0, changes) (from, these) (sym documents.3 ∙ g) in
-      omega (arith, resources, followed);
+  no_gap = λ all has.
+      let known = documents.2 in
+      let at : 2 ≡ all.at = same_moment (2, listed) (all.at, all.listed) (sym known.resources ∙ has.resources) in
+      let from : 0 ≡ all.from = same_moment (0, changes) (all.from, all.changes) (sym known.changes ∙ has.changes) in
+      omega (arith, at, from);
 }
+
+-- The mirror is what the source held after the commands of both sessions.
+pub is_mirrored : (d e f g : DiskState) (image other : List ℕ)
+    → IsMirrored start (two d e f g image other) standing (both d e f g image other)
+unfolding both
+is_mirrored d e f g image other = record {
+  gathered = gathered;
+  commands = first_commands ++ second_commands;
+  made = [];
+  has = documents.2;
+  stand = record { after_head = ([], refl); by_last = ([], refl); survive = ([], refl) };
+  next = inl refl;
+  mirrored = refl;
+}
+
+-- the first change of a group that comes behind the first session
+abbrev then_group : Command × ℕ
+then_group = (Group (single.Put (codes "c") (codes "text/plain") [] ∷ single.Delete (codes "a") ∷ []), 0)
+
+abbrev first_made : List Change
+first_made = bound (codes "c") false 3 no_bytes ∷ []
+
+pub first_of_group : AreFirstOfNext start first_commands (first_commands ++ then_group ∷ []) first_made
+first_of_group = record { next = then_group; comes = ([], refl); count = 1; fewer = omega arith; first = refl }

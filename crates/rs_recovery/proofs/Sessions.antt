@@ -17,7 +17,7 @@ use Rattle.rs_store.specs.declared.running.Ack.{Ack}
 use Rattle.rs_store.specs.Counted.{is_accepted, is_in_doubt, answered, counted_commands, acknowledged}
 use Rattle.rs_store.specs.Laws.{AnswersLeavePrefixes}
 use Rattle.rs_store.specs.Runs.{StandsForPrefix, Holding, condition_after, condition_behind}
-use Rattle.rs_recovery.specs.Sessions.{Session, all_asked, all_ended, asked, ended, counted, IsStopped, AreSessions, commands_left, AreLeft, OneStanding, OpeningsStopToo}
+use Rattle.rs_recovery.specs.Sessions.{Session, all_asked, all_ended, asked, ended, counted, IsSessionFrom, AreSessions, commands_left, AreLeft, OneStanding, OpeningsStopToo}
 use Rattle.rs_recovery.specs.Served.{Asking, CouldServe, HasServed, IsNoLater, IsPrefixOf, CommandsStand, SessionsStand}
 use Rattle.rs_recovery.specs.Recovered.{YieldsHeld}
 use Rattle.rs_recovery.proofs.FromBelow.{doubt_stays, held_is}
@@ -133,7 +133,7 @@ held_is_made s (c ∷ cs) (a ∷ acks) t is = after a.reply (λ u same. held_is_
     after (Err Device) rest same = absurd (doubt_stays s (state_after s (step s c.0 c.1)) cs acks t same)
     after (Err refusal) rest same = rest s same
 
-session_lengths : (s : Source) (x : Session) → IsStopped s x → length x.commands ≡ length x.acks
+session_lengths : (s : Source) (x : Session) → IsSessionFrom s x → length x.commands ≡ length x.acks
 session_lengths s x is =
     with_answers x.commands x.acks x.unanswered x.last.calls (answered_length x.first (Holding s) (asked x) (ended x) x.last is.answered)
 
@@ -218,18 +218,21 @@ image_left start x past (j ∷ standing) left = left.2
 
 module _ (once : StandsOnce) where
   -- the state in which a later session began is the one that the sessions before left
-  begins_at : (start s : Source) (x y : Session) (past : List Session) (standing : List ℕ) → AreLeft start (y ∷ past) standing → StandsFor y.image s → IsStopped s x
-      → IsStopped (fold_of start (commands_left (y ∷ past) standing)) x
+  begins_at : (start s : Source) (x y : Session) (past : List Session) (standing : List ℕ)
+      → AreLeft start (y ∷ past) standing → StandsFor y.image s → IsSessionFrom s x
+      → IsSessionFrom (fold_of start (commands_left (y ∷ past) standing)) x
   begins_at start s x y past standing left stands is =
-      subst (λ (t : Source). IsStopped t x) (once y.image s (fold_of start (commands_left (y ∷ past) standing)) stands (image_left start y past standing left)) is
+      let made : Source = fold_of start (commands_left (y ∷ past) standing) in
+      subst (λ (t : Source). IsSessionFrom t x) (once y.image s made stands (image_left start y past standing left)) is
 
   module _ (leave : AnswersLeavePrefixes) where
     -- what a stop of a session leaves
-    stopped_at : (s : Source) (x : Session) → IsStopped s x → StandsForPrefix s (asked x) (ended x) x.stop x.image
+    stopped_at : (s : Source) (x : Session) → IsSessionFrom s x → StandsForPrefix s (asked x) (ended x) x.stop x.image
     stopped_at s x is = (leave s x.first (asked x) (ended x) x.last is.answered).each x.stop x.image is.stopped.from is.stopped.to is.stopped.left
 
     -- one session more
-    one_more : (start : Source) (x : Session) (past : List Session) (standing : List ℕ) → IsStopped (fold_of start (commands_left past standing)) x
+    one_more : (start : Source) (x : Session) (past : List Session) (standing : List ℕ)
+        → IsSessionFrom (fold_of start (commands_left past standing)) x
         → AreLeft start past standing → AreServed start past standing → AreOrdered start past standing
         → (more : List ℕ) × CommandsStand start (x ∷ past) more
     one_more start x past standing is held served ordered =
@@ -258,7 +261,8 @@ module _ (once : StandsOnce) where
         one_more start x (y ∷ past) past_stand.0 (begins_at start are.0 x y past past_stand.0 stand.holds are.1 are.2) stand.holds stand.served stand.ordered
 
   -- two numbers of surviving commands of the latest session, where those of the sessions before are the same
-  same_latest : (start : Source) (x : Session) (past : List Session) (standing : List ℕ) (j k : ℕ) → IsStopped (fold_of start (commands_left past standing)) x
+  same_latest : (start : Source) (x : Session) (past : List Session) (standing : List ℕ) (j k : ℕ)
+      → IsSessionFrom (fold_of start (commands_left past standing)) x
       → AreLeft start (x ∷ past) (j ∷ standing) → AreLeft start (x ∷ past) (k ∷ standing) → k ≡ j
   same_latest start x past standing j k is left also =
       let before = commands_left past standing in
@@ -284,7 +288,8 @@ pub openings_stop_too : OpeningsStopToo
 openings_stop_too start x past before after are as_left opening =
     weaker before after (λ _. IsImage before.now) (λ _ image. AreSessions start (record x { image = image } ∷ past)) (λ m image is. again past are (as_left.images image is)) opening
   where
-    stopped_with : {image : List ℕ} (s : Source) → IsStopped s x → IsImageAt x.last x.stop image → IsStopped s (record x { image = image })
+    stopped_with : {image : List ℕ} (s : Source) → IsSessionFrom s x → IsImageAt x.last x.stop image
+        → IsSessionFrom s (record x { image = image })
     stopped_with s is at = record { answered = is.answered; stopped = record { from = is.stopped.from; to = is.stopped.to; left = at } }
 
     again : {image : List ℕ} (past : List Session) → AreSessions start (x ∷ past) → IsImageAt x.last x.stop image → AreSessions start (record x { image = image } ∷ past)

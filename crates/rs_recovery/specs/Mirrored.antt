@@ -49,13 +49,22 @@ OfParts asking head IsPart =
     (text : List ℕ) (document : Document) → answered_by asking head ≡ Some text → reads text ≡ Some document
     → AllByRecursion IsPart (part_paths document)
 
+-- what a destination gathered: the Resource List's moment and what it lists, the Change List's begin and its changes
+pub record Gathered : Type 0 where
+  pub at : ℕ
+  pub listed : List ListedResource
+  pub from : ℕ
+  pub changes : List Change
+
+-- Both lists read: these answers, each at its path, give what was gathered.
+pub record HasGathered (answers : List ℕ → Option (List ℕ)) (gathered : Gathered) : Type 0 where
+  pub resources : gather_resources answers ≡ Some (gathered.at, gathered.listed)
+  pub changes : gather_changes answers ≡ Some (gathered.from, gathered.changes)
+
 -- No change between the two gathered lists is missing: the Resource List's moment is not before the begin of the Change
 -- List.
 abbrev pub HaveNoGap : (List ℕ → Asking) → Type 0
-HaveNoGap asking =
-    (at from : ℕ) (listed : List ListedResource) (changes : List Change)
-    → gather_resources (answered_by asking) ≡ Some (at, listed)
-    → gather_changes (answered_by asking) ≡ Some (from, changes) → from ≤ at
+HaveNoGap asking = (gathered : Gathered) → HasGathered (answered_by asking) gathered → gathered.from ≤ gathered.at
 
 -- A destination asks for the Resource List's head and its parts, and for the Change List's, with the parts in any
 -- order. It asks for the Change List's head with the other head or later, and for none of the Change List's documents
@@ -72,30 +81,39 @@ pub record AsksBoth (asking : List ℕ → Asking) (last : Asking) : Type 0 wher
 abbrev pub changes_made : Source → Command × ℕ → List Change
 changes_made s c = drop (length s.changes) (state_after s (step s c.0 c.1)).changes
 
--- No changes, or the first of those that the next command makes after these ones. That command is a group, since no
--- other makes more than one.
-abbrev pub AreOfNext : Source → List (Command × ℕ) → List (Command × ℕ) → List Change → Type 0
-AreOfNext start commands whole made =
-    (made ≡ []) ⊎ ((next : Command × ℕ) × IsPrefixOf (commands ++ next ∷ []) whole
-    × (k : ℕ) × (k < length (changes_made (fold_of start commands) next)) × (made ≡ take k (changes_made (fold_of start commands) next)))
+-- The first changes of the next command, which comes after these ones in `whole`. They are not all that it makes. So
+-- where there is one, that command is a group, since no other makes more than one.
+pub record AreFirstOfNext (start : Source) (commands whole : List (Command × ℕ)) (made : List Change) : Type 0 where
+  pub next : Command × ℕ
+  pub comes : IsPrefixOf (commands ++ next ∷ []) whole
+  pub count : ℕ
+  pub fewer : count < length (changes_made (fold_of start commands) next)
+  pub first : made ≡ take count (changes_made (fold_of start commands) next)
 
--- Both lists read. The one mirrored with the other is what the source held after the first surviving commands: at least
--- those behind it when the destination asked for the Change List's head, and at most those at the last request. Where
--- the next command is a group, it may be what was held followed by the group's first changes (`made`).
-pub record IsMirrored (start : Source) (sessions : List Session) (standing : List ℕ) (both : Asked start sessions standing) : Type 0 where
-  pub at : ℕ
-  pub listed : List ListedResource
-  pub from : ℕ
-  pub changes : List Change
-  pub commands : List (Command × ℕ)
-  pub made : List Change
-  pub resources_gathered : gather_resources (answered_by both.asking) ≡ Some (at, listed)
-  pub changes_gathered : gather_changes (answered_by both.asking) ≡ Some (from, changes)
+-- no changes, or the first ones of the next command
+abbrev pub AreOfNext : Source → List (Command × ℕ) → List (Command × ℕ) → List Change → Type 0
+AreOfNext start commands whole made = (made ≡ []) ⊎ AreFirstOfNext start commands whole made
+
+-- These commands are the first of the surviving ones: at least those behind the Change List's head when the destination
+-- asked for it, and at most those behind the last request.
+pub record StandBetween {start : Source} {sessions : List Session} {standing : List ℕ}
+    (both : Asked start sessions standing) (commands : List (Command × ℕ)) : Type 0 where
   pub after_head : IsPrefixOf (both.behind changes_head) commands
   pub by_last : IsPrefixOf commands both.behind_last
-  pub stands : IsPrefixOf commands (commands_left sessions standing)
+  pub survive : IsPrefixOf commands (commands_left sessions standing)
+
+-- Both lists were gathered. The one mirrored with the other is what the source held after commands that stand between
+-- the requests. Where the next command is a group, it may be what was held followed by the group's first changes
+-- (`made`).
+pub record IsMirrored (start : Source) (sessions : List Session) (standing : List ℕ) (both : Asked start sessions standing) : Type 0 where
+  pub gathered : Gathered
+  pub commands : List (Command × ℕ)
+  pub made : List Change
+  pub has : HasGathered (answered_by both.asking) gathered
+  pub stand : StandBetween both commands
   pub next : AreOfNext start commands both.behind_last made
-  pub mirrored : mirror_of (map listed_entry listed) at changes ≡ mirror_of (entries (fold_of start commands).held) start.start made
+  pub mirrored : mirror_of (map listed_entry gathered.listed) gathered.at gathered.changes
+      ≡ mirror_of (entries (fold_of start commands).held) start.start made
 
 -- Over any number of sessions, whatever the stops, commands survive so that a destination that asks for both lists
 -- mirrors what was held. The first session began with the state that a formatting and some commands made: no commands

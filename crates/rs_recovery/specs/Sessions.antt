@@ -58,8 +58,8 @@ ended x = all_ended x.acks x.unanswered x.last.calls
 abbrev pub counted : Session → List (Command × ℕ)
 counted x = counted_commands (asked x) (ended x)
 
--- The commands were answered from this state on, and then the session was stopped.
-pub record IsStopped (s : Source) (x : Session) : Type 0 where
+-- A session began with a state: its commands were answered from this state on, and then a stop ended it.
+pub record IsSessionFrom (s : Source) (x : Session) : Type 0 where
   pub answered : AreAnswered x.first (Holding s) (asked x) (ended x) x.last
   pub stopped : IsStop x.first x.last x.stop x.image
 
@@ -67,21 +67,22 @@ pub record IsStopped (s : Source) (x : Session) : Type 0 where
 -- with the state `s` of the image that the stop before it had left. Each may be on a disk of another type.
 abbrev pub AreSessions : Source → List Session → Type 0
 AreSessions start [] = ⊥
-AreSessions start (x ∷ []) = IsStopped start x
-AreSessions start (x ∷ y ∷ past) = (s : Source) × StandsFor y.image s × IsStopped s x × AreSessions start (y ∷ past)
+AreSessions start (x ∷ []) = IsSessionFrom start x
+AreSessions start (x ∷ y ∷ past) = (s : Source) × StandsFor y.image s × IsSessionFrom s x × AreSessions start (y ∷ past)
 
--- A session whose disk saw its commands answered from a state on, and which a stop then ended, is stopped.
+-- A session whose disk saw its commands answered from a state on, and which a stop then ended, began with that state.
 abbrev pub StopsEndSessions : Type 0
-StopsEndSessions = (s : Source) (x : Session) → AreAnswered x.first (Holding s) (asked x) (ended x) x.last → IsStop x.first x.last x.stop x.image → IsStopped s x
+StopsEndSessions = (s : Source) (x : Session) → AreAnswered x.first (Holding s) (asked x) (ended x) x.last
+    → IsStop x.first x.last x.stop x.image → IsSessionFrom s x
 
--- A stopped session alone is the first one.
+-- A session alone is the first one.
 abbrev pub SessionsBegin : Type 0
-SessionsBegin = (start : Source) (x : Session) → IsStopped start x → AreSessions start (x ∷ [])
+SessionsBegin = (start : Source) (x : Session) → IsSessionFrom start x → AreSessions start (x ∷ [])
 
--- A stopped session is one more, if it began with the state of the image that the latest stop before it had left.
+-- A session is one more, if it began with the state of the image that the latest stop before it had left.
 abbrev pub SessionsFollow : Type 0
-SessionsFollow = (start s : Source) (x y : Session) (past : List Session) → AreSessions start (y ∷ past) → StandsFor y.image s → IsStopped s x
-    → AreSessions start (x ∷ y ∷ past)
+SessionsFollow = (start s : Source) (x y : Session) (past : List Session) → AreSessions start (y ∷ past)
+    → StandsFor y.image s → IsSessionFrom s x → AreSessions start (x ∷ y ∷ past)
 
 -- the commands behind the image of the latest stop, where of each session this many of the commands that count survive
 abbrev pub commands_left : List Session → List ℕ → List (Command × ℕ)
@@ -113,14 +114,23 @@ OpeningsStopToo = (start : Source) (x : Session) (past : List Session) (before a
     → AreSessions start (x ∷ past) → IsLeftBy x before → Leaves before after (λ _. IsImage before.now)
     → Leaves before after (λ _ image. AreSessions start (record x { image = image } ∷ past))
 
--- If the last command is one that the model accepts, its answer may be struck out: the session with Device in its place is
--- a stopped session too.
+-- If the last command is one that the model accepts, its answer may be struck out: the session with Device in its place
+-- began with the same state.
 abbrev pub AnswersMayBeMissing : Type 0
 AnswersMayBeMissing =
     (first : DiskState) (s t : Source) (commands : List (Command × ℕ)) (acks : List Ack) (c : Command × ℕ) (a : Ack) (last : DiskState) (stop : ℕ) (image : List ℕ)
     → AreAnswered first (Holding s) (commands ++ c ∷ []) (acks ++ a ∷ []) last → condition_behind (Holding s) commands acks ≡ Holding t
     → refusal_of t c.0 c.1 ≡ None → IsStop first last stop image
-    → IsStopped s (record { first = first; commands = commands; acks = acks; unanswered = Some c; last = last; stop = stop; image = image })
+    → IsSessionFrom s
+    (record {
+      first = first;
+      commands = commands;
+      acks = acks;
+      unanswered = Some c;
+      last = last;
+      stop = stop;
+      image = image;
+    })
 
 -- A source that holds a state has a session of no commands from that state on, before it is asked anything.
 abbrev pub HeldSourcesBegin : {D : Type 0} → (D → DiskState) → Type 0

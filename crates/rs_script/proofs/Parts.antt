@@ -21,7 +21,7 @@ use Rattle.rs_script.specs.Stopped.{replies_by, BeginsWithReply, SplitAtStop, Sc
 use Rattle.rs_script.specs.Statements.{request_by}
 use Rattle.rs_script.specs.declared.refusal.Refusal.{Refusal}
 use Rattle.rs_script.specs.declared.request.Request.{Request}
-use Rattle.rs_script.specs.Told.{line_reply, DoneStatement, IsOwnOutcome, IsOutcomeOf, moment_behind, AreDone, commands_of, acks_of, outcomes_of}
+use Rattle.rs_script.specs.Told.{line_reply, DoneStatement, IsOwnOutcome, IsStatementOutcome, moment_behind, AreDone, commands_of, acks_of, outcomes_of}
 
 told_reply : (result : Result Reply stored.Refusal) → line_reply (outcome_of_reply result) ≡ reply_in result
 told_reply (Ok reply) = refl
@@ -156,7 +156,7 @@ own_is_silent request (verified names sound) own = refl
 own_is_silent request (refused refusal) own = refl
 
 -- the outcome of a statement has the reply to its command
-one_told : (request : Result Request Refusal) (now : ℕ) (got : Option AnsweredCommand) (outcome : LineOutcome) → IsOutcomeOf request now got outcome
+one_told : (request : Result Request Refusal) (now : ℕ) (got : Option AnsweredCommand) (outcome : LineOutcome) → IsStatementOutcome request now got outcome
     → replies_in (ack_of got) ≡ line_reply outcome
 one_told request now None outcome is = sym (own_is_silent request outcome is)
 one_told request now (Some got) outcome is = append-nil (reply_in got.ack.reply) ∙ sym (told_reply got.ack.reply) ∙ ap line_reply (sym is.2)

@@ -19,7 +19,7 @@ use Rattle.rs_script.specs.Room.{TakesRoom, GroupTakesRoom}
 use Rattle.rs_script.specs.Statements.{Statement, single, grouped, cut_off, request_by, IsScript}
 use Rattle.rs_script.specs.Script.{Transcript}
 use Rattle.rs_script.specs.Session.{ScriptState, LineOutcome, Answer, moment_set, refused, unchanged}
-use Rattle.rs_script.specs.Told.{DoneStatement, IsOwnOutcome, IsOutcomeOf, moment_behind, AreDone, statements_of, outcomes_of, commands_of, acks_of, ScriptsDoStatements}
+use Rattle.rs_script.specs.Told.{DoneStatement, IsOwnOutcome, IsStatementOutcome, moment_behind, AreDone, statements_of, outcomes_of, commands_of, acks_of, ScriptsDoStatements}
 
 shows_body : (name : List ℕ) (result : Result (Vec ℕ Global) stored.Refusal) → IsOwnOutcome (Ok (Body name)) (shown_as result)
 shows_body name (Ok bytes) = tt
@@ -47,7 +47,7 @@ module _ {D : Type 0} (device : D → DiskState) (rest : RestIsIdle device) (rea
   -- what the source got for a request, by its outcome, and the moment behind it
   record Goes (old : ScriptState (Stored D)) (request : Result Request Refusal) (answer : Answer (Stored D)) : Type 0 where
     got : Option AnsweredCommand
-    is : IsOutcomeOf request old.now got answer.outcome
+    is : IsStatementOutcome request old.now got answer.outcome
     turn : InTurn device old.source (command_of got) (ack_of got) answer.session.source
     now : answer.session.now ≡ moment_behind request old.now answer.outcome
 

@@ -17,7 +17,7 @@ use Rattle.rs_script.specs.declared.request.Request.TheVariants.{Run, Status}
 use Rattle.rs_script.specs.Requests.{request_of}
 use Rattle.rs_script.specs.Session.{LineOutcome, moment_set, replied, shown, refused}
 use Rattle.rs_script.specs.Statements.{single}
-use Rattle.rs_script.specs.Told.{DoneStatement, IsOwnOutcome, IsOutcomeOf, AreDone, commands_of, acks_of}
+use Rattle.rs_script.specs.Told.{DoneStatement, IsOwnOutcome, IsStatementOutcome, AreDone, commands_of, acks_of}
 
 -- `at 5`, then `delete a`, then a `publish` in which the device fails
 abbrev done : List DoneStatement
@@ -46,7 +46,7 @@ worked_commands = (refl, refl)
 asks_other : (request : Result Request Refusal) (command : Command) → request ≡ Ok Status → request ≡ Ok (Run command) → ⊥
 asks_other request command is other = absurd cc
 
-pub status_asks_nothing : (now : ℕ) (got : AnsweredCommand) (outcome : LineOutcome) → IsOutcomeOf (request_of (codes "status")) now (Some got) outcome → ⊥
+pub status_asks_nothing : (now : ℕ) (got : AnsweredCommand) (outcome : LineOutcome) → IsStatementOutcome (request_of (codes "status")) now (Some got) outcome → ⊥
 unfolding request_of fields
 status_asks_nothing now got outcome is = asks_other (Ok Status) got.asked.0 refl is.0
 

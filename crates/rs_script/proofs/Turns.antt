@@ -15,7 +15,7 @@ use Rattle.rs_script.specs.Finished.{bytes_of, StopsReading, StopsWriting, Reads
 use Rattle.rs_script.specs.Progress.{IsCalled, Beginning, Stand, Progress, Answered, Came, ReadsNoMore}
 use Rattle.rs_script.specs.Script.{ScriptGives, ScriptsRecover, ScriptsMakeWalks}
 use Rattle.rs_script.specs.Session.{script_state, LineOutcome}
-use Rattle.rs_script.specs.Told.{NamesAreLawful, CameWhole, ScriptsDoStatements, ScriptsTellNames, TellsStatements}
+use Rattle.rs_script.specs.Told.{NamesAreLawful, ScriptsDoStatements, ScriptsTellNames, TellsStatements}
 use Rattle.rs_script.proofs.ReaderCalls.{one_more, calls_more}
 use Rattle.rs_script.proofs.Steps.{Progress-whole, ran_of, broke_after, no_more}
 
@@ -126,7 +126,7 @@ module _ {D R W : Type 0} (device : D → DiskState) (remaining : R → Option (
 
   module _ (new : Stored D) (last : ℕ) (input : List ℕ) (outcomes : List LineOutcome) (commands : List (Command × ℕ))
       (gives : ScriptGives device (script_state start 0) input outcomes commands (script_state new last))
-      (came : CameWhole (seen_by remaining first) (seen_by remaining reader) input) where
+      (came : Came remaining first reader input) where
     -- these bytes of the answers are written
     tells : (part left_out : List ℕ) → part ++ left_out ≡ output_of outcomes → Appends (contents (watched before)) (contents (watched after)) part → Tells new
     unfolding Tells
@@ -174,5 +174,5 @@ module _ {D R W : Type 0} (device : D → DiskState) (remaining : R → Option (
       let whole = Progress-whole device contents laws start before input here progress in
       let ran = whole.0 in
       tells_all here.source ran.last ran.input ran.outcomes ran.commands ran.gives
-      (inr (whole.3, whole.1, subst (λ (bytes : List ℕ). Consumes (remaining (watched first)) (remaining (watched reader)) bytes) whole.2 came))
+      (inl ((whole.1, subst (λ (bytes : List ℕ). Consumes (remaining (watched first)) (remaining (watched reader)) bytes) whole.2 came), whole.3))
       (Appends-kept (contents (watched before)) (contents (watched here.writer)) (contents (watched after)) (output_of ran.outcomes) whole.5.0 kept)

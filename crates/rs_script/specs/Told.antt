@@ -1,8 +1,8 @@
 -- What a script tells of its statements, and which commands its source got for them.
-use Rattle.std.specs.Prelude.{◌≡◌, ◌⊎◌, ℕ, List, [], ◌∷◌, ◌++◌, map, flat_map, All, IsTrue, Option, Some, None, Result, Ok}
-use Rattle.std.specs.Io.KnownBytes.{Consumes, Appends, IsAtEnd}
+use Rattle.std.specs.Prelude.{◌≡◌, ℕ, List, [], ◌∷◌, ◌++◌, map, flat_map, All, IsTrue, Option, Some, None, Result, Ok}
+use Rattle.std.specs.Io.KnownBytes.{Appends}
 use Rattle.rs_disk.specs.Medium.{DiskState}
-use Rattle.rs_io.specs.Watch.{watched, End, Ends}
+use Rattle.rs_io.specs.Watch.{watched, Ends}
 use Rattle.rs_model.specs.State.{Source}
 use Rattle.rs_model.specs.declared.command.Command.{Command}
 use Rattle.rs_model.specs.declared.command.Reply.{Reply}
@@ -15,10 +15,12 @@ use Rattle.rs_script.specs.declared.refusal.Refusal.{Refusal}
 use Rattle.rs_script.specs.declared.request.Request.{Request}
 use Rattle.rs_script.specs.declared.request.Request.TheVariants.{At, Run, Document, Body, Status, Verify}
 use Rattle.rs_script.specs.Answers.{output_of}
+use Rattle.rs_script.specs.Finished.{bytes_of}
 use Rattle.rs_script.specs.Outcomes.{outcome_of_reply}
+use Rattle.rs_script.specs.Progress.{Came}
 use Rattle.rs_script.specs.Script.{ScriptGives}
 use Rattle.rs_script.specs.Session.{ScriptState, LineOutcome, moment_set, replied, shown, counted, verified, refused}
-use Rattle.rs_script.specs.Statements.{Statement, request_by, IsScript, AreWholeStatements}
+use Rattle.rs_script.specs.Statements.{Statement, request_by, IsScript}
 
 -- the reply in the outcome of a statement, where the source accepted a command
 abbrev pub line_reply : LineOutcome → List Reply
@@ -48,9 +50,9 @@ IsOwnOutcome request outcome = ⊥
 
 -- Where the source got a command for a statement, the statement asks for this command, which came at the moment of the script, and its
 -- answer is the outcome. Where the source got none, the outcome is the statement's own.
-abbrev pub IsOutcomeOf : Result Request Refusal → ℕ → Option AnsweredCommand → LineOutcome → Type 0
-IsOutcomeOf request now None outcome = IsOwnOutcome request outcome
-IsOutcomeOf request now (Some got) outcome = (request ≡ Ok (Run got.asked.0)) × (got.asked.1 ≡ now) × (outcome ≡ outcome_of_reply got.ack.reply)
+abbrev pub IsStatementOutcome : Result Request Refusal → ℕ → Option AnsweredCommand → LineOutcome → Type 0
+IsStatementOutcome request now None outcome = IsOwnOutcome request outcome
+IsStatementOutcome request now (Some got) outcome = (request ≡ Ok (Run got.asked.0)) × (got.asked.1 ≡ now) × (outcome ≡ outcome_of_reply got.ack.reply)
 
 -- the moment of a script behind a statement with this outcome
 abbrev pub moment_behind : Result Request Refusal → ℕ → LineOutcome → ℕ
@@ -61,7 +63,7 @@ moment_behind request now outcome = now
 abbrev pub AreDone : ℕ → List DoneStatement → Type 0
 AreDone now [] = Unit {0}
 AreDone now (d ∷ done) =
-    IsOutcomeOf (request_by d.statement) now d.got d.outcome × AreDone (moment_behind (request_by d.statement) now d.outcome) done
+    IsStatementOutcome (request_by d.statement) now d.got d.outcome × AreDone (moment_behind (request_by d.statement) now d.outcome) done
 
 abbrev pub statements_of : List DoneStatement → List Statement
 statements_of done = map (λ d. d.statement) done
@@ -77,12 +79,6 @@ commands_of done = flat_map (λ d. command_of d.got) done
 abbrev pub acks_of : List DoneStatement → List Ack
 acks_of done = flat_map (λ d. ack_of d.got) done
 
--- The bytes of a script came, and its reader gave no others; or whole statements of it came, and the reader may have given more.
-abbrev pub CameWhole : End → End → List ℕ → Type 0
-CameWhole left rest input =
-    (Consumes (watched left) (watched rest) input × IsAtEnd (watched rest))
-    ⊎ (AreWholeStatements input × (more : List ℕ) × Consumes (watched left) (watched rest) (input ++ more))
-
 -- Statements of a script are done, and their outcomes were written, the last of them perhaps in part.
 -- `input`, `came`, `cut`: what came of the script are these statements, each of them once.
 -- `in_turn`, `done_so`: the source got one command at most for each statement, the one that it asks for, and answered these commands
@@ -93,7 +89,7 @@ CameWhole left rest input =
 pub record TellsStatements {D : Type 0} (device : D → DiskState) (old new : Stored D) (ends : Ends) : Type 0 where
   pub done : List DoneStatement
   pub input : List ℕ
-  pub came : CameWhole ends.left ends.rest input
+  pub came : Came bytes_of ends.left ends.rest input
   pub cut : IsScript input (statements_of done)
   pub done_so : AreDone 0 done
   pub in_turn : InTurn device old (commands_of done) (acks_of done) new

@@ -64,7 +64,8 @@ pub fn moment_of(since_1970: io::Result<Duration>) -> Moment
     }
 }
 
-/// Serves one request at the moment `now`, between any two ends.
+/// Serves one request at the moment `now`, between any two ends. It is [`serve_one`] with fewer words: its answers' three
+/// clauses are one relation here, which is what a connection's clause has of them.
 fn serve_request<D: Disk, R: Read, W: Write>(
     alloc: Global,
     source: &mut Source<D>,

@@ -17,7 +17,7 @@ use Rattle.rs_store.specs.Source.{Stored, state_of}
 -- `closed`, `not_held`: these refusals come exactly where their cause is there.
 -- `damaged`, `others`: the cause of Damaged, and which other refusals there are.
 -- `once`: it reads the body at most once, also a damaged one, in pieces of 262,144 bytes; `unread`: without a body it reads nothing.
--- `runs`: Device comes exactly where a device call failed.
+-- `runs`: Device comes where a device call failed, and else only where the count of calls is at its last value.
 -- `reads_only`: only the counts of the disk change, and the source stays open, also after Device.
 pub record AnswersBody {D : Type 0} (device : D → DiskState) (old new : Stored D) (name : List ℕ) (result : Result (Vec ℕ Global) Refusal) : Type 0 where
   pub reads : IfOk result (λ bytes. IsTrue (device new.disk).honest → body_of name (state_of device old) ≡ Some bytes.items)

@@ -75,8 +75,8 @@ pub record RefusesCopy {D E : Type 0} (device : D → DiskState) (other : E → 
 -- `once`: it reads each body at most once, also a damaged one.
 -- `advances`: the new disk keeps its size, and its counts do not fall.
 -- `stops`: no call of a disk comes behind a failed one of that disk, and at most one call fails.
--- `any_moment`: if the new disk had more than three calls, or none failed, then from its third call on, which is its first sync, each of
--- its images tells no root, or represents the state that the source holds.
+-- `any_moment`: if the new disk had more than three calls, or none failed, then from its third call on each of its images tells no root,
+-- or represents the state that the source holds.
 pub record IsCopying {D E : Type 0} (device : D → DiskState) (other : E → DiskState) (old new : Stored D) (to disk : E) : Type 0 where
   pub reads_only : OnlyReads device old new
   pub once : CallsAtMost (calls_for_held (state_of device old).held) (device old.disk) (device new.disk)

@@ -49,8 +49,9 @@ IsOfVerify refusal = IsOfLook refusal
 -- `names`: exactly the held names whose bytes lack their recorded SHA-256, in ascending order, if the device has followed the model.
 -- `few`: from every device, at most as many names as are held.
 -- `once`: it reads each body at most once, also a damaged one.
--- `closed`, `unread`: Closed comes exactly from a closed source, whose disk is not read; `runs`: Device comes exactly where a device call failed; `others`: the only
--- other refusal is NoMemory.
+-- `closed`, `unread`: Closed comes exactly from a closed source, whose disk is not read.
+-- `runs`: Device comes where a device call failed, and else only where the count of calls is at its last value.
+-- `others`: the only other refusal is NoMemory.
 -- `reads_only`: only the counts of the disk change, and the source stays open, also after Device.
 pub record AnswersVerify {D : Type 0} (device : D → DiskState) (old new : Stored D) (result : Result (Vec (List ℕ) Global) Refusal) : Type 0 where
   pub names : IfOk result (λ names. IsTrue (device new.disk).honest → names.items ≡ damaged_names (state_of device old))

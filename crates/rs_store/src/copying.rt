@@ -24,8 +24,9 @@ impl<D: Disk> Source<D> {
     /// Copies the source to another disk, in place of whatever that disk holds. The copy has the same
     /// state. This source stays as it is, and its disk is only read.
     ///
-    /// Bodies are copied in pieces, so memory grows with the lists alone. After a stop at any moment
-    /// behind its first sync, the new disk holds no source, or the same state.
+    /// Bodies are copied in pieces, so memory grows with the lists alone. The first three calls of the
+    /// new disk close what it held. Once they succeeded, a stop at any moment leaves no source there,
+    /// or the same state.
     ///
     /// # Errors
     ///

@@ -101,6 +101,7 @@ impl<D: Disk> Source<D> {
         if let Some(refused) = self.refused_group(items, now) {
             return Err(refused.into());
         }
+        // Not the call alone, as in `deciding`: by `?` the prover takes an accepted group and a refused one apart.
         let moment = self.next_moment(now)?;
         Ok(moment)
     }

@@ -153,7 +153,7 @@ returns-in_err-take_end-clause-answered g c =
     let end = c.in_err-take_end.ensures.err _ inv.input p in
     tells_part g.D.Disk.state g.R.Read.remaining g.W.Write.contents (c.scripts_recover.ensures, c.scripts_make_walks.ensures) (c.scripts_do_statements.ensures.done, c.scripts_do_statements.ensures.names)
     c.args.source.now c.args.reader.now c.read.new.self c.args.writer.now c.take_end.new.writer
-    c.take_end.new.source c.take_end.new.self.between.moment inv.input end.0 end.1 end.2 (inl (gave, c.in_ok-count.ensures.end c.if-count-eq0.true (omega arith))) end.3
+    c.take_end.new.source c.take_end.new.self.between.moment inv.input end.0 end.1 end.2 (inr (gave, c.in_ok-count.ensures.end c.if-count-eq0.true (omega arith))) end.3
 
 pub returns-in_err-flush-2-clause-answered : goal.returns-in_err-flush-2-clause-answered
 returns-in_err-flush-2-clause-answered g c =
@@ -163,7 +163,7 @@ returns-in_err-flush-2-clause-answered g c =
     let end = c.in_ok-take_end.ensures.ok _ inv.input p in
     tells_all g.D.Disk.state g.R.Read.remaining g.W.Write.contents (c.scripts_recover.ensures, c.scripts_make_walks.ensures) (c.scripts_do_statements.ensures.done, c.scripts_do_statements.ensures.names)
     c.args.source.now c.args.reader.now c.read.new.self c.args.writer.now c.flush-then-count-eq0.new.self
-    c.take_end.new.source c.take_end.new.self.between.moment inv.input end.0 end.1 end.2 (inl (gave, c.in_ok-count.ensures.end c.if-count-eq0.true (omega arith)))
+    c.take_end.new.source c.take_end.new.self.between.moment inv.input end.0 end.1 end.2 (inr (gave, c.in_ok-count.ensures.end c.if-count-eq0.true (omega arith)))
     (Appends-kept (g.W.Write.contents (watched c.args.writer.now)) (g.W.Write.contents (watched c.take_end.new.writer))
     (g.W.Write.contents (watched c.flush-then-count-eq0.new.self)) (output_of end.0) end.3.0 c.flush-then-count-eq0.ensures.bytes)
 
@@ -175,7 +175,7 @@ returns-then-count-eq0-clause-answered g c =
     let end = c.in_ok-take_end.ensures.ok _ inv.input p in
     tells_all g.D.Disk.state g.R.Read.remaining g.W.Write.contents (c.scripts_recover.ensures, c.scripts_make_walks.ensures) (c.scripts_do_statements.ensures.done, c.scripts_do_statements.ensures.names)
     c.args.source.now c.args.reader.now c.read.new.self c.args.writer.now c.flush-then-count-eq0.new.self
-    c.take_end.new.source c.take_end.new.self.between.moment inv.input end.0 end.1 end.2 (inl (gave, c.in_ok-count.ensures.end c.if-count-eq0.true (omega arith)))
+    c.take_end.new.source c.take_end.new.self.between.moment inv.input end.0 end.1 end.2 (inr (gave, c.in_ok-count.ensures.end c.if-count-eq0.true (omega arith)))
     (Appends-kept (g.W.Write.contents (watched c.args.writer.now)) (g.W.Write.contents (watched c.take_end.new.writer))
     (g.W.Write.contents (watched c.flush-then-count-eq0.new.self)) (output_of end.0) end.3.0 c.flush-then-count-eq0.ensures.bytes)
 
@@ -189,4 +189,4 @@ returns-in_err-take_piece-clause-answered g c =
     tells_part g.D.Disk.state g.R.Read.remaining g.W.Write.contents (c.scripts_recover.ensures, c.scripts_make_walks.ensures) (c.scripts_do_statements.ensures.done, c.scripts_do_statements.ensures.names)
     c.args.source.now c.args.reader.now c.read.new.self c.args.writer.now c.take_piece.new.writer
     c.take_piece.new.source c.take_piece.new.self.between.moment (inv.input ++ e.0) stops.0.0 stops.0.1 stops.0.2
-    (inr (stops.1, gave.0, gave.1)) stops.0.3
+    (inl (gave, stops.1)) stops.0.3
