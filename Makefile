@@ -18,7 +18,8 @@
 #   make powercut cuts the power below ext4, XFS and btrfs, on a device whose writes are logged, IMAGES=20000 images (as root, with FUSE and
 #                 loop devices; 'make test' has a short form)
 #   make snapshots  opens snapshots that are taken while a source is put to (as root, with loop devices; 'make test' has it not)
-#   make long     runs all of these long forms (tests/long.txt) and tries all must-fail edits, and says what each took
+#   make long     runs all of these long forms (tests/long.txt, operations/tests/long.txt) and tries all must-fail edits, and says what
+#                 each took
 #   make rust     writes the sources as plain Rust, a Cargo workspace and its tarball, into out/rust (rust/README.md)
 #   make twins    builds that too, and gives both programs the same CASES=1000000 lines, disks, requests and command lines
 #   make planted  plants each bug of tests/planted in the plain program, which a check has to notice ('make test' draws some)
@@ -41,7 +42,8 @@ SYSTEM = $(filter-out operations.tests.system.install,$(shell python3 -m tests.c
 # How many go side by side: checks of edits, if not as many as there are processors and memory for. (`make replicas` reads it too.)
 LANES ?=
 
-.PHONY: help demo test quick long setup edits build rows statement bench bench-more bench-two bench-month proof-times memory ends crash hostile system powercut snapshots rust twins planted pictures
+# Each target is told above, or in operations/Makefile; none is a file.
+.PHONY: $(shell sed -n 's/^.   make \([a-z-]*\) .*/\1/p' Makefile operations/Makefile)
 
 help:
 	@sed -n 's/^#   //p' Makefile operations/Makefile
@@ -51,15 +53,15 @@ demo:
 	@RT=$(RT) python3 examples/demo $(SCRIPT) $(BASE)
 
 test:
-	@python3 gate/gate.py
+	@python3 -m gate.gate
 
-# What a change since the last commit touches: texts, types, layout, changed crates, checks (tests/checks.txt).
+# What a change since the last commit touches: texts, types, layout, the statement, changed crates, checks.
 quick:
-	@python3 gate/quick.py
+	@python3 -m gate.quick
 
-# The long forms of checks (tests/long.txt), and all must-fail edits. A setting of theirs goes behind `make`, as DISKS=1000.
+# All long forms of checks, and all must-fail edits. A setting of theirs goes behind `make`, as DISKS=1000.
 long: build
-	@python3 gate/long.py
+	@python3 -m gate.long
 
 # What the tests use of Debian (as root).
 setup:
@@ -67,11 +69,11 @@ setup:
 
 # What they stand on is proved and built first, over what earlier checks kept.
 edits:
-	@python3 gate/edits/edits.py --record $(if $(LANES),--jobs $(LANES)) $(CRATES)
+	@python3 -m gate.edits.edits --record $(if $(LANES),--jobs $(LANES)) $(CRATES)
 
 # The proved program, its crates side by side; its path is printed last.
 build:
-	@python3 gate/build.py
+	@python3 -m gate.build
 	@python3 -B -m operations.package.stamp crates/rs_source/out/rs_source
 
 rows: build
@@ -79,8 +81,8 @@ rows: build
 
 # It reads texts alone: nothing is built.
 statement:
-	@python3 statement/statement.py --html out/statement.html
-	@python3 statement/statement.py --promise "$(PROMISE)"
+	@python3 -m statement.statement --html out/statement.html
+	@python3 -m statement.statement --promise "$(PROMISE)"
 
 bench: build
 	python3 -m bench.run
@@ -109,35 +111,15 @@ bench-month: build
 proof-times:
 	@python3 -m bench.proofs $(CRATES)
 
-memory: build
-	@python3 gate/long.py system.memory
-
-ends: build
-	@python3 gate/long.py ends
-
-crash: build
-	@python3 gate/long.py crash
-
-hostile: build
-	@python3 gate/long.py hostile.disks hostile.lines hostile.requests
+# The long forms of these checks. (gate/long.py knows `hostile` as three, and `memory` without its `system.`)
+memory ends crash hostile powercut snapshots twins planted: build
+	@python3 -m gate.long $@
 
 system: build
 	@for it in $(SYSTEM); do python3 -m $$it || exit 1; done
 
-powercut: build
-	@python3 gate/long.py powercut
-
-snapshots: build
-	@python3 gate/long.py system.snapshots
-
 rust:
 	@python3 -m rust
-
-twins: build
-	@python3 gate/long.py twins
-
-planted: build
-	@python3 gate/long.py planted
 
 # One check alone, as `make tests.system.calls`.
 tests.% operations.tests.%: build

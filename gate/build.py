@@ -1,4 +1,3 @@
-#!/usr/bin/env python3
 """Proves and builds the program as the gate does: `rt ci` in a copy of the program's crates, without must-fail edits.
 
 What `rt ci` proves it keeps on this machine by the checksums of all that it read. So after `make test` this proves
@@ -13,13 +12,11 @@ import sys
 import tempfile
 from pathlib import Path
 
-ROOT = Path(__file__).resolve().parent.parent
-sys.path[:0] = [str(ROOT / "gate" / "edits"), str(ROOT)]
-
-import kit
-import runs
+from gate import runs
+from gate.edits import kit
 from rattle.crates import below, crates_of
 
+ROOT = Path(__file__).resolve().parent.parent
 LOG = ROOT / "out" / "build.log"
 PROGRAM = "rs_source"
 BUILT = ROOT / "crates" / PROGRAM / "out" / PROGRAM

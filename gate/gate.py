@@ -1,4 +1,3 @@
-#!/usr/bin/env python3
 """The gate of `make test`. Its last line is 'N passed, M failed', with ', K skipped' where a part or a piece of one was
 not tried. Its status is 1 where M is not 0. With STRICT=1 what is skipped fails.
 
@@ -9,7 +8,6 @@ before.
 """
 
 import os
-import re
 import shutil
 import subprocess
 import sys
@@ -21,18 +19,14 @@ from concurrent.futures import ThreadPoolExecutor
 from pathlib import Path
 from typing import Protocol
 
-ROOT = Path(__file__).resolve().parent.parent
-sys.path[:0] = [str(ROOT / "gate" / "edits"), str(ROOT)]
-
-import edit
-import edits
-import kit
-import record
-import runs
+from gate import runs
+from gate.edits import edit, edits, kit, record
 from rattle.crates import crates_of
 from tests import verdict
+from tests.skipped import SKIPPED, is_line, line_of
 from tests.table import checks
 
+ROOT = Path(__file__).resolve().parent.parent
 LOG = ROOT / "out" / "test.log"
 # The seconds of each part (`python3 -m tests.checks --note out/seconds.txt` notes those of checks).
 SECONDS = ROOT / "out" / "seconds.txt"
@@ -40,11 +34,10 @@ SECONDS = ROOT / "out" / "seconds.txt"
 WIDTH = 120
 # Where the program lies that cargo builds of the same sources (rust/README.md).
 PLAIN = "out/rust/ropepeach-plain-*/target/release/rs_source"
+# What is made before a check, beside the program, where it runs by itself: the title of the part, and its module.
+BEFORE = {"twins": ("plain Rust", "rust.build")}
 # How many of a part passed, what failed, and why pieces of it were not tried, if it has such pieces.
 Result = tuple[int, list[str]] | tuple[int, list[str], list[str]]
-# How a check ends that could not be tried, and how a line says so of a check or of a piece of it, behind its name.
-SKIPPED = 77
-NOT_TRIED = re.compile(r"^[\w .-]+: NOT TRIED\b")
 
 
 class Output:
@@ -173,8 +166,19 @@ def some_edits(copy: Path, tried: dict[str, list[str]]) -> Result:
 
 def script(*words: str | Path, folder: Path | None = None, **settings: str) -> Script:
     """A part that is a program of its own, run in a folder with settings of the environment, and passes with status 0.
-    Status SKIPPED says that it could not be tried; a line NOT TRIED says why, or which piece of it could not be."""
+    Status SKIPPED says that it could not be tried; a line says why, or which piece of it could not be."""
     return lambda output=None: program(sys.executable, words, folder, settings, output)
+
+
+def without(name: str, why: str, is_skipped: bool) -> Script:
+    """A part that has nothing to look at. It is skipped where what would have made that was, and fails otherwise."""
+
+    def told(output: Output | None = None) -> Result:
+        text = line_of(name, why) if is_skipped else f"{name}: {why}"
+        (output or Output()).take(f"{text}\n")
+        return (0, [], [text]) if is_skipped else (0, [text])
+
+    return told
 
 
 def program(command: str, words: Iterable[str | Path], folder: Path | None, settings: dict[str, str] | None = None,
@@ -189,23 +193,33 @@ def program(command: str, words: Iterable[str | Path], folder: Path | None, sett
                           env=environment) as process:
         for line in process.stdout or ():
             output.take(line)
-            not_tried += [line.strip()] if NOT_TRIED.search(line) else []
+            not_tried += [line.strip()] if is_line(line) else []
         _, status, usage = os.wait4(process.pid, 0)
         process.returncode = os.waitstatus_to_exitcode(status)
     output.seconds = usage.ru_utime + usage.ru_stime
     if process.returncode == SKIPPED:
-        return 0, [], not_tried or [f"{name} does not say why it was not tried"]
+        return 0, [], not_tried or [line_of(name, "it does not say why")]
     failed = [f"{name} ended with status {process.returncode}"] if process.returncode else []
     return int(not failed), failed, not_tried
+
+
+def prepare(parts: Parts, check: str, *more: str) -> None:
+    """Makes what this check needs beside the program, by its module and more words."""
+    if check in BEFORE:
+        title, module = BEFORE[check]
+        parts.run(title, script("-m", module, *more, folder=ROOT))
 
 
 def plain(parts: Parts, copy: Path) -> list[tuple[str, Script]]:
     """Builds the sources as plain Rust, and gives the checks of what the program that is built of them answers."""
     parts.run("the eraser's own tests", script("-m", "rust.tests", folder=copy))
+    before = len(parts.skipped)
     parts.run("plain Rust", script("-m", "rust.build", folder=copy))
+    is_skipped = len(parts.skipped) > before
     built = str(next(iter(copy.glob(PLAIN)), ""))
-    return [(f"{check.name}, of the plain program", script("-m", *check.words, folder=copy, PROGRAM=built))
-            for check in checks() if built and check.is_plain_too]
+    of_plain = {f"{check.name}, of the plain program": check for check in checks() if check.is_plain_too}
+    return [(name, script("-m", *check.words, folder=copy, PROGRAM=built) if built
+             else without(name, "there is no plain program", is_skipped)) for name, check in of_plain.items()]
 
 
 def proved(copy: Path) -> list[tuple[str, Script]]:
@@ -216,7 +230,7 @@ def proved(copy: Path) -> list[tuple[str, Script]]:
 def types() -> Result:
     """Whether the types of Python are right, in the files that mypy.ini names, here and in operations/."""
     if not shutil.which("mypy"):
-        return 0, [], ["types: NOT TRIED: there is no mypy here"]
+        return 0, [], [line_of("types", "there is no mypy here")]
     settings = [name for name in ("mypy.ini", "operations/mypy.ini") if Path(ROOT, name).is_file()]
     failed = [fault for name in settings for fault in program("mypy", ["--config-file", name], ROOT)[1]]
     return int(not failed), failed
@@ -290,7 +304,7 @@ def main() -> int:
         os.chmod(room, 0o711)
         os.environ["TMPDIR"] = tempfile.tempdir = room
         copy = runs.copied(ROOT, room, lambda name: "/must-fail/" not in name)
-        parts.run("the gate's own tests", script(ROOT / "gate" / "tests"))
+        parts.run("the gate's own tests", script("-m", "gate.tests", folder=ROOT))
         parts.run("the layout", lambda: layout([*files_of("*.rt", "*.antt", below=ROOT / "crates"), *files_of("*.py")]))
         parts.run("the texts of edits", fitting)
         parts.run("the record of edits", dates)
@@ -299,8 +313,8 @@ def main() -> int:
         parts.run("the pages", script("-m", "tests.house.words", folder=ROOT))
         parts.run("types", types)
         parts.run("proofs by hand", script("-m", "tests.house.hand_proofs", folder=copy))
-        parts.run("the statement", script(copy / "statement" / "statement.py", "--check"))
-        parts.run("the statement's own tests", script(copy / "statement" / "test_statement.py"))
+        parts.run("the statement", script("-m", "statement.statement", "--check", folder=copy))
+        parts.run("the statement's own tests", script("-m", "statement.test_statement", folder=copy))
         if parts.run("proofs, tests and builds", lambda: runs.rt_ci(copy, uses, LOG, meter.seconds)):
             parts.run("must-fail edits", lambda: some_edits(copy, tried))
             # One for two processors, since some of them measure time.

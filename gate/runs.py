@@ -11,7 +11,8 @@ from collections.abc import Callable, Collection
 from itertools import count
 from pathlib import Path
 
-import kit
+from gate.edits import kit
+from tests.table import lines
 
 # What the toolchain says of a crate, or of its tests, behind what it printed of it.
 DONE = re.compile(r"rt: (\w+)(: its tests are)? (proved|NOT PROVED|is kept)")
@@ -33,8 +34,7 @@ def copied(root: Path, room: str, is_wanted: Callable[[str], bool]) -> Path:
 
 def table() -> dict[str, int]:
     """Seconds of a processor by name."""
-    rows = [line.split() for line in SECONDS.read_text().splitlines() if line and not line.startswith("#")]
-    return {name: int(figure) for name, figure in rows}
+    return {name: int(figure) for name, figure in map(str.split, lines(SECONDS.read_text()))}
 
 
 def proving(processors: int, with_tests: bool = False) -> float:

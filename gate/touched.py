@@ -1,14 +1,21 @@
-"""What a change since the last commit touches: files, crates, and checks by the table of tests/checks.txt."""
+"""What a change since the last commit touches: files, crates, and checks by the tables checks.txt."""
 
+import re
 import subprocess
 from pathlib import Path
 
 from tests.modules import imported, place_of
 from tests.table import Check
 
+# What the record of must-fail edits speaks of.
+OF_EDITS = re.compile(r"crates/\w+/(src|specs|proofs|must-fail)/|gate/edits/record\.txt$")
+
+
 def changed(root: Path) -> list[str]:
     """The files that are not as the last commit has them: changed, new or gone."""
-    commands = (["diff", "--name-only", "-z", "HEAD"], ["ls-files", "-z", "--others", "--exclude-standard"])
+    # (of a file that moved both names changed)
+    commands = (["diff", "--name-only", "--no-renames", "-z", "HEAD"],
+                ["ls-files", "-z", "--others", "--exclude-standard"])
     outputs = [subprocess.run(["git", *words], cwd=root, capture_output=True, check=True).stdout.decode()
                for words in commands]
     return sorted({name for output in outputs for name in output.split("\0") if name})
@@ -18,6 +25,11 @@ def crates(uses: list[str], names: list[str]) -> list[str]:
     """The crates whose code, specs or proofs are among these files, in the order of the crates."""
     places = {crate: tuple(f"crates/{crate}/{part}/" for part in ("src", "specs", "proofs")) for crate in uses}
     return [crate for crate in uses if any(name.startswith(places[crate]) for name in names)]
+
+
+def may_make_edits_due(names: list[str]) -> bool:
+    """Whether must-fail edits may have to be tried anew for one of these files."""
+    return any(map(OF_EDITS.match, names))
 
 
 def files_of(root: Path, module: str) -> list[Path]:

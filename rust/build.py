@@ -15,8 +15,8 @@ from pathlib import Path
 from rust import __main__ as writing
 from rust.crates import ROOT, Missing, vendored
 from rust.workspace import FEATURE, PROGRAM, RUST_VERSION
+from tests.skipped import skipped
 
-NOT_TRIED = 77
 # Where Debian's is, beside what PATH has.
 PLACES = ["/usr/bin/cargo"]
 SETTINGS = ["--locked", "--offline"]
@@ -67,8 +67,7 @@ def main() -> int | str:
     try:
         tool, _ = cargo(), list(vendored())
     except Missing as why:
-        print(f"plain: NOT TRIED: {why}")
-        return NOT_TRIED
+        return skipped("plain", why)
     status = writing.run(options.to)
     if status:
         return status

@@ -11,13 +11,13 @@ from collections.abc import Iterable
 from dataclasses import dataclass
 from pathlib import Path
 
-import tables
-from promises import Promise
 from rattle import antt
 from rattle.antt import Definition
 from rattle.code import functions_of
-from reach import closure
-from world import Item, Unknown, World
+from statement import tables
+from statement.promises import Promise
+from statement.reach import closure
+from statement.world import Item, Unknown, World
 
 # The kinds, and where each may point.
 KINDS = {
@@ -120,12 +120,10 @@ def bare(definitions: Iterable[Definition], found: dict[str, list[Evidence]]) ->
 def labels_of(world: World, piece: Evidence) -> set[str]:
     """The labels of all that a law or an example speaks of."""
     if piece.path.endswith(".rt"):
-        laws = [function for function in world.code[piece.path].functions if function.name == piece.name]
-        pairs = [(law, clause) for law in laws for clause in law.clauses]
+        pairs = world.law(piece.path, piece.name)
         first: list[Item] = [used for pair in pairs for used in world.links_of_clause(*pair).values()]
     else:
-        module = "Rattle." + piece.path.removeprefix("crates/").removesuffix(".antt").replace("/", ".")
-        first = [world.target(module, piece.name)]
+        first = [world.stated(piece.path, piece.name)]
     return {item.label for item in closure(world, first)}
 
 

@@ -15,9 +15,9 @@ from collections.abc import Iterable
 from dataclasses import dataclass
 
 from rattle.antt import Definition
-from relations import Node
-from tables import Wrong
-from terms import Relation
+from statement.relations import Node
+from statement.tables import Wrong
+from statement.terms import Relation
 
 LINE = re.compile(r"(.+?) (from|law|trust|case): (.+)$")
 # The kinds by which clauses conclude a premise.

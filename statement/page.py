@@ -8,13 +8,13 @@ import html
 import re
 from collections.abc import Iterable, Mapping
 
-import tables
-from evidence import KINDS, Evidence
-from promises import Promise
 from rattle.antt import Definition
-from shown import counted, declared, meaning, summary
-from source import Type
-from world import Item, Links, World
+from statement import tables
+from statement.evidence import KINDS, Evidence
+from statement.promises import Promise
+from statement.shown import counted, declared, meaning, summary
+from statement.source import Type
+from statement.world import Item, Links, World
 
 STYLE = """
 body { margin: 0 auto; max-width: 64rem; padding: 1rem; font: 1rem/1.5 serif; color: #222; background: #fff; }

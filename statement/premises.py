@@ -11,14 +11,14 @@ concludes it from relations that are there. So no clause shows what it takes its
 
 from dataclasses import dataclass, replace
 
-from evidence import Evidence
-from givens import CONCLUDED, Line
-from promises import Promise
 from rattle.antt import Definition
-from relations import Node, Reader, cases, is_of_values, is_type
-from source import Clause, Function
-from terms import Relation
-from world import World
+from statement.evidence import Evidence
+from statement.givens import CONCLUDED, Line
+from statement.promises import Promise
+from statement.relations import Node, Reader, cases, is_of_values, is_type
+from statement.source import Clause, Function
+from statement.terms import Relation
+from statement.world import World
 
 
 @dataclass
@@ -36,9 +36,8 @@ class Printed:
 
 def name_of(function: Function, clause: Clause) -> str:
     """The name of a clause, as promises.txt has it."""
-    owner = f"{function.owner}::" if function.owner else ""
     part = f"{clause.part.name}.{clause.part.part}" if clause.part else clause.name
-    return f"{function.crate} {owner}{function.name} {part}".rstrip()
+    return f"{function.crate} {function.full_name} {part}".rstrip()
 
 
 def clauses_of(reader: Reader, promise: Promise) -> list[Printed]:
@@ -168,12 +167,14 @@ def text_of(node: Node) -> str:
     return node.term.text if isinstance(node.term, Relation) else node.place
 
 
-def follow(world: World, promises: list[Promise]) -> None:
-    """Follows the premises of each promise to what gives them."""
+def follow(world: World, promises: list[Promise]) -> list[Chain]:
+    """Follows the premises of each promise to what gives them, and tells the promise."""
     reader = Reader(world)
-    for promise in promises:
-        promise.chain = Chain(reader, promise)
-        promise.chain.follow()
+    found = [Chain(reader, promise) for promise in promises]
+    for promise, chain in zip(promises, found):
+        chain.follow()
+        promise.spoken = chain.spoken
+    return found
 
 
 def unspoken(found: list[Chain]) -> list[str]:
@@ -216,9 +217,9 @@ def uninhabited(reader: Reader, found: list[Chain], shown: set[Definition]) -> l
     return [definition.label for definition in assumed if not known & {definition, *reader.same_as(definition)}]
 
 
-def faults(world: World, promises: list[Promise], pieces: dict[str, list[Evidence]]) -> list[str]:
+def faults(world: World, found: list[Chain], pieces: dict[str, list[Evidence]]) -> list[str]:
     """The premises that nothing gives, the lines that speak of none, and the relations that no example has."""
-    reader, found = Reader(world), [promise.chain for promise in promises if promise.chain]
+    reader = Reader(world)
     wrong = [f"statement/promises.txt: {fault}" for chain in found for fault in chain.faults]
     wrong += [f"statement/promises.txt: {fault}" for fault in unspoken(found)]
     empty = uninhabited(reader, found, shown_by(reader, pieces))

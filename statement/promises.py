@@ -2,17 +2,14 @@
 
 import re
 from dataclasses import dataclass, field
-from typing import TYPE_CHECKING
 
-import givens
 from rattle.antt import Definition
-from reach import Reach, reach
-from source import Clause, Function
-from tables import HERE, Wrong
-from world import Item, World
-
-if TYPE_CHECKING:
-    from premises import Chain
+from statement import givens
+from statement.reach import Reach, reach
+from statement.relations import Node
+from statement.source import Clause, Function
+from statement.tables import HERE, Wrong
+from statement.world import Item, World
 
 # The page with a row for each promise.
 TABLE = "docs/PROMISES.md"
@@ -42,8 +39,8 @@ class Promise:
     elsewhere: dict[str, list[Definition]] = field(default_factory=dict)
     # What gives its premises: its own lines, and those that stand before all promises.
     premises: list[givens.Line] = field(default_factory=list)
-    # Its premises, each with the line that gives it, once they are followed.
-    chain: "Chain | None" = None
+    # Its premises by their names, of each line that gives some, once they are followed (premises.py).
+    spoken: dict[givens.Line, dict[str, Node]] = field(default_factory=dict)
     reach: Reach = field(default_factory=lambda: Reach([], []))
 
     @property
@@ -63,7 +60,7 @@ class Promise:
         between = [f"{listed(self.between)}: {why}"] if self.between else []
         elsewhere = [f"{listed(words)}: the promise '{title}' prints what they mean."
                      for title, words in self.elsewhere.items()]
-        return [*(givens.sentences(self.chain.spoken) if self.chain else []), *between, *elsewhere]
+        return [*givens.sentences(self.spoken), *between, *elsewhere]
 
 
 def listed(definitions: list[Definition]) -> str:

@@ -12,8 +12,8 @@ from collections.abc import Callable, Collection, Iterable
 from dataclasses import dataclass
 
 from rattle.antt import Definition
-from source import Type
-from world import Item, KitWord, World
+from statement.source import Type
+from statement.world import Item, KitWord, World
 
 # What an item reaches at once.
 Uses = Callable[[Item], list[Item]]

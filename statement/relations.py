@@ -3,12 +3,11 @@
 from collections.abc import Callable, Iterable, Iterator
 from dataclasses import dataclass, field
 
-import terms
-import words
 from rattle.antt import Definition, Name
-from source import Clause, Function
-from terms import Arrow, Joined, Relation, Term
-from world import Item, KitWord, Unknown, World
+from statement import terms, words
+from statement.source import Clause, Function
+from statement.terms import Arrow, Joined, Relation, Term
+from statement.world import Item, KitWord, Unknown, World
 
 # What a word means where it stands: something of the repository or of the kit, or nothing that is known by name.
 Scope = Callable[[str], object]
@@ -93,16 +92,13 @@ class Reader:
         term = terms.term(words.tokens_of(clause.inner.splitlines()))
         code = self.world.code[function.path]
         scope = self.scope({**code.brought, **function.brought}, code.aliases, {})
-        place = f"{function.owner}::{function.name}" if function.owner else function.name
-        return [Node(term, scope, f"{place} {clause.name}".rstrip())] if term else []
+        return [Node(term, scope, f"{function.full_name} {clause.name}".rstrip())] if term else []
 
     def statement(self, path: str, name: str) -> list[Node]:
         """What a law or a statement with its proof says, by its file and its name."""
         if path.endswith(".rt"):
-            laws = [function for function in self.world.code[path].functions if function.name == name]
-            return [node for law in laws for clause in law.clauses for node in self.clause(law, clause)]
-        module = path.removeprefix("crates/").removesuffix(".antt").replace("/", ".")
-        target = self.world.target(f"Rattle.{module}", name)
+            return [node for pair in self.world.law(path, name) for node in self.clause(*pair)]
+        target = self.world.stated(path, name)
         return self.opened(target) if isinstance(target, Definition) else []
 
     def same_as(self, definition: Definition) -> list[Definition]:

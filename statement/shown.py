@@ -4,12 +4,11 @@ import re
 import textwrap
 from collections.abc import Iterable, Mapping
 
-import evidence
-import tables
-from promises import Promise
 from rattle.antt import Definition
-from reach import Chapter
-from source import Type
+from statement import evidence, tables
+from statement.promises import Promise
+from statement.reach import Chapter
+from statement.source import Type
 
 WIDTH = 110
 HEAD = """Of each: its sentence; the clauses that carry it; its premises, which stand left of an arrow there, and which

@@ -51,9 +51,14 @@ class Function:
     local: set[str]
 
     @property
+    def full_name(self) -> str:
+        """What it belongs to, and its name."""
+        return f"{self.owner}::{self.name}" if self.owner else self.name
+
+    @property
     def label(self) -> str:
         """Its crate, what it belongs to, and its name."""
-        return f"{self.crate}::{self.owner}::{self.name}" if self.owner else f"{self.crate}::{self.name}"
+        return f"{self.crate}::{self.full_name}"
 
 
 @dataclass(eq=False)

@@ -1,10 +1,9 @@
-#!/usr/bin/env python3
 """Prints the statement of each promise: its sentence, the clauses that carry it, and all that these mean.
 
-    statement.py                      prints the statements of all promises (promises.txt)
-    statement.py --promise headline   that of the promises whose title has this word
-    statement.py --html FILE          writes all as one page, in which each word leads to its definition
-    statement.py --check              prints no statement, and one line where nothing is wrong
+    python3 -m statement.statement     prints the statements of all promises (promises.txt)
+      --promise headline               that of the promises whose title has this word
+      --html FILE                      writes all as one page, in which each word leads to its definition
+      --check                          prints no statement, and one line where nothing is wrong
 
 Whoever wants to believe a promise has to read its statement, and no more: the proofs are checked by the prover, and the
 code against the clauses. The order is that of reach.py. Before all else it looks at the tables beside it. A word of the
@@ -19,18 +18,11 @@ import sys
 from collections.abc import Mapping
 from pathlib import Path
 
+from statement import evidence, givens, page, premises, shown, tables
+from statement.promises import Promise, promises
+from statement.world import Unknown, World
+
 ROOT = Path(__file__).resolve().parent.parent
-sys.path.append(str(ROOT))
-
-import evidence
-import givens
-import page
-import premises
-import shown
-import tables
-from promises import Promise, promises
-from world import Unknown, World
-
 Pieces = dict[str, list[evidence.Evidence]]
 
 
@@ -54,7 +46,7 @@ def check(every: list[Promise], pieces: Pieces) -> int:
     """The check of the gate."""
     reached = dict.fromkeys(definition for promise in every for definition in promise.reach.definitions)
     bare = evidence.bare(reached, pieces)
-    lines = dict.fromkeys(line for promise in every if promise.chain for line in promise.chain.spoken)
+    lines = dict.fromkeys(line for promise in every for line in promise.spoken)
     kinds = {kind: sum(line.kind == kind for line in lines) for kind in givens.WORDS}
     print(f"{len(every)} promises: {kinds['from'] + kinds['law']} lines say which clause concludes a premise, "
           f"{kinds['trust']} which is trusted, {kinds['case']} which case is spoken of; "
@@ -87,11 +79,11 @@ def main() -> int:
     try:
         world = World(ROOT)
         every, pieces, meanings = promises(world), evidence.evidence(world), tables.kit_words()
-        premises.follow(world, every)
+        chains = premises.follow(world, every)
     except (Unknown, tables.Wrong) as fault:
         return refused([str(fault)])
     found = tables.faults_of_kit(every, meanings) + evidence.faults(world, every, pieces)
-    found += premises.faults(world, every, pieces)
+    found += premises.faults(world, chains, pieces)
     return refused(found) or run(words, world, every, pieces, meanings)
 
 

@@ -4,6 +4,8 @@ from collections.abc import Iterable, Mapping
 from pathlib import Path
 from typing import Any
 
+from tests.table import lines
+
 HERE = Path(__file__).resolve().parent
 LANGUAGE = "language."
 
@@ -14,8 +16,7 @@ class Wrong(Exception):
 
 def rows(name: str, text: str | None = None) -> list[str]:
     """The lines of a table that are no comments."""
-    lines = (text if text is not None else (HERE / name).read_text()).splitlines()
-    return [line for line in lines if line.strip() and not line.startswith("#")]
+    return lines(text if text is not None else (HERE / name).read_text())
 
 
 def kit_words(text: str | None = None) -> dict[str, str]:

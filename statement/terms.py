@@ -2,7 +2,7 @@
 
 from dataclasses import dataclass
 
-import words
+from statement import words
 
 # Signs between types, the weakest first: each of two gives the other; one is there; both are.
 JOINED = ("↔", "⊎", "×")

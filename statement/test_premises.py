@@ -1,24 +1,16 @@
 """Tests of the premises: how a type is taken apart, what gives a premise, and what is planted in our own promises."""
 
 import re
-import sys
 import tempfile
 import unittest
 from pathlib import Path
 
-ROOT = Path(__file__).resolve().parent.parent
-sys.path.append(str(ROOT))
-
-import evidence
-import premises
-import promises
-import tables
-import terms
-import words
 from rattle import antt
-from terms import Arrow, Joined, Relation
-from world import World
+from statement import evidence, premises, promises, tables, terms, words
+from statement.terms import Arrow, Joined, Relation
+from statement.world import World
 
+ROOT = Path(__file__).resolve().parent.parent
 SPECS = """-- Doors.
 use Rattle.std.specs.Prelude.{ℕ, ◌≡◌, ◌⊎◌, ◌≤◌, IsTrue, Result, IfOk, List, [], ◌∷◌}
 
@@ -194,8 +186,7 @@ def repository(room: str, files: dict[str, str]) -> World:
 def faults(world: World, table: str | None = None, shown: str | None = None, first: int | None = None) -> list[str]:
     """What is wrong with the premises: of all promises, or of the first ones."""
     every = promises.promises(world, table)[:first]
-    premises.follow(world, every)
-    return premises.faults(world, every, evidence.evidence(world, shown))
+    return premises.faults(world, premises.follow(world, every), evidence.evidence(world, shown))
 
 
 def ungrounded(*clauses: str) -> list[str]:

@@ -1,26 +1,18 @@
-#!/usr/bin/env python3
 """Tests of the statement: what its readers take from specs and code, what a promise reaches, what the check refuses."""
 
 import re
-import sys
 import tempfile
 import unittest
 from pathlib import Path
 
-ROOT = Path(__file__).resolve().parent.parent
-sys.path.append(str(ROOT))
-
-import evidence
-import page
-import promises
-import shown
-import source
-import tables
-import words
 from rattle import antt
-from reach import reach
-from test_premises import Given, Planted, Terms, repository
-from world import Unknown, World
+from statement import evidence, page, promises, shown, source, tables, words
+from statement.reach import reach
+from statement.test_premises import Given, Planted, Terms, repository
+from statement.world import Unknown, World
+
+ROOT = Path(__file__).resolve().parent.parent
+
 
 __all__ = ["Fields", "Given", "Planted", "Reached", "Readers", "Repository", "Terms"]
 

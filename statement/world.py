@@ -11,11 +11,10 @@ from collections.abc import Mapping, Sequence
 from dataclasses import dataclass, replace
 from pathlib import Path
 
-import source as rust
-import words
 from rattle import antt
 from rattle.code import blanked
 from rattle.crates import crates_of
+from statement import source as rust, words
 
 # Words of the language itself: they are explained at the head of the statement.
 LANGUAGE = {"Unit", "tt", "⊥", "absurd", "×", "¬"}
@@ -82,6 +81,16 @@ class World:
         if not passed or passed[0][0] not in self.crates:
             raise Unknown(f"{crate} has no type {name}")
         return self.type_of(*passed[0])
+
+    def law(self, path: str, name: str) -> list[tuple[rust.Function, rust.Clause]]:
+        """The clauses of the functions of this name in a file of code, each with its function."""
+        laws = [function for function in self.code[path].functions if function.name == name]
+        return [(law, clause) for law in laws for clause in law.clauses]
+
+    def stated(self, path: str, name: str) -> Item:
+        """What a name of a file of specs or proofs is."""
+        module = path.removeprefix("crates/").removesuffix(".antt").replace("/", ".")
+        return self.target(f"Rattle.{module}", name)
 
     def target(self, module: str, name: str) -> Item:
         """What a name of a module is."""

@@ -4,8 +4,7 @@ usage: python3 -m tests.checks                 prints the table as tests/README.
        python3 -m tests.checks --write         writes it there anew
        python3 -m tests.checks --below PACKAGE the modules of the checks below a package that `make test` runs whole,
                                                for the Makefile
-       python3 -m tests.checks --note FILE     notes the seconds that `make test` (out/seconds.txt) or `make long`
-                                               (out/long.txt) took
+       python3 -m tests.checks --note FILE     notes the seconds that `make test` took (out/seconds.txt)
 """
 
 import argparse
@@ -13,7 +12,7 @@ import re
 from pathlib import Path
 
 from tests.made import Made
-from tests.table import LONG, PAGE, ROOMS, TABLE, Check, checks, folder, lines
+from tests.table import PAGE, ROOMS, TABLE, Check, checks, folder, lines
 
 # The table that the page has.
 MADE = Made("checks.txt", "tests.checks")
@@ -30,14 +29,14 @@ def drawn(every: list[Check]) -> str:
     return "\n".join(["| check | what it holds the program to | what it needs |", "|---|---|---|", *map(row_of, every)])
 
 
-def noted(text: str, seconds: dict[str, int], at: int = 4) -> str:
-    """A table with the seconds that were taken in this column of it."""
+def noted(text: str, seconds: dict[str, int]) -> str:
+    """A table with the seconds that were taken."""
     found = []
     for line in text.splitlines():
         name = line.partition(" | ")[0].strip()
         if line in lines(text) and name in seconds:
             parts = line.split(" | ")
-            line = " | ".join([*parts[:at], str(seconds[name]), *parts[at + 1 :]])
+            line = " | ".join([*parts[:4], str(seconds[name]), *parts[5:]])
         found.append(line)
     return "\n".join(found) + "\n"
 
@@ -63,9 +62,8 @@ def main() -> None:
     for room in ROOMS:
         page = folder(room) / PAGE
         if options.note:
-            name, at = (LONG, 3) if options.note.name == LONG else (TABLE, 4)
-            table = folder(room) / name
-            table.write_text(noted(table.read_text(), seconds_of(options.note.read_text()), at))
+            table = folder(room) / TABLE
+            table.write_text(noted(table.read_text(), seconds_of(options.note.read_text())))
         if options.write:
             page.write_text(MADE.with_part(page.read_text(), drawn(checks(room))))
 

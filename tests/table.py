@@ -77,12 +77,11 @@ def checks(*rooms: str) -> list[Check]:
 
 @dataclass(frozen=True)
 class Long:
-    """The long form of a check: its words, the settings in them, and the seconds that it last took."""
+    """The long form of a check: its words, and the settings in them."""
 
     name: str
     form: str
     settings: dict[str, str]
-    seconds: int
 
     def words(self, environment: Mapping[str, str]) -> list[str]:
         """Its words, with the settings of an environment where it has them."""
@@ -93,11 +92,11 @@ class Long:
 def parsed_long(room: str, line: str) -> Long:
     """A line of the table of long forms of a package."""
     parts = [part.strip() for part in line.split(" | ")]
-    settings = [word.partition("=") for word in parts[2].split()] if len(parts) == 4 and parts[2] != "-" else []
-    if len(parts) != 4 or not parts[3].isdigit() or not all(name and value for name, _, value in settings):
+    settings = [word.partition("=") for word in parts[2].split()] if len(parts) == 3 and parts[2] != "-" else []
+    if len(parts) != 3 or not all(name and value for name, _, value in settings):
         raise BadTable(f"{room}, {LONG}: not a line of the table: {line}")
     form = "" if parts[1] == "-" else parts[1]
-    return Long(parts[0], form, {name: value for name, _, value in settings}, int(parts[3]))
+    return Long(parts[0], form, {name: value for name, _, value in settings})
 
 
 def long_forms() -> dict[str, Long]:
@@ -109,6 +108,6 @@ def long_forms() -> dict[str, Long]:
     for room in ROOMS:
         listed_forms = [parsed_long(room, line) for line in lines((folder(room) / LONG).read_text())]
         found |= {f"{room}.{form.name}": form for form in listed_forms}
-        found |= {check.module: Long(check.name, "", {}, 0) for check in checks(room)
+        found |= {check.module: Long(check.name, "", {}) for check in checks(room)
                   if check.form != "whole" and check.module not in found}
     return found

@@ -50,7 +50,8 @@ def git(root: Path, *words: str) -> str:
 
 def state_of(root: Path) -> State:
     """The state of a repository now. What git ignores does not count."""
-    changes = git(root, "status", "--porcelain", "-z", "--untracked-files=all").split("\0")
+    # (a file that moved is one that is gone and one that is new)
+    changes = git(root, "status", "--porcelain", "-z", "--no-renames", "--untracked-files=all").split("\0")
     return State(git(root, "rev-parse", "HEAD").strip(), tuple(sorted(change[3:] for change in changes if change)))
 
 

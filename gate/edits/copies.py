@@ -5,22 +5,23 @@ function, since names alone differ: a function that any other text of the crate'
 not copied.
 """
 
-from __future__ import annotations
-
 import re
 from functools import cache
 from pathlib import Path
-from typing import TYPE_CHECKING
 
+from gate.edits.edit import Edit, Texts
 from rattle.code import functions_of, item_of
-
-if TYPE_CHECKING:
-    from edit import Edit, Texts
 
 
 def proof_folder(symbol: str) -> Path:
     """Where a function's proof files stand in its crate."""
     return Path("proofs", *symbol.split("::")[1:])
+
+
+def has_proof_of_its_own(folder: str | Path, symbol: str) -> bool:
+    """Whether a function of a crate is proved by hand, or calls itself, which gives its proof's folder a +."""
+    place = Path(folder, proof_folder(symbol))
+    return (place / "Proof.antt").is_file() or (place.parent / f"+{place.name}").is_dir()
 
 
 def proof_module(symbol: str) -> str:
@@ -43,9 +44,8 @@ def can_be_copied(edit: Edit, folder: str | Path) -> bool:
         return False
     symbol = next(iter(edit.symbols))
     place, name = Path(folder, proof_folder(symbol)), re.escape(".".join(symbol.split("::")[1:]))
-    by_hand = [place / "Proof.antt", place.parent / f"+{place.name}", place.parent / "fn" / place.name]
-    is_of_trait = re.search(r"\bfor\b|\Atrait\b", edit.function.block)
-    if edit.function.name == "main" or is_of_trait or any(path.exists() for path in by_hand):
+    has_proof = has_proof_of_its_own(folder, symbol) or (place.parent / "fn" / place.name).exists()
+    if edit.function.name == "main" or has_proof or re.search(r"\bfor\b|\Atrait\b", edit.function.block):
         return False
     others = [text for file, text in texts_of(folder) if file.parent != place]
     return not any(re.search(rf"\b(?:proofs|contracts)\.{name}\b", text) for text in others)

@@ -1,4 +1,4 @@
-"""Must-fail edits: what they change, and which of them can be tried in one check."""
+"""Must-fail edits: what each changes, and what came of it."""
 
 import os
 import re
@@ -7,9 +7,8 @@ from dataclasses import dataclass, field
 from enum import Enum
 from pathlib import Path
 
-import copies
+from gate.edits.symbols import symbol_of
 from rattle.code import Function, functions_of
-from symbols import symbol_of
 
 # The texts of files, by their paths in a crate.
 Texts = dict[str, str]
@@ -96,34 +95,3 @@ def look(edit: Edit, folder: str | Path, symbols: Iterable[str]) -> None:
         found.setdefault(symbol, inside[0] if inside else None)
     edit.symbols = {symbol for symbol in found if symbol} if all(found) else set()
     edit.function = next(iter(found.values()))
-
-
-@dataclass
-class Group:
-    """Edits that are tried in one check: the edit of each function or copy by its symbol, and the texts of all."""
-
-    tried: dict[str, Edit] = field(default_factory=dict)
-    texts: Texts = field(default_factory=dict)
-
-    def takes(self, edit: Edit, folder: str | Path) -> bool:
-        """Takes an edit, on a copy of its function or, where that has none, in its place. False where it can't."""
-        texts: Texts | None
-        edited = applied(edit, folder)
-        if edited and copies.can_be_copied(edit, folder):
-            texts, symbols = copies.with_copy(self.texts, folder, edit, edited, len(self.tried))
-        else:
-            symbols = edit.symbols
-            texts = None if symbols & {*self.tried} else applied(edit, folder, self.texts)
-        if texts:
-            self.texts, self.tried = texts, {**self.tried, **dict.fromkeys(symbols, edit)}
-        return bool(texts)
-
-
-def grouped(edits: Iterable[Edit], folder: str | Path) -> list[Group]:
-    """Groups of edits, each tried in one check. Those that no copy serves come first, while each text stands once."""
-    groups: list[Group] = []
-    for edit in sorted(edits, key=lambda one: copies.can_be_copied(one, folder)):
-        if not any(group.takes(edit, folder) for group in groups):
-            groups.append(Group())
-            groups[-1].takes(edit, folder)
-    return groups

@@ -1,12 +1,12 @@
-#!/usr/bin/env python3
 """Tries must-fail edits: wrong bodies, each of which the prover has to refuse by a goal of the function it changes.
 
 Many edits of bodies are tried in one check, each on a copy of its function where that can be copied, and each is
 refused by an error or an open goal of that very copy. One that has none there is tried once more alone, as is one that
 changes more.
 
-Prints a line for each edit. The last line is 'N refused, M not refused', and the status is 1 where M is not 0.
-With --record the file goals.txt is written, and record.txt for the crates of which every edit was refused.
+Prints a line for each edit, and names those that may be refused for their form alone (forms.py). The last line is
+'N refused, M not refused', and the status is 1 where M is not 0. With --record the file goals.txt is written, and
+record.txt for the crates of which every edit was refused.
 """
 
 import argparse
@@ -18,15 +18,10 @@ from collections.abc import Callable, Iterable, Mapping, Sequence
 from concurrent.futures import ThreadPoolExecutor, as_completed
 from pathlib import Path
 
-sys.path.append(str(Path(__file__).resolve().parents[2]))
-
-import edit
-import goals
-import kit
-import record
-import verdict
-from edit import Edit, Group, Texts
-from libraries import Libraries
+from gate.edits import edit, forms, goals, kit, record, verdict
+from gate.edits.edit import Edit, Texts
+from gate.edits.groups import Group, grouped
+from gate.edits.libraries import Libraries
 from rattle.crates import crates_of
 
 
@@ -91,7 +86,7 @@ class Trial:
 
     def try_together(self, room: str, edits: list[Edit]) -> None:
         """Tries edits of bodies, many in one check, with all but the known goal of each left out."""
-        groups = edit.grouped(edits, self.folder)
+        groups = grouped(edits, self.folder)
         for group in groups:
             for symbol, one in group.tried.items():
                 group.texts = goals.left_out(group.texts, self.folder, symbol, one)
@@ -176,6 +171,7 @@ def main() -> int:
     tried = try_crates(options.root, names, options.jobs, noted)
     refused = [one.is_refused for edits in tried.values() for one in edits]
     tries = kit.used() / 60 - built
+    print("\n".join(forms.told(Path(options.root), names)))
     print(f"minutes of a processor: {built:.1f} for crates that were not built, {tries:.1f} for the edits")
     print(f"{sum(refused)} refused, {len(refused) - sum(refused)} not refused")
     return 0 if all(refused) else 1

@@ -1,26 +1,24 @@
-#!/usr/bin/env python3
 """Names the must-fail edits whose refusal may be of form alone.
 
 Where a function has answers by hand, they cite its ways out and its locals. An edit that adds a way out, or takes a
 local or a call away that they cite, breaks them whether its body is wrong or not. So an edit is named where the goal by
 which it was last seen refused (goals.txt) has an answer by hand, and the edit does one of these. It reads texts alone.
+`make edits` and `make long` tell them behind what came of the edits.
 
-usage: python3 gate/edits/forms.py     the last line tells how many there are
+usage: python3 -m gate.edits.forms     the last line tells how many there are
 """
 import collections
 import re
 import sys
+from collections.abc import Iterable
 from pathlib import Path
 
-ROOT = Path(__file__).resolve().parents[2]
-sys.path.append(str(ROOT))
-
-import edit
-import goals
+from gate.edits import edit, goals
+from gate.edits.symbols import module_of, words_of
 from rattle.code import Function, blanked, functions_of
 from rattle.crates import crates_of
-from symbols import module_of, words_of
 
+ROOT = Path(__file__).resolve().parents[2]
 # What adds a way out, or a branch.
 WAYS = re.compile(r"\breturn\b|\bbreak\b|\bif\b|\belse\b|\bmatch\b|\bwhile\b|\bfor\b|\bloop\b|\?|&&|\|\||=>")
 # What a text binds, or calls: an answer by hand cites it by this name.
@@ -75,16 +73,17 @@ def why_of_form(crate: Path, one: edit.Edit) -> str:
     return ""
 
 
+def told(root: Path, crates: Iterable[str]) -> list[str]:
+    """A line for each edit of these crates that is named, and one that tells how many there are."""
+    known = goals.known(root)
+    every = [(root / "crates" / crate, one) for crate in crates for one in edit.of_crate(root, crate, known)]
+    lines = [f"{one.label}: {one.goal}: {why}" for crate, one in every if (why := why_of_form(crate, one))]
+    return [*lines, f"forms: {len(lines)} of {len(every)} edits may be refused for their form alone"]
+
+
 def main() -> int:
     """Names them, and gives the status."""
-    known, count, count_named = goals.known(ROOT), 0, 0
-    for crate in crates_of(ROOT):
-        for one in edit.of_crate(ROOT, crate, known):
-            count += 1
-            if why := why_of_form(ROOT / "crates" / crate, one):
-                count_named += 1
-                print(f"{one.label}: {one.goal}: {why}")
-    print(f"forms: {count_named} of {count} edits may be refused for their form alone")
+    print("\n".join(told(ROOT, crates_of(ROOT))))
     return 0
 
 

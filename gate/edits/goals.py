@@ -10,8 +10,9 @@ import re
 from collections.abc import Iterable
 from pathlib import Path
 
-import copies
-from edit import Edit, Texts
+from gate.edits import copies
+from gate.edits.edit import Edit, Outcome, Texts
+from tests.table import lines
 
 FILE = "gate/edits/goals.txt"
 HEAD = "# The goal by which each must-fail edit was last seen refused. Written by `make edits`.\n"
@@ -27,14 +28,15 @@ NO_GOAL = "no_goal_of_any_function"
 def known(root: str | Path) -> dict[str, str]:
     """The goal of each edit that has a line, by its label."""
     text = Path(root, FILE).read_text() if Path(root, FILE).is_file() else ""
-    return dict(line.split(": ") for line in text.splitlines() if line and not line.startswith("#"))
+    return dict(line.split(": ") for line in lines(text))
 
 
 def write(root: str | Path, crate: str, edits: Iterable[Edit]) -> None:
-    """Writes the lines of a crate's edits anew."""
-    lines = {label: goal for label, goal in known(root).items() if not label.startswith(f"{crate}/")}
-    lines.update({edit.label: edit.goal for edit in edits if edit.is_refused and edit.goal})
-    Path(root, FILE).write_text(HEAD + "".join(f"{label}: {lines[label]}\n" for label in sorted(lines)))
+    """Writes the lines of a crate's edits anew. One that was not tried keeps its line, as its crate is not proved."""
+    found = {label: goal for label, goal in known(root).items() if not label.startswith(f"{crate}/")}
+    found |= {edit.label: edit.goal for edit in edits
+              if edit.goal and edit.outcome in (Outcome.REFUSED, Outcome.NOT_TRIED)}
+    Path(root, FILE).write_text(HEAD + "".join(f"{label}: {found[label]}\n" for label in sorted(found)))
 
 
 def of_function(work: str | Path, symbol: str) -> list[str]:
@@ -66,7 +68,7 @@ def left_out(texts: Texts, folder: str | Path, symbol: str, edit: Edit) -> Texts
     """These texts, with the answers of a function or its copy that leave out all but the known goal of an edit.
     Over an answer to no goal, the prover does not run once more to print what it would offer for the open ones."""
     place, goals = copies.proof_folder(symbol), beside(edit, folder)
-    if Path(folder, place.parent, f"+{place.name}").is_dir() or Path(folder, place, "Proof.antt").is_file():
+    if copies.has_proof_of_its_own(folder, symbol):
         return texts
     path, module = place / "Answers.antt", f"{copies.proof_module(symbol)}.Goals"
     text = texts.get(str(path)) or (Path(folder, path).read_text() if Path(folder, path).is_file() else "")

@@ -10,8 +10,7 @@ from pathlib import Path
 from threading import Semaphore
 from typing import Any
 
-import kit
-import verdict
+from gate.edits import kit, verdict
 from rattle.crates import below, crates_of
 
 # What is called as a crate is built, with its name and the report of its check.

@@ -11,9 +11,10 @@ from collections.abc import Iterable, Mapping
 from functools import cache
 from pathlib import Path
 
-import kit
+from gate.edits import kit
 from rattle import antt, code
 from rattle.crates import below, crates_of
+from tests import table
 
 FILE = "gate/edits/record.txt"
 HEAD = ("# Crates all of whose must-fail edits were seen refused: name, number of edits, day, kit, hash. "
@@ -58,7 +59,7 @@ def hash_of(root: str | Path, uses: Mapping[str, list[str]], name: str, logic: s
 def lines(root: str | Path) -> dict[str, tuple[str, ...]]:
     """The record's lines by crate: number of edits, day, kit and hash."""
     text = Path(root, FILE).read_text() if Path(root, FILE).is_file() else ""
-    rows = [line.split() for line in text.splitlines() if line and not line.startswith("#")]
+    rows = [line.split() for line in table.lines(text)]
     return {row[0]: tuple(row[1:]) for row in rows if len(row) == 5}
 
 

@@ -4,7 +4,7 @@ import re
 from collections.abc import Mapping
 from dataclasses import dataclass
 
-from kit import Report
+from gate.edits.kit import Report
 
 # The lines of a check: an error, a goal that stays open, and that goal's function, or another item, which comes after
 # it.

@@ -2,14 +2,11 @@
 
 import contextlib
 import subprocess
-import sys
 import tempfile
 from collections.abc import Iterator
 from pathlib import Path
 
 HERE = Path(__file__).resolve().parent
-sys.path[:0] = [str(HERE.parent), str(HERE.parent / "edits"), str(HERE.parents[1])]
-
 
 def text(name: str) -> str:
     """The text of this name in texts/."""

@@ -9,10 +9,9 @@ from collections.abc import Callable
 from pathlib import Path
 from unittest import mock
 
-from samples import write, write_program
-
-import build
-import kit
+from gate import build
+from gate.edits import kit
+from gate.tests.samples import write, write_program
 
 # A toolchain that proves the program, or does not; it makes the program of the words that its source has.
 RT = """[ "$1" = version ] && echo 'a-kit logic 1a' && exit

@@ -7,13 +7,11 @@ from collections.abc import Sequence
 from pathlib import Path
 from unittest import mock
 
-from samples import CODE, repository, rows, write
-
-import copies
-import edit
-import goals
+from gate.edits import copies, edit, goals
+from gate.edits.groups import grouped
+from gate.edits.symbols import symbol_of
+from gate.tests.samples import CODE, repository, rows, write
 from rattle.code import functions_of
-from symbols import symbol_of
 
 ANSWERS = """use Rattle.sample.proofs.next.Goals as goal
 
@@ -51,7 +49,7 @@ class Copying(unittest.TestCase):
 
     def groups(self, edits: list[edit.Edit]) -> list[dict[str, str]]:
         """The edits by the functions and copies on which they stand, check by check."""
-        groups = edit.grouped(edits, self.folder)
+        groups = grouped(edits, self.folder)
         return [{symbol: one.label for symbol, one in group.tried.items()} for group in groups]
 
     def test_symbols_of_functions(self) -> None:
@@ -64,7 +62,7 @@ class Copying(unittest.TestCase):
     def test_edits_that_stand_on_copies(self) -> None:
         """Each edit stands on its own copy; one whose function can't be copied stands in its place, one a check."""
         every = [self.edit_of("from(x) + 1", f"from(x) + {number}") for number in (2, 3, 4)]
-        [group] = edit.grouped(every, self.folder)
+        [group] = grouped(every, self.folder)
         bodies = [("sample::next", "from(x) + 1"), *((symbol, one.label) for symbol, one in group.tried.items())]
         for symbol, body in bodies:
             text = NEXT.format(name=symbol.removeprefix("sample::"), body=f"u16::{body}")

@@ -8,14 +8,10 @@ from collections.abc import Iterable, Sequence
 from pathlib import Path
 from unittest import mock
 
-from samples import CODE, repository, rows, text, write, write_edit
-
-import edit
-import edits
-import goals
-import kit
-import verdict
-from libraries import Libraries
+from gate.edits import edit, edits, goals, kit, verdict
+from gate.edits.groups import Group
+from gate.edits.libraries import Libraries
+from gate.tests.samples import CODE, repository, rows, text, write, write_edit
 
 # The report of a check of functions, and of a function and its copy, one answer of each of which is left out.
 REPORT, LEFT_OUT = text("told"), text("left_out")
@@ -55,6 +51,14 @@ class Trying(unittest.TestCase):
             self.assertEqual(goals.known(room),
                              {**wanted, "sample/known.by_a_goal_that_holds": "returns-else-a-b-clause-second"})
 
+    def test_an_edit_that_was_not_tried_keeps_its_goal(self) -> None:
+        """What came of each edit of a crate whose goals were known, and which lines stay; those of others do."""
+        every = [edit.Edit(f"low/{outcome.name}", [], outcome, goal="sum") for outcome in edit.Outcome]
+        with repository(low=CODE) as room:
+            write("".join(f"{one.label}: sum\n" for one in every) + "high/one: size\n", room, goals.FILE)
+            goals.write(room, "low", every)
+            self.assertEqual(goals.known(room), {"low/REFUSED": "sum", "low/NOT_TRIED": "sum", "high/one": "size"})
+
     def test_a_crate_that_is_not_proved(self) -> None:
         with repository(sample=CODE.replace("x - x", "x")) as room:
             self.outcomes(room, [["one", "a", "b", "NOT TRIED", ""]])
@@ -83,7 +87,7 @@ class Reading(unittest.TestCase):
         """Which edits of a group that stand on these functions or copies are refused by a report."""
         tried = {symbol: edit.Edit("low/it", [], symbols={symbol if goal == "" else OPEN}, goal=goal, others=[*others])
                  for symbol in on}
-        edits.Trial("low", [], mock.Mock(root="")).judge(edit.Group(tried), kit.Report(1, report))
+        edits.Trial("low", [], mock.Mock(root="")).judge(Group(tried), kit.Report(1, report))
         return [one.is_refused for one in tried.values()]
 
     def test_whose_goals_a_check_leaves_open(self) -> None:

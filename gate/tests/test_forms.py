@@ -3,10 +3,8 @@ import tempfile
 import unittest
 from pathlib import Path
 
-from samples import write
-
-import edit
-import forms
+from gate.edits import edit, forms, goals
+from gate.tests.samples import write
 
 SUMS = """fn add(a: u64, b: u64) -> u64
     ensures sum { result ≡ a + b }
@@ -25,6 +23,18 @@ ANSWERS = "pub returns-clause-sum : goal.returns-clause-sum\nreturns-clause-sum 
 
 class Forms(unittest.TestCase):
     """Edits of a crate of two functions, one of which has an answer by hand."""
+
+    def test_those_of_crates_are_told(self) -> None:
+        with tempfile.TemporaryDirectory() as room:
+            write(SUMS, room, "crates/sums/src/sum.rt")
+            write(ANSWERS, room, "crates/sums/proofs/sum/add/Answers.antt")
+            for name, new in (("form", "if b == 0 { a } else { b };"), ("value", "a + b + 1;")):
+                edit_text = f"file: src/sum.rt\nold: a + b;\nnew: {new}\n"
+                write(edit_text, room, "crates/sums/must-fail", f"{name}.edit")
+            write("".join(f"sums/{name}: returns-clause-sum\n" for name in ("form", "value")), room, goals.FILE)
+            self.assertEqual(forms.told(Path(room), ["sums"]),
+                             ["sums/form: returns-clause-sum: it adds else if",
+                              "forms: 1 of 2 edits may be refused for their form alone"])
 
     def why(self, old: str, new: str, goal: str = "returns-clause-sum") -> str:
         """What of form an edit breaks."""

@@ -11,32 +11,38 @@ from collections.abc import Callable
 from pathlib import Path
 from unittest import mock
 
-from samples import CODE, repository, text, write, write_edit, write_program
-
-import edits
-import gate
-import kit
-import record
-import runs
+from gate import gate, runs
+from gate.edits import edits, kit, record
+from gate.tests.samples import CODE, repository, text, write, write_edit, write_program
+from tests.skipped import SKIPPED, is_line, line_of
 from tests.table import checks
 
 # What a toolchain says that proves one crate, keeps one and proves the tests of one; what it may say of another one.
 PROVED, FAILED = text("told_by_rt_ci"), "== high\nof high\nrt: high NOT PROVED\nwhat else failed\n"
 SHOWN = FAILED.replace("what", "3 of 3 high NOT PROVED\nwhat")
-# Checks that need more than Python.
+# Checks that can show nothing without more than Python.
 WITH_TOOLS = """
 operations.tests.page
+operations.tests.page.typed
 operations.tests.collection
 operations.tests.machine
+operations.tests.image
+operations.tests.fresh
 operations.tests.tools.served
+operations.tests.tools.any_nginx
+operations.tests.tools.any_tools
+operations.tests.tools.changed_by
+operations.tests.tools.generated
 tests.system.tour
+tests.system.snapshots
 tests.powercut
 operations.tests.replicas
 """.split()
-# Runs a module as one that finds no tool on its search path.
+# Runs a module as one that finds no tool on its search path, and no generator of values.
 WITHOUT_TOOLS = """
-import os, runpy, shutil
+import os, runpy, shutil, sys
 shutil.which = lambda *_, **__: None
+sys.modules['hypothesis'] = None
 runpy.run_module('{name}', run_name='__main__', alter_sys=True)
 """
 
@@ -87,18 +93,19 @@ class Parts(unittest.TestCase):
         file = Path(self.room, "check.py")
         passed, failed, skipped, _ = result_of(file)
         self.assertEqual((passed, len(failed), len(skipped)), (0, 1, 0))
-        why, piece = "page: NOT TRIED: there is no chromium here", "it_is_clean: NOT TRIED, as there is no mandoc here"
+        why = line_of("page", "there is no chromium here")
+        piece = line_of("install, it_is_clean", "there is no mandoc here")
         none: list[str] = []
-        for line, status, wanted in (
+        for told, status, wanted in (
             (why, 77, (0, 0, [why])), (piece, 0, (1, 0, [piece])), (why, 1, (0, 1, [why])),
             ("NOT TRIED: low/one", 0, (1, 0, none)), ("all is tried", 0, (1, 0, none)),
             ("a page says NOT TRIED where it must", 0, (1, 0, none)), ("", 0, (1, 0, none)), ("", 1, (0, 1, none)),
-            ("", 3, (0, 1, none)), ("", 77, (0, 0, [f"{file} does not say why it was not tried"])),
+            ("", 3, (0, 1, none)), ("", 77, (0, 0, [line_of(str(file), "it does not say why")])),
         ):
-            file.write_text(f"print({line!r})\nraise SystemExit({status})\n")
+            file.write_text(f"print({told!r})\nraise SystemExit({status})\n")
             passed, failed, skipped, output = result_of(file)
             self.assertEqual((passed, len(failed), skipped), wanted)
-            self.assertEqual(output, f"{line}\n")
+            self.assertEqual(output, f"{told}\n")
 
     def test_what_is_skipped_is_told_and_fails_who_is_strict(self) -> None:
         """The last line and the status: all is tried, something is not, and it is asked for strictly."""
@@ -119,8 +126,8 @@ class Parts(unittest.TestCase):
         """Checks on a machine with no tool but Python: each says what it lacks, and none passes."""
         for name in WITH_TOOLS:
             finished = run_here("-c", WITHOUT_TOOLS.format(name=name), PATH=self.room, HOME=self.room)
-            self.assertEqual((name, finished.returncode), (name, gate.SKIPPED))
-            self.assertTrue(any(map(gate.NOT_TRIED.search, finished.stdout.splitlines())), finished.stdout)
+            self.assertEqual((name, finished.returncode), (name, SKIPPED))
+            self.assertTrue(any(map(is_line, finished.stdout.splitlines())), finished.stdout)
 
     def test_edits_that_the_record_lacks_are_tried_all_and_some_of_others(self) -> None:
         """Two crates are picked, one of which the record does not cover; the copy gets the edits that are tried."""
@@ -145,14 +152,28 @@ class Parts(unittest.TestCase):
     def test_the_plain_program_is_looked_at_where_it_was_built(self) -> None:
         parts, made = gate.Parts(), [("rust.tests", None), ("rust.build", None)]
         with mock.patch.object(gate, "program", return_value=(1, [], [])) as program:
-            self.assertEqual(gate.plain(parts, Path(self.room)), [])
-            self.assertEqual(program.call_count, len(made))
             built = write("", self.room, "out/rust/ropepeach-plain-1/target/release/rs_source")
             parts.run_beside(gate.plain(parts, Path(self.room)), 1)
         calls = [(*call.args[1][1:], call.args[3].get("PROGRAM")) for call in program.call_args_list]
         of_plain = [(*check.words, str(built)) for check in checks() if check.is_plain_too]
         self.assertGreater(len(of_plain), 10)
-        self.assertEqual(calls, made + made + of_plain)
+        self.assertEqual(calls, made + of_plain)
+
+    def test_each_check_of_a_plain_program_that_is_not_there_is_named(self) -> None:
+        """Its build was skipped, it failed, or it made none: each check is skipped or fails as the build did."""
+        names = [f"{check.name}, of the plain program" for check in checks() if check.is_plain_too]
+        why = "there is no plain program"
+        skipped, failed = [line_of(name, why) for name in names], [f"{name}: {why}" for name in names]
+        none: list[str] = []
+        for result, wanted in (((0, [], ["plain: so"]), (none, ["plain: so", *skipped])),
+                               ((0, ["it"], none), (["it", *failed], none)), ((1, none, none), (failed, none))):
+            parts = gate.Parts()
+            with (mock.patch.object(gate, "program", side_effect=[(1, [], []), result]),
+                  contextlib.redirect_stdout(io.StringIO()) as out):
+                parts.run_beside(gate.plain(parts, Path(self.room)), 2)
+            self.assertEqual((parts.failed, parts.skipped), wanted)
+            self.assertEqual(out.getvalue().count(f", of the plain program: {'NOT TRIED: ' * (not parts.failed)}{why}"),
+                             len(names))
 
     def test_no_part_takes_another_program_by_the_environment(self) -> None:
         with mock.patch.dict(os.environ, PROGRAM="another"):
@@ -193,8 +214,8 @@ class Parts(unittest.TestCase):
         """The look at operations/install/ with no tool but the shell: what needs one says so, and fails nothing."""
         finished = run_here("-m", "operations.tests.system.install", "/bin/true", "the_page_is_clean",
                             "the_page_has_every_word", PATH=self.room)
-        wanted = r"the_page_is_clean: NOT TRIED, as there is no mandoc here\n(?s:.*)not tried, 1\n"
-        self.assertRegex(finished.stdout, wanted)
+        self.assertIn(line_of("install, the_page_is_clean", "there is no mandoc here"), finished.stdout.splitlines())
+        self.assertTrue(finished.stdout.endswith("not tried, 1\n"), finished.stdout)
 
 
 class Telling(unittest.TestCase):

@@ -4,14 +4,9 @@ import unittest
 from pathlib import Path
 from unittest import mock
 
-from samples import ABOVE, CODE, repository, rows, write
-
-import edit
-import edits
-import goals
-import kit
-import record
-from libraries import Libraries
+from gate.edits import edit, edits, goals, kit, record
+from gate.edits.libraries import Libraries
+from gate.tests.samples import ABOVE, CODE, repository, rows, write
 
 
 def tried(label: str, goal: str, outcome: edit.Outcome = edit.Outcome.REFUSED) -> edit.Edit:

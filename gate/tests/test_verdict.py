@@ -9,10 +9,9 @@ import unittest
 from pathlib import Path
 from unittest import mock
 
-from samples import commit, write
-
-import gate
-import kit
+from gate import gate
+from gate.edits import kit
+from gate.tests.samples import commit, write
 from tests import verdict
 
 MADE = verdict.Verdict("c" * 40, (), "kit-1 logic abc", 3, (), ("a: NOT TRIED: no root",),
@@ -63,6 +62,10 @@ class Verdicts(unittest.TestCase):
         write("new\n", self.root, "b c")
         write("other\n", self.root, "a")
         self.assertEqual(verdict.state_of(self.root).changes, ("a", "b c"))
+
+    def test_a_file_that_moved_is_told_by_both_names(self) -> None:
+        subprocess.run(["git", "mv", "a", "moved"], cwd=self.root, check=True)
+        self.assertEqual(verdict.state_of(self.root).changes, ("a", "moved"))
 
     def test_what_changed_meanwhile_is_told(self) -> None:
         before = verdict.state_of(self.root)

@@ -1,4 +1,4 @@
-"""The tests of the set-up, the picture of the crates and the version: python3 -m tests.house."""
+"""The tests of the house, all files test_*.py here: python3 -m tests.house."""
 
 import sys
 import unittest

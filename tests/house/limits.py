@@ -1,12 +1,11 @@
 """The limits of the program, as the code has them: the table of docs/GLOSSARY.md is made from it.
 
-usage: python3 -m tests.house.limits --write     writes the table anew, and names the places of other pages that tell a
-                                                 figure which was another one before
+usage: python3 -m tests.house.limits --write     writes the table anew
 """
 
 import re
 import sys
-from collections.abc import Iterator, Mapping
+from collections.abc import Mapping
 from dataclasses import dataclass
 from pathlib import Path
 
@@ -15,7 +14,6 @@ from tests.program import ROOT
 
 PAGE = ROOT / "docs" / "GLOSSARY.md"
 MADE = Made("the code", "tests.house.limits")
-UNITS = {"MiB": 2**20, "GiB": 2**30}
 
 
 @dataclass(frozen=True)
@@ -68,37 +66,7 @@ def drawn(figures: Mapping[Limit, str]) -> str:
     return "\n".join(["| limit | figure | where the code has it |", "|---|---|---|", *rows])
 
 
-def changed(part: str, figures: Mapping[Limit, str]) -> dict[str, str]:
-    """The figures of a table that are other ones now, with what has them."""
-    rows = dict(re.findall(r"(?m)^\| (.*?) \| (.*?) \|", part))
-    return {rows[limit.what]: limit.what for limit in LIMITS if rows.get(limit.what, figures[limit]) != figures[limit]}
-
-
-def spelled(figure: str) -> str:
-    """What finds a figure in a line, in full or as `16 MiB`."""
-    number = int(re.sub(r"\D", "", figure))
-    forms = [figure, *(f"{number // unit} {name}" for name, unit in UNITS.items() if number % unit == 0)]
-    return rf"(?<![\w,.])(?:{'|'.join(map(re.escape, forms))})(?![\w,]*\w)"
-
-
-def telling(texts: Mapping[Path, str], figures: Mapping[str, str]) -> Iterator[str]:
-    """The places of pages where one of these figures stands."""
-    for page, text in texts.items():
-        for number, line in enumerate(text.splitlines(), 1):
-            for figure, what in figures.items():
-                if re.search(spelled(figure), line):
-                    yield f"{page}:{number}: {figure}, {what}: {line.strip()}"
-
-
-def main() -> None:
-    """Writes the table, and names what is left to a person."""
-    page, figures = PAGE.read_text(), {limit: limit.figures() for limit in LIMITS}
-    PAGE.write_text(MADE.with_part(page, drawn(figures)))
-    texts = {path.relative_to(ROOT): path.read_text() for path in sorted(ROOT.rglob("*.md")) if "out" not in path.parts}
-    print("".join(f"{place}\n" for place in telling(texts, changed(MADE.part_of(page), figures))), end="")
-
-
 if __name__ == "__main__":
     if sys.argv[1:] != ["--write"]:
         sys.exit(__doc__)
-    main()
+    PAGE.write_text(MADE.with_part(PAGE.read_text(), drawn({limit: limit.figures() for limit in LIMITS})))

@@ -56,6 +56,9 @@ class Repository:
         self.words = {word for text in [*self.sources.values(), *self.ends] for word in WORD.findall(text)}
         self.flags = {flag for text in self.sources.values() for flag in FLAG.findall(text)}
         rules = "".join(file.read_text() for file in (root / name for name in MAKEFILES) if file.is_file())
+        # Each subcommand of `ropepeach` has a page of the manual.
+        pages = root.glob("operations/install/ropepeach-*.1")
+        self.subcommands = {page.stem.removeprefix("ropepeach-") for page in pages}
         self.targets = {target for line in re.findall(r"(?m)^([\w -]+):", rules) for target in line.split()}
 
     def texts(self, *crates: str) -> list[str]:

@@ -14,6 +14,9 @@ from collections.abc import Iterator
 from dataclasses import dataclass
 from pathlib import Path
 
+from tests.skipped import not_tried
+from tests.table import lines
+
 ROOT = Path(__file__).resolve().parents[2]
 # Where Debian has what is not on every user's path.
 PATH = "/usr/local/sbin:/usr/sbin:/sbin"
@@ -42,8 +45,7 @@ class Package:
 
 def packages(text: str) -> list[Package]:
     """The packages of a table, in its order."""
-    rows = [line.split(" | ") for line in text.splitlines() if line.strip() and not line.startswith("#")]
-    return [Package(*(field.strip() for field in row)) for row in rows]
+    return [Package(*(field.strip() for field in line.split(" | "))) for line in lines(text)]
 
 
 def missing(text: str) -> list[Package]:
@@ -105,7 +107,7 @@ def setup(text: str) -> bool:
               if install([package.name for package in lacking]) else "not all could be installed", flush=True)
     still_missing = missing(text)
     for package in still_missing:
-        print(f"NOT TRIED, as there is no {package.mark} here: {package.use}", flush=True)
+        not_tried(package.name, f"there is no {package.mark} here: {package.use}")
     return all(package.user == "test" for package in still_missing)
 
 

@@ -60,11 +60,11 @@ class Table(unittest.TestCase):
             self.assertNotIn("$", " ".join(form.words({})))
 
     def test_long_forms_are_read(self) -> None:
-        form = table.parsed_long("tests", "some | --rounds $ROUNDS --fast | ROUNDS=200 | 7")
-        self.assertEqual((form.name, form.seconds, form.words({})), ("some", 7, ["--rounds", "200", "--fast"]))
+        form = table.parsed_long("tests", "some | --rounds $ROUNDS --fast | ROUNDS=200")
+        self.assertEqual((form.name, form.words({})), ("some", ["--rounds", "200", "--fast"]))
         self.assertEqual(form.words({"ROUNDS": "3", "OTHER": "4"}), ["--rounds", "3", "--fast"])
-        self.assertEqual(table.parsed_long("tests", "some | - | - | 0").words({}), [])
-        for wrong in ("some | - | -", "some | - | ROUNDS | 0", "some | - | - | soon"):
+        self.assertEqual(table.parsed_long("tests", "some | - | -").words({}), [])
+        for wrong in ("some | -", "some | - | ROUNDS", "some | - | - | soon"):
             with self.assertRaises(table.BadTable):
                 table.parsed_long("tests", wrong)
 
@@ -72,4 +72,3 @@ class Table(unittest.TestCase):
         found = checks.noted(TABLE, checks.seconds_of("rows 12\nthe layout 3\nends 40\n"))
         self.assertEqual([check.seconds for check in table.listed("tests", found)], [12, 40, 0])
         self.assertEqual(found.replace("12", "7").replace("40", "0"), TABLE)
-        self.assertEqual(checks.noted("ends | - | - | 0\n", {"ends": 40}, 3), "ends | - | - | 40\n")

@@ -6,7 +6,22 @@ from pathlib import Path
 from tests.house import imports
 
 
+class Examples(unittest.TestCase):
+    def test_python_is_known_without_its_suffix(self) -> None:
+        self.assertTrue(imports.is_python(imports.DEMO))
+        with tempfile.TemporaryDirectory() as room:
+            for name, text, wanted in (("a.py", "", True), ("a", "#!/usr/bin/env python3\n", True),
+                                       ("a.sh", "#!/bin/sh\npython3\n", False), ("a.script", "put a 61 b/c\n", False)):
+                file = Path(room, name)
+                file.write_text(text)
+                self.assertEqual(imports.is_python(file), wanted, name)
+
+
 class Cycles(unittest.TestCase):
+    def test_each_package_is_looked_at(self) -> None:
+        found = {module.partition(".")[0] for module in imports.ours([*imports.FILES, *imports.OTHERS])}
+        self.assertEqual(found, {"bench", "gate", "operations", "rattle", "ropepeach", "rust", "statement", "tests"})
+
     def found(self, **texts: str) -> set[str]:
         """The modules of a cycle in a package of files with these texts."""
         with tempfile.TemporaryDirectory() as room:

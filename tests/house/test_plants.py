@@ -7,7 +7,7 @@ import unittest
 from pathlib import Path
 
 from tests.planted.plants import Bug, Outcome, Trials, Unfit, check_texts, drawn
-from tests.skipped import SKIPPED
+from tests.skipped import SKIPPED, is_line
 
 BUG = Bug("a sum is short by one", "sum.py", "total + 1", "total", "sums")
 
@@ -56,6 +56,11 @@ class Plants(unittest.TestCase):
     def test_a_check_that_fails_without_the_bug_is_named(self) -> None:
         self.assertEqual(tried(Made(Outcome(1, "ill"), Outcome(1, "ill")))[0], 1)
         self.assertEqual(tried(Made(Outcome(SKIPPED, "no cargo"), Outcome(1, "ill")))[0], SKIPPED)
+
+    def test_a_bug_that_is_not_tried_is_told_as_the_gate_reads_it(self) -> None:
+        with contextlib.redirect_stdout(io.StringIO()) as out:
+            Trials(Made(Outcome(SKIPPED, "no cargo"), Outcome(1, "ill"))).try_bug(BUG)
+        self.assertTrue(is_line(out.getvalue()), out.getvalue())
 
     def test_an_old_text_stands_once(self) -> None:
         for text in ("", "total", "total + 1, total + 1"):

@@ -7,6 +7,7 @@ import unittest
 from pathlib import Path
 from unittest import mock
 
+from tests import skipped
 from tests.house import setup
 
 TABLE = """# a remark
@@ -36,9 +37,9 @@ class SetUp(unittest.TestCase):
             output, installed = self.run_setup(user, SETUP=is_set_up)
             self.assertEqual(installed, wanted)
             self.assertTrue(output.startswith("== this machine lacks of Debian: none, file (packages.txt)\n"))
-            left_out = [("no-such-command", "the tour"), ("/no/such/file", "pages")]
-            self.assertTrue(output.endswith("".join(f"NOT TRIED, as there is no {what} here: {part}\n"
-                                                    for what, part in left_out)))
+            left_out = [("none", "no-such-command", "the tour"), ("file", "/no/such/file", "pages")]
+            self.assertTrue(output.endswith("".join(f"{skipped.line_of(name, f'there is no {what} here: {part}')}\n"
+                                                    for name, what, part in left_out)))
 
     def test_nothing_is_said_where_nothing_is_missing(self) -> None:
         with contextlib.redirect_stdout(io.StringIO()) as out:

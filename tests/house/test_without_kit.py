@@ -16,9 +16,9 @@ LEAST = 20
 
 
 def targets() -> list[str]:
-    """The targets that both Makefiles name as such."""
+    """The targets of the rules of both Makefiles, but for checks by their names."""
     texts = [(ROOT / name).read_text() for name in ("Makefile", "operations/Makefile")]
-    return [word for text in texts for line in re.findall(r"(?m)^\.PHONY:(.*)$", text) for word in line.split()]
+    return [word for text in texts for line in re.findall(r"(?m)^([a-z][\w -]*):", text) for word in line.split()]
 
 
 def path_without_kit() -> str:
@@ -50,6 +50,12 @@ class WithoutKit(unittest.TestCase):
     def test_each_target_is_told(self) -> None:
         told = subprocess.run(["make", "help"], cwd=ROOT, capture_output=True, text=True, check=True).stdout
         self.assertEqual(sorted(re.findall(r"(?m)^make (\S+)", told)), sorted(targets()))
+
+    def test_no_target_is_a_file(self) -> None:
+        """What the help tells is .PHONY: make's own list of its rules has them all."""
+        rules = subprocess.run(["make", "-pRrnq", "help"], cwd=ROOT, capture_output=True, text=True).stdout
+        phony = re.findall(r"(?m)^\.PHONY:(.*)$", rules)
+        self.assertEqual(sorted(" ".join(phony).split()), sorted(targets()))
 
     def test_wrong_outputs_are_noticed(self) -> None:
         line = "there is no Rattle kit here (the command `rt`): a release has the built program (README.md)\n"

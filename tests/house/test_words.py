@@ -12,6 +12,7 @@ ROOT = Path(__file__).resolve().parents[2]
 FILES = {
     **{"Makefile": "test build:\n\techo\n", "operations/send": "--short\n", "tests/crash/__main__.py": "",
        "docs/PLAN.md": ""},
+    **dict.fromkeys(("operations/install/ropepeach-renew.1", "rust/build.py", "debian/control"), ""),
     "crates/rs_a/src/lib.rt": "pub fn other()\n    ensures none { result ≡ 0 }\n/// `lost_word`\n"
                               "pub fn find(\n    at: u64,\n    n: u32,\n) -> Run"
                               "  requires { n ≤ at }\n    // Why.\n"
@@ -31,6 +32,7 @@ pub fn find(at: u64, n: u32) -> Run
     ensures found { IsFree at .. (length bytes) }
 ```
 `make test`, `operations/send --short`, `python3 -m tests.crash`, `curl --silent`, 2 words.
+`ropepeach renew --short`, `ropepeach other --silent`, `python3 -m rust.build --short`, debian/control.
 """
 
 
@@ -62,7 +64,9 @@ class Pages(unittest.TestCase):
             "rs_a::find", "rs_a::finds"], ["2 words", "`IsFreed at 2`"], ["of rs_b", "of it"]
         commands = ["make test", "make tests"], [
             "make test", "make tests.crush"], ["--short", "--shorter"], ["tests.crash", "tests.crush"]
-        for old, new in [*changed, *gone, *unknown, *commands]:
+        others = ["renew --short", "renew --shorter"], ["rust.build", "rust.built"], [
+            "build --short", "build --shorter"], ["debian/control", "debian/rules"], ["debian/control", "rust/control"]
+        for old, new in [*changed, *gone, *unknown, *commands, *others]:
             self.assertTrue(self.faults(old, new), f"{old} -> {new}")
 
     def test_a_strange_word_is_told_with_a_plain_one(self) -> None:

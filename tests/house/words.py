@@ -28,12 +28,14 @@ STRANGE = Path(__file__).with_name("strange.txt")
 # What is found on a page: where, and what is wrong.
 Found = Iterator[tuple[int, str]]
 CLAUSE, CUT = r"^ *(?:pub |fn |requires\b|ensures\b)", r"(?:(?!\b(?:ensures|requires|fn)\b)[\s\S])*?"
-FILE = re.compile(r"(?<![\w/.:~%-])(?:(?:crates|docs|tests|gate|rattle|statement|bench|examples|install|operations"
+FILE = re.compile(r"(?<![\w/.:~%-])(?:(?:crates|docs|tests|gate|rattle|rust|statement|bench|debian|examples|operations"
                   r"|specs|src|proofs|must-fail)/[\w./*-]*"
                   r"|[\w*-]+(?:/[\w*-]+)*\.(?:md|py|rt|antt|sh|svg|session|disks|edit|txt|http))(?![\w/])")
 MAKE = re.compile(r"(?:^|[(;&] ?|=\S+ )make ([a-z][\w.-]*)")
-OURS = re.compile(r"\brs_source\b|\bmake\b|\b(?:gate|statement|operations)/|\b(?:tests|bench)\.\w|^--"
-                  r"|\bropepeach (?:fill|mirror|look|size|why|health|collection|grow|takeover)\b")
+OURS = re.compile(r"\brs_source\b|\bmake\b|\b(?:gate|statement|operations)/"
+                  r"|\b(?:tests|bench|rust|gate|statement)\.\w|^--")
+# The command `ropepeach` with its subcommand.
+SUBCOMMAND = re.compile(r"\bropepeach ([a-z]+)")
 
 
 def crate_of(page: Path) -> list[str]:
@@ -100,6 +102,11 @@ def paths(repo: Repository, page: Path, text: str) -> Found:
             yield match.start(), f"a link to nothing: {match[1]}"
 
 
+def is_ours(repo: Repository, code: str) -> bool:
+    """Whether a line runs a program of ours, so that its flags are ours too."""
+    return bool(OURS.search(code)) or not repo.subcommands.isdisjoint(SUBCOMMAND.findall(code))
+
+
 def commands(repo: Repository, page: Path, text: str) -> Found:
     """Targets, modules and flags that are not there."""
     lines = [(block.start(2) + line.start(), line[0]) for block in FENCE.finditer(text)
@@ -107,13 +114,13 @@ def commands(repo: Repository, page: Path, text: str) -> Found:
     for at, code in lines + [(span.start(), span[1]) for span in SPAN.finditer(prose(text))]:
         code = re.sub(r"\s#.*", "", code).strip("$ ")
         targets = [target for target in MAKE.findall(code) if target not in repo.targets]
-        modules = re.findall(r"-m ((?:tests|bench|operations)\b[\w.]*\w)", code)
+        modules = re.findall(r"-m ((?:tests|bench|operations|rust|gate|statement)\b[\w.]*\w)", code)
         modules += [target for target in targets if re.match(r"(?:operations\.)?tests\.", target)]
         yield from ((at, f"no target of the Makefile: {target}") for target in targets if target not in modules)
         yield from ((at, f"there is no module {module}") for module in modules
                     if not repo.has(module.replace(".", "/")))
         yield from ((at, f"no source names the flag {flag}") for flag in FLAG.findall(code)
-                    if OURS.search(code) and flag not in repo.flags)
+                    if is_ours(repo, code) and flag not in repo.flags)
 
 
 def strange(repo: Repository, page: Path, text: str) -> Found:

@@ -13,7 +13,7 @@ from dataclasses import dataclass, field
 from pathlib import Path
 from typing import Protocol
 
-from tests.skipped import SKIPPED as NOT_TRIED
+from tests.skipped import SKIPPED, not_tried
 
 # No check of a bug takes longer than this, in seconds.
 LONGEST = 900
@@ -74,7 +74,7 @@ def run_check(check: str, folder: Path, program: str) -> Outcome:
         except subprocess.TimeoutExpired:
             os.killpg(process.pid, signal.SIGKILL)
             output, _ = process.communicate()
-            return Outcome(NOT_TRIED, f"{output}\nnot done within {LONGEST} seconds")
+            return Outcome(SKIPPED, f"{output}\nnot done within {LONGEST} seconds")
     return Outcome(process.returncode, output)
 
 
@@ -109,7 +109,7 @@ class Trials:
         well = self.well[bug.check]
         if well.status:
             self.tell(bug, f"without the bug {bug.check} ends with status {well.status}: {well.last_line()}",
-                      is_tried=well.status != NOT_TRIED)
+                      is_tried=well.status != SKIPPED)
             return
         try:
             self.ground.plant(bug)
@@ -120,7 +120,7 @@ class Trials:
         finally:
             self.ground.put_right()
         broken = BROKEN.search(outcome.output)
-        if outcome.status in (0, NOT_TRIED) or broken:
+        if outcome.status in (0, SKIPPED) or broken:
             self.tell(bug, f"NOT NOTICED by {bug.check}: {broken[0] if broken else outcome.last_line()}")
             return
         self.noticed += 1
@@ -128,14 +128,18 @@ class Trials:
 
     def tell(self, bug: Bug, why: str, is_tried: bool = True) -> None:
         """Notes what is wrong, or not tried."""
-        (self.wrong if is_tried else self.skipped).append(bug.what)
-        print(f"{bug.what}: {why}", flush=True)
+        if is_tried:
+            self.wrong.append(bug.what)
+            print(f"{bug.what}: {why}", flush=True)
+        else:
+            self.skipped.append(bug.what)
+            not_tried(bug.what, why)
 
     def status(self, name: str, count: int) -> int:
         """Prints the last line, and gives the exit status."""
         print(f"{name}: {self.noticed} of {count} planted bugs are noticed, {len(self.wrong)} are wrong, "
-              f"{len(self.skipped)} NOT TRIED")
-        return 1 if self.wrong else NOT_TRIED if self.skipped else 0
+              f"{len(self.skipped)} are not tried")
+        return 1 if self.wrong else SKIPPED if self.skipped else 0
 
 
 def arguments(name: str, short: int) -> argparse.Namespace:

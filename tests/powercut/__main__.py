@@ -30,7 +30,7 @@ from pathlib import Path
 from tests.powercut import kinds, machine, parts, worst
 from tests.powercut.trials import in_words
 from tests.program import PROGRAM, ROOT
-from tests.skipped import skipped
+from tests.skipped import not_tried, skipped
 
 INSIDE = "CHECK_POWERCUT_INSIDE"
 SEED, IMAGES = 20261128, 20_000
@@ -74,22 +74,22 @@ def is_mounted_here(name, runner):
     """Whether this machine makes and mounts a kind of file system; where not, this is told."""
     kind = {**kinds.KINDS, **kinds.SETTINGS}[name]
     if not shutil.which(kind.make[0]):
-        print(f"{name}: NOT TRIED, as there is no {kind.make[0]} here")
+        not_tried(name, f"there is no {kind.make[0]} here")
         return False
     try:
         device = machine.Device(runner.server, runner.room, kinds.made(kind, os.path.join(runner.room, "bytes")),
                                 kind.sector)
     except subprocess.CalledProcessError as fault:
-        print(f"{name}: NOT TRIED, as it cannot be made here: {fault.stderr.decode(errors='replace').strip()}")
+        not_tried(name, f"it cannot be made here: {fault.stderr.decode(errors='replace')}")
         return False
     except machine.Unready as fault:
-        print(f"{name}: NOT TRIED: {fault}")
+        not_tried(name, fault)
         return False
     try:
         with device.mounted(kind.system, kind.options):
             return True
     except machine.Unmounted as fault:
-        print(f"{name}: NOT TRIED, as it cannot be mounted here: {fault}")
+        not_tried(name, f"it cannot be mounted here: {fault}")
         return False
     finally:
         device.close()

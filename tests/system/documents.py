@@ -19,6 +19,7 @@ import tempfile
 import xml.etree.ElementTree as ElementTree
 
 from tests.program import PROGRAM
+from tests.skipped import not_tried
 
 BASE = "http://127.0.0.1:8080"
 LIMIT = 5
@@ -172,9 +173,10 @@ class ClosedParts:
             self.closed_texts[path] = text
 
 
-def lint(documents):
-    """Whether xmllint is here; stops where it complains."""
+def lint(documents: list[bytes]) -> bool:
+    """Whether xmllint is here, which is told where it is not; stops where it complains."""
     if shutil.which("xmllint") is None:
+        not_tried("documents, read by xmllint", "there is no xmllint here")
         return False
     with tempfile.TemporaryDirectory() as folder:
         files = []
@@ -243,8 +245,6 @@ def main():
     print(f"documents: {len(commands)} commands, {visits} visits, {len(all_documents)} documents read by xml.etree"
           f"{' and xmllint' if linted else ''}; each mirror is what is held; "
           f"{len(closed.closed_texts)} closed parts, {len(closed.dropped)} of them dropped")
-    if not linted:
-        print("documents: xmllint is not installed here, so it did not look at them")
 
 
 if __name__ == "__main__":

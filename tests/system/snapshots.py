@@ -11,7 +11,7 @@ It needs root, loop devices, mkfs.xfs (whose files can be copied at one moment),
 mounted in a name space of its own, so that nobody else sees it. `make test` does not run it.
 
 usage: python3 -m tests.system.snapshots [PROGRAM] [NAME..]     names of functions (all, where none is given)
-Exit status 1 where a snapshot does not hold what it should, 2 where this machine has not what it needs.
+Exit status 1 where a snapshot does not hold what it should, 77 where this machine has not what it needs.
 """
 import contextlib
 import http.client
@@ -26,6 +26,7 @@ import time
 
 from tests.program import PROGRAM, Differs, compare
 from tests.served_source import serving
+from tests.skipped import skipped
 from tests.threads import beside
 
 INSIDE = "CHECK_SNAPSHOTS_INSIDE"
@@ -199,8 +200,7 @@ def main():
     missing = [tool for tool in TOOLS if not shutil.which(tool)] + ["root"] * bool(os.getuid())
     missing += [] if pathlib.Path("/dev/loop-control").exists() else ["loop devices"]
     if missing:
-        print(f"snapshots: not tried, as this machine has no {', '.join(missing)}")
-        return 2
+        return skipped("snapshots", f"this machine has no {', no '.join(missing)}")
     if INSIDE not in os.environ:
         words = ["unshare", "-m", "--propagation", "private", sys.executable, "-m", "tests.system.snapshots", program,
                  *arguments]

@@ -22,6 +22,7 @@ from pathlib import Path
 from tests import hunting
 from tests.program import ROOT, room_in_memory
 from tests.served_source import Ended, with_clock
+from tests.skipped import skipped
 from tests.twins import wrong_twins
 from tests.twins.twin_runs import Differ, Twins, disks, requests, script, words
 
@@ -29,7 +30,6 @@ SEED = 20261128
 CASES, SHORT = 1_000_000, 10_000
 PROVED = "crates/rs_source/out/rs_source"
 PLAIN = "out/rust/ropepeach-plain-{}/target/release/rs_source"
-NOT_TRIED = 77
 # What the pieces of work are, in turn.
 TURNS = [script, script, disks, script, script, requests, script, script, disks, script, script, words, script, script,
          disks]
@@ -87,8 +87,7 @@ def main():
     options, started = arguments(), time.time()
     proved, plain = (os.path.abspath(path) for path in (options.proved, options.plain))
     if not options.self_test and not os.access(plain, os.X_OK):
-        print(f"twins: NOT TRIED: there is no plain program, {plain}: make rust, and cargo build --release there")
-        return NOT_TRIED
+        return skipped("twins", f"there is no plain program, {plain}: make rust, and cargo build --release there")
     with room_in_memory("twins-") as folder:
         environment = with_clock(folder)
         twins = Twins((proved, plain), Path(folder), environment)

@@ -19,6 +19,7 @@ from operations.tests.collection.settings import SETTINGS
 from operations.tests.collection.whole import WHOLE
 from operations.tests.tools.running import rows
 from tests.program import PROGRAM
+from tests.skipped import not_tried
 
 
 def main():
@@ -26,7 +27,7 @@ def main():
     os.environ["PATH"] += ":/usr/sbin:/sbin"
     lacking = missing()
     if lacking:
-        print(f"collection: NOT TRIED, as there is no {lacking} here: the site, and what is mirrored through it")
+        not_tried("collection, the site and what is mirrored through it", f"there is no {lacking} here")
     checks = SETTINGS + ([] if lacking else REFUSED + DOORS + WHOLE)
     arguments = sys.argv[1:]
     program = os.path.abspath(arguments[0] if arguments and os.path.isfile(arguments[0]) else PROGRAM)

@@ -9,6 +9,7 @@ from operations.tests.machine.page import commands
 from operations.tests.machine.puts import Puts
 from operations.tests.machine.rows import disk_of, drop_in, has, same
 from tests.program import Differs, interposed
+from tests.skipped import not_tried
 
 # A timer that does not wait a minute.
 SOON = "[Timer]\nOnActiveSec=\nOnUnitInactiveSec=\nOnActiveSec=1s\nOnUnitInactiveSec=1s\nAccuracySec=100ms\n"
@@ -113,7 +114,7 @@ def a_copy_of_a_source_that_is_held_still_opens(machine, packages):
         puts.wait_for(1) if process.returncode == 0 else None
         puts.stop()
         if "does not support free" in process.stdout or "not supported" in process.stdout.lower():
-            print(f"machine: NOT TRIED: {words}, which this kernel does not offer to systemd: {process.stdout.strip()}")
+            not_tried(f"machine, {words}", f"this kernel does not offer it to systemd: {process.stdout}")
             continue
         same(f"{words}: {process.stdout}", 0, process.returncode)
         look_at_copy(machine, puts, answered)

@@ -9,6 +9,7 @@ from operations.tests.page.looked import Looked, Shown, exchanged, has, same
 from operations.tests.system import install_shared
 from operations.tests.tools.lists_server import always, serving
 from tests.served_source import free_port
+from tests.skipped import NotTried
 
 # The texts of two parts of a panel.
 WHY, CHECKED = (f"document.querySelector(`[data-part='{part}']`).textContent" for part in ("why", "checked"))
@@ -223,8 +224,7 @@ def a_source_that_is_closed_or_gone_is_told(look: Looked) -> None:
 def it_works_over_tls(look: Looked) -> None:
     """Over TLS, as the site is installed, the lists are read and bodies checked."""
     if not shutil.which("openssl"):
-        print("it_works_over_tls: NOT TRIED, as there is no openssl here")
-        return
+        raise NotTried("there is no openssl here")
     certificate = install_shared.certified(str(look.room), "server")
     with look.fake(lambda base: fakes.archive(base, 30), certificate=certificate) as shown:
         look.chromium.open(f"{shown.base}/")

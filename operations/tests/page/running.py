@@ -18,7 +18,7 @@ from operations.tests.page.browser import Asking, Browser
 from operations.tests.page.firefox import Firefox
 from operations.tests.page.looked import Looked
 from tests.program import ROOT, Differs, room_in_memory
-from tests.skipped import skipped
+from tests.skipped import SKIPPED, NotTried, not_tried, skipped
 
 Look = Callable[[Looked], None]
 # Those that are looked at in Chromium, and those that are measured in each browser.
@@ -84,24 +84,28 @@ def drawn() -> list[wrong.Wrong]:
 def looked_at(looked: Looked, chosen: list[Look], browsers: list[Asking], pages: list[wrong.Wrong]) -> int:
     """Looks in the browsers, and behind each look that holds at its wrong pages: that the looks behind it
     hold shows that these were noticed for themselves. Gives the exit status."""
-    results: list[bool] = []
+    results: list[bool | None] = []
     noticed: list[bool] = []
     for check in chosen:
         for browser in browsers if check in looks_measured.LOOKS else browsers[:1]:
             looked.browser = browser
             results.append(holds(check, looked))
             noticed += [is_noticed(looked, page) for page in pages if results[-1] and page[0] is check]
-    print(f"page: {sum(results)} of {len(results)} looks hold, "
+    print(f"page: {results.count(True)} of {len(results)} looks hold, {results.count(None)} are not tried, "
           f"{sum(noticed)} of {len(noticed)} wrong pages are noticed")
-    return 0 if chosen and all(results) and all(noticed) else 1
+    return 1 if not chosen or False in results or not all(noticed) else 0 if True in results else SKIPPED
 
 
-def holds(check: Look, looked: Looked) -> bool:
-    """Whether a look holds, said in a line."""
+def holds(check: Look, looked: Looked) -> bool | None:
+    """Whether a look holds, said in a line; None where it was not tried."""
     started, browser = time.monotonic(), looked.browser
     browser.longest = 0.0
-    why = fault_of(check, looked)
     where = f"{check.__name__} in {type(browser).__name__}"
+    try:
+        why = fault_of(check, looked)
+    except NotTried as missing:
+        not_tried(f"page, {where}", missing)
+        return None
     word = "FAILS" if why else "holds"
     print(f"page: {word}, {time.monotonic() - started:.1f} s: {where}{why and ': ' + why}", flush=True)
     return not why

@@ -17,10 +17,10 @@ from operations.release.gathered import Part
 from operations.tests.release import made_up
 from operations.tests.release.made_up import MadeUp
 from rust import __main__ as writing
-from tests import verdict
+from tests import skipped, verdict
 from tests.program import Differs
 
-MOMENT, SKIP = 1767225600, "page: NOT TRIED: no browser"
+MOMENT, SKIP, OTHER_SKIP = 1767225600, skipped.line_of("page", "no browser"), skipped.line_of("b", "no root")
 # What is wrong with a repository, and what the line says of it.
 FAULTS: dict[str, tuple[Callable[[MadeUp], object], str]] = {
     "no repository": (lambda made: shutil.rmtree(made.root / ".git"), "there is no git repository here"),
@@ -80,9 +80,9 @@ def what_is_wrong_is_refused(room: Path) -> str:
 def skips_are_allowed_by_word_and_named(room: Path) -> str:
     """With --with-skips a gate that skipped is enough, and PROVED names each skip; a red one is not."""
     made = MadeUp(room / "skipped")
-    made.write_verdict(skipped=(SKIP, "b: NOT TRIED"), line="3 passed, 0 failed, 2 skipped")
+    made.write_verdict(skipped=(SKIP, OTHER_SKIP), line="3 passed, 0 failed, 2 skipped")
     text = artifacts.proved_text(made.read(with_skips=True), "p" * 64, "rustc 1.0")
-    for line in ("3 passed, 0 failed, 2 skipped", f"It did not try:\n  {SKIP}\n", "It did not try:\n  b: NOT TRIED\n"):
+    for line in ("3 passed, 0 failed, 2 skipped", f"It did not try:\n  {SKIP}\n", f"It did not try:\n  {OTHER_SKIP}\n"):
         wanted(line in text, f"PROVED has not {line!r}")
     made.write_verdict(skipped=(SKIP,), failed=("a",))
     wanted(fault_of(lambda: made.read(with_skips=True)), "a red gate passes")

@@ -15,6 +15,7 @@ from operations.tests.replicas.machines import SECONDS, Ended, Stuck, three
 from operations.tests.replicas.rbd_fuse import RbdFuse
 from operations.tests.replicas.relay import Feeding
 from tests.program import Differs
+from tests.skipped import not_tried
 
 TRIES = 20
 ON_CEPH, ON_GLUSTER = ["rbd-fuse"], ["glusterd", "glusterfs", "gluster"]
@@ -152,7 +153,7 @@ def what_failed(control, *arguments):
 def on_ceph(relay):
     """The controls on the cluster that runs."""
     if missing := [tool for tool in ON_CEPH if not shutil.which(tool)]:
-        print(f"replicas: NOT TRIED, as there is no {', '.join(missing)}: the controls on an image of Ceph")
+        not_tried("replicas, the controls on an image of Ceph", f"there is no {', no '.join(missing)} here")
         return []
     image = RbdFuse(relay.store)
     return what_failed(rbd_fuse_with_its_cache, relay, image) + what_failed(a_writer_that_is_not_fenced, relay, image)
@@ -161,7 +162,7 @@ def on_ceph(relay):
 def on_gluster(options):
     """The controls on GlusterFS, on machines of their own."""
     if missing := [tool for tool in ON_GLUSTER if not shutil.which(tool)]:
-        print(f"replicas: NOT TRIED, as there is no {', '.join(missing)}: the controls on GlusterFS")
+        not_tried("replicas, the controls on GlusterFS", f"there is no {', no '.join(missing)} here")
         return []
     draw = random.Random(options.seed)
     with tempfile.TemporaryDirectory(

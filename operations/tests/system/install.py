@@ -6,7 +6,7 @@ out, and told by its name. At the end files of operations/install/, programs and
 (install_wrong.py, install_packages_wrong.py), and have to be noticed.
 
 usage: python3 -m operations.tests.system.install [PROGRAM] [NAME..]     names of functions (all, where none is given)
-Exit status 1 where one does not hold.
+Exit status 1 where one does not hold, 77 where none could be tried.
 """
 import os
 import shutil
@@ -17,6 +17,7 @@ from operations.tests.system import (
     install_site, install_units, install_wrong,
 )
 from tests.program import PROGRAM
+from tests.skipped import SKIPPED, not_tried
 
 CHECKS = (install_looks.CHECKS | install_site.CHECKS | install_doors.CHECKS | install_scripts.CHECKS
           | install_units.CHECKS | install_packages.CHECKS)
@@ -31,7 +32,7 @@ def main():
     for check in checks:
         missing = [tool for tool in CHECKS[check] if not shutil.which(tool)]
         if missing:
-            print(f"{check.__name__}: NOT TRIED, as there is no {', '.join(missing)} here")
+            not_tried(f"install, {check.__name__}", f"there is no {', no '.join(missing)} here")
             continue
         tried.append(check)
         if why := install_shared.fault_of(check, program):
@@ -44,7 +45,7 @@ def main():
     print(f"install: {len(tried) - failed} of {len(tried)} hold, {count - len(blind)} of {count} wrong files, "
           "programs and packages are noticed; "
           f"not tried, {len(checks) - len(tried)}")
-    return 1 if failed or blind or not tried else 0
+    return 1 if failed or blind or not checks else 0 if tried else SKIPPED
 
 
 if __name__ == "__main__":

@@ -24,6 +24,7 @@ from tests.program import PROGRAM, ROOT
 from tests.reading import disk_formats, disk_reader
 from tests.reading.crash_model import State
 from tests.served_source import free_port
+from tests.skipped import NotTried
 
 BASE, SIZE, SECONDS = "https://source.example.org", 1_048_576, 60
 
@@ -258,7 +259,7 @@ def a_full_disk_is_named(folder: Path, program: str) -> str:
         words = ["unshare", "--mount", "sh", "-c", f"cd {shlex.quote(str(folder))}; {script}", "sh"]
         run = run_command("health", server.url, "--prometheus", "mount/a.prom", behind=words)
     if run.returncode == 77 or "unshare" in run.stderr:
-        return "NOT TRIED, as nobody may mount here"
+        raise NotTried("nobody may mount here")
     status_of(run, 3, "mount/a.prom: can't be written: No space left on device")
     return "it is named"
 

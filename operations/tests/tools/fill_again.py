@@ -21,6 +21,7 @@ from unittest import mock
 from operations.tests.tools.running import Server, begun, ended, has, rows, same, wait_until, written
 from ropepeach import command, fill_files, fill_memory
 from tests.reading import disk_formats, disk_reader
+from tests.skipped import not_tried
 
 COUNT = 20
 FILES = {f"d/{number:02}.txt": b"%d" % number * 50 for number in range(COUNT)}
@@ -285,6 +286,8 @@ def another_users_file_is_not_used(program: str, room: pathlib.Path) -> None:
                 same(f"{own}", (0, COUNT), (status, len(names)))
                 has(f"{own}", "it belongs to another user: every file is read", messages)
                 os.chown(own, 0, -1)
+        else:
+            not_tried("fill_again, files of another user", "this is not root")
         path.parent.chmod(0o777)
         has("a folder that others write", "other users may write it", filled(server.url)[2])
         for place in ("folder/d/00.txt", "/dev/null/none"):

@@ -6,7 +6,7 @@ within this process, so that many are done; what is generated is the same each t
 
 usage: python3 -m operations.tests.tools.generated [PROGRAM] [NAME..]
     names of rows (all, if none is given); the program is not run
-Exit status 1 if one does not hold.
+Exit status 1 if one does not hold, 77 where there is no hypothesis.
 """
 import contextlib
 import gzip
@@ -26,6 +26,7 @@ from operations.tests.tools.taking_source import taking
 from ropepeach import command, takeover, takeover_store
 from tests.disks import disks
 from tests.program import Differs
+from tests.skipped import skipped
 
 # What a change of bytes puts in their place, beside any bytes.
 PIECES = [b"", b"\0", b"\n", b"\x1b[2J", b"\xff", b"<", b">", b'"', b"&#10;", b"&a;", b"]]>", b"\xe2\x80\xae", b"-1",
@@ -336,8 +337,7 @@ CHECKS = [documents_of_a_source, documents_of_any_source, what_such_a_mirror_kno
 def main():
     """Tries the rows that are named, or all. Gives the exit status."""
     if st is None:
-        print("generated: NOT TRIED, as there is no python3-hypothesis here")
-        return 0
+        return skipped("generated", "there is no python3-hypothesis here")
     os.environ["no_proxy"] = "127.0.0.1"
     return rows("generated", CHECKS)
 

@@ -30,6 +30,7 @@ from operations.tests.tools.running import SECONDS, Server, written
 from ropepeach import command, connections, helptext, limits, output, statuses
 from ropepeach.statuses import Health, Status
 from tests.program import PROGRAM, ROOT
+from tests.skipped import NotTried
 
 # Commands whose page no check of their own compares.
 OTHERS = ["fill", "mirror", "check", "site", "collection", "grow"]
@@ -293,7 +294,9 @@ def completion_at_the_keys(room: Path, program: Path) -> str:
                 _, shown = shell.completed(text)
                 wanted(all(re.search(rf"(?<![\w-]){word}(?![\w-])", shown) for word in offered),
                        f"{name}: {text!r} shows {shown!r}")
-    return f"NOT TRIED: {missing[0]}" if missing else f"{len(COMPLETED) + len(LISTED)} lines in each"
+    if missing:
+        raise NotTried(f"there is no {', '.join(missing)} here")
+    return f"{len(COMPLETED) + len(LISTED)} lines in each"
 
 
 def ended_by_a_key(room: Path, program: Path) -> str:

@@ -21,7 +21,7 @@ from operations.tests.tools import one_machine, rows
 from operations.tests.tools.one_machine import Machine, is_closed, machine, request, until
 from operations.tests.tools.rows import page_of, status_of, tell, wanted
 from tests.program import PROGRAM, TOOLS
-from tests.skipped import SKIPPED
+from tests.skipped import skipped
 
 BASE, PLAIN = "https://source.example.org", "http://try.example.org:8091"
 FILE = "/var/lib/ropepeach/one.disk"
@@ -370,8 +370,7 @@ WRONG = {
 def main() -> int:
     """Does all rows, where it can."""
     if os.geteuid() or subprocess.run(["unshare", "--mount", "true"], capture_output=True).returncode:
-        print("new: NOT TRIED: only root makes a machine with folders of its own (unshare)")
-        return SKIPPED
+        return skipped("new", "only root makes a machine with folders of its own (unshare)")
     program = Path(sys.argv[1] if len(sys.argv) > 1 else PROGRAM).resolve()
     return int(tell("new", ROWS, WRONG, program))
 

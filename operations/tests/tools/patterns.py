@@ -28,6 +28,7 @@ from ropepeach.filters import Filters, Rule
 from ropepeach.mirror_state import State
 from ropepeach.statuses import Status
 from tests.program import PROGRAM, Differs
+from tests.skipped import NotTried
 
 TREES = 150
 # Rules that rsync's manual describes, and edges of them, each on its own tree's every path.
@@ -77,7 +78,7 @@ def compared(room: Path, rules: list[Rule], source: Path) -> int:
 def random_trees_as_rsync(room: Path, program: Path, seed: int) -> str:
     """Of trees and rules at random we take what rsync takes."""
     if not shutil.which("rsync"):
-        return "NOT TRIED: rsync"
+        raise NotTried("there is no rsync here")
     print(f"patterns: the seed is {seed}", flush=True)
     draws, count = random.Random(seed), 0
     for number in range(TREES):
@@ -89,7 +90,7 @@ def random_trees_as_rsync(room: Path, program: Path, seed: int) -> str:
 def known_patterns_as_rsync(room: Path, program: Path, seed: int) -> str:
     """Patterns of the manual, each by itself and before another one, on each path of a small tree."""
     if not shutil.which("rsync"):
-        return "NOT TRIED: rsync"
+        raise NotTried("there is no rsync here")
     source = written(room / "from",
                      {f"{above}{name}": b"" for above in ("", "d/", "d/e/", "a#/", "x/a#/b#/") for name in NAMES})
     for above in ("a/b", "b/a", "x/a/b"):

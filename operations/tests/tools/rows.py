@@ -21,6 +21,7 @@ from ropepeach import command
 from ropepeach.faults import Fault
 from ropepeach.statuses import TABLE
 from tests.program import ROOT, Differs, room_in_memory
+from tests.skipped import SKIPPED, NotTried, not_tried
 
 Ran = subprocess.CompletedProcess[str]
 Row = Callable[..., str]
@@ -104,18 +105,17 @@ def page_of(name: str) -> str:
 
 
 def fault_of(row: Row, *arguments: object) -> tuple[BaseException | None, str]:
-    """Why a row does not hold, in a folder of its own, or nothing; and what it says."""
+    """Why a row does not hold, or is not tried, in a folder of its own, or nothing; and what it says."""
     with room_in_memory("row-") as room:
         try:
             return None, row(Path(room), *arguments)
-        except FAULTS as fault:
+        except (NotTried, *FAULTS) as fault:
             return fault, ""
 
 
 def holds(row: Row, *arguments: object) -> bool:
     """Whether a row holds. What is not tried does not."""
-    fault, text = fault_of(row, *arguments)
-    return fault is None and not text.startswith("NOT TRIED")
+    return fault_of(row, *arguments)[0] is None
 
 
 def not_noticed(rows: Sequence[Row], wrong: Mapping[str, tuple[AbstractContextManager[Any], Row]],
@@ -136,20 +136,26 @@ def not_noticed(rows: Sequence[Row], wrong: Mapping[str, tuple[AbstractContextMa
 def tell(name: str, rows: Sequence[Row], wrong: Mapping[str, tuple[AbstractContextManager[Any], Row]],
          *arguments: object, within: Collection[Row] = ()) -> int:
     """Does each row, prints its line, and returns the status of all. Rows `within` this process do not run the command.
+    What is wrong is looked at by the rows that were tried.
     """
-    failed = 0
+    failed, tried = 0, list(rows)
     for row in rows:
         what = row.__name__.replace("_", " ")
         fault, text = fault_of(row, *arguments)
+        if isinstance(fault, NotTried):
+            tried.remove(row)
+            not_tried(f"{name}, {what}", fault)
+            continue
         failed += fault is not None
         print(f"{name}: {what}: {text}"
               if fault is None else f"{name}: FAILED: {what}: {type(fault).__name__} {fault}", flush=True)
         if fault is not None and not isinstance(fault, Differs):
             traceback.print_exception(fault)
-    rows_of_command = [row for row in rows if row not in within]
-    blind = not_noticed(rows_of_command, wrong, *arguments)
+    rows_of_command = [row for row in tried if row not in within]
+    looked_at = {what: one for what, one in wrong.items() if one[1] in tried or one[1] not in rows}
+    blind = not_noticed(rows_of_command, looked_at, *arguments)
     print("".join(f"{name}: NOT NOTICED: {name_of_row}\n" for name_of_row in blind), end="")
-    noticed = 2 * len(rows_of_command) + len(wrong) - len(blind)
-    print(f"{name}: {len(rows) - failed} rows hold, {failed} do not; {noticed} wrong commands and rules are noticed, "
-          f"{len(blind)} are not")
-    return 1 if failed or blind else 0
+    noticed = 2 * len(rows_of_command) + len(looked_at) - len(blind)
+    print(f"{name}: {len(tried) - failed} rows hold, {failed} do not, {len(rows) - len(tried)} are not tried; "
+          f"{noticed} wrong commands and rules are noticed, {len(blind)} are not")
+    return 1 if failed or blind else 0 if tried else SKIPPED

@@ -18,6 +18,7 @@ from operations.tests.mirror.mirrors import DIRECT, OWN
 from operations.tests.tools import COMMAND
 from tests.program import PROGRAM, Differs, room_in_memory
 from tests.served_source import free_port
+from tests.skipped import SKIPPED, NotTried, not_tried
 
 Path = str | os.PathLike[str]
 Run = subprocess.Popen[str]
@@ -158,14 +159,19 @@ def rows(name: str, checks: Sequence[Callable[..., object]]) -> int:
     arguments = sys.argv[1:]
     program = os.path.abspath(arguments.pop(0) if arguments and os.path.isfile(arguments[0]) else str(PROGRAM))
     checks, failed = [check for check in checks if not arguments or check.__name__ in arguments], 0
+    tried = len(checks)
     for check in checks:
         started, why = time.monotonic(), ""
         with room_in_memory("tools-") as room, contextlib.chdir(room):
             try:
                 check(program, pathlib.Path(room))
+            except NotTried as missing:
+                tried -= 1
+                not_tried(f"{name}, {check.__name__}", missing)
+                continue
             except (Differs, OSError, ValueError, LookupError, subprocess.SubprocessError) as fault:
                 why, failed = f": {type(fault).__name__} {fault}", failed + 1
         print(f"{name}: {'FAILS' if why else 'holds'}, {time.monotonic() - started:.1f} s: {check.__name__}{why}",
               flush=True)
-    print(f"{name}: {len(checks) - failed} of {len(checks)} rows hold")
-    return 1 if failed or not checks else 0
+    print(f"{name}: {tried - failed} of {len(checks)} rows hold, {len(checks) - tried} are not tried")
+    return 1 if failed or not checks else 0 if tried else SKIPPED

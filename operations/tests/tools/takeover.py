@@ -23,6 +23,7 @@ from operations.tests.tools.made_up_store import OTHER, MadeUp, group, session, 
 from operations.tests.tools.rows import page_of, run_command, status_of, tell, wanted
 from ropepeach import command, takeover, takeover_store
 from tests.program import PROGRAM
+from tests.skipped import NotTried
 
 
 class Store(MadeUp):
@@ -278,7 +279,7 @@ SWAPS = {
 def a_copy_that_is_swapped(room, program):
     """Root gives no other file to the program's user, whatever is put in the place of the copy, or of the file."""
     if os.geteuid():
-        return "NOT TRIED: only root gives files away"
+        raise NotTried("only root gives files away")
     store = Store(room)
     victim = room / "victim"
     victim.write_bytes(b"root's")

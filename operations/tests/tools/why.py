@@ -25,6 +25,7 @@ from ropepeach.processes import Processes, Unseen
 from tests.disks import disks
 from tests.program import PROGRAM
 from tests.served_source import free_port
+from tests.skipped import NotTried
 
 IS_ROOT, NOBODY = os.geteuid() == 0, "nobody"
 SECONDS = 30
@@ -97,7 +98,7 @@ def what_is_not_there(room: Path, program: str) -> str:
 def what_is_not_allowed(room: Path, program: str) -> str:
     """A file, a folder and a port that the program's user may not have."""
     if not IS_ROOT:
-        return "NOT TRIED, as this is not root"
+        raise NotTried("this is not root")
     room.chmod(0o755)
     inner = room / "inner"
     inner.mkdir(mode=0o755)
@@ -125,7 +126,7 @@ def what_a_user_without_rights_sees(room: Path, program: str) -> str:
     """
     behind = ["setpriv", f"--reuid={NOBODY}", "--clear-groups", "--"]
     if not IS_ROOT or not shutil.which("setpriv") or run_command("why", "--help", behind=behind).returncode:
-        return f"NOT TRIED, as the user {NOBODY} can't run the command here"
+        raise NotTried(f"the user {NOBODY} can't run the command here")
     room.chmod(0o755)
     path, port = file_in(room), free_port()
     as_nobody = lambda status, *phrases, words: says(status, *phrases, words=words, behind=behind)
@@ -241,7 +242,7 @@ def a_file_system_that_is_read_only(room: Path, program: str) -> str:
     path = file_in(folder)
     process = in_a_mount(room, f"--bind {folder} {folder}; mount -o remount,bind,ro {folder}", path)
     if process is None:
-        return "NOT TRIED, as nobody may mount here"
+        raise NotTried("nobody may mount here")
     status_of(process, 1, "the file system of", "is read-only", "remount,rw")
     return "it is named"
 
@@ -255,7 +256,7 @@ def a_file_system_that_is_full(room: Path, program: str) -> str:
             f"head -c 300k /dev/zero >{folder}/b 2>/dev/null || true")
     process = in_a_mount(room, made, path)
     if process is None:
-        return "NOT TRIED, as nobody may mount here"
+        raise NotTried("nobody may mount here")
     status_of(process, 1, "has room for 0 bytes", "fallocate --length 1048576", "then restart")
     return "it is named, with what the file lacks"
 
@@ -356,10 +357,16 @@ def wrong_arguments(room: Path, program: str) -> str:
     for words in wrong_words:
         process = run_command("why", *map(str, words))
         wanted(process.returncode == 2, f"{words}: status {process.returncode}")
-    if IS_ROOT and shutil.which("runuser"):
-        process = run_command("why", "/", "--user", "root", behind=["runuser", "-u", NOBODY, "--"])
-        # (this user may not be able to read the command)
-        wanted(process.returncode in (2, 126), f"another user: {process.returncode} {process.stderr!r}")
+    return "status 2"
+
+
+def who_is_not_root_asks_for_another_user(room: Path, program: str) -> str:
+    """Root alone may ask for another user."""
+    if not IS_ROOT or not shutil.which("runuser"):
+        raise NotTried("this is not root, or there is no runuser here")
+    process = run_command("why", "/", "--user", "root", behind=["runuser", "-u", NOBODY, "--"])
+    # (this user may not be able to read the command)
+    wanted(process.returncode in (2, 126), f"another user: {process.returncode} {process.stderr!r}")
     return "status 2"
 
 
@@ -372,7 +379,7 @@ ROWS = [the_page_of_the_manual, nothing_is_in_the_way, what_is_not_there, what_i
         what_a_user_without_rights_sees,
         what_is_locked, the_program_itself, a_port_that_is_taken,
         a_file_system_that_is_read_only, a_file_system_that_is_full, how_much_room_is_enough, lines_of_locks,
-        wrong_arguments]
+        wrong_arguments, who_is_not_root_asks_for_another_user]
 
 
 # What is wrong with these has to be noticed by a row.
