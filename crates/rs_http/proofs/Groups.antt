@@ -14,7 +14,6 @@ use Rattle.rs_model.specs.declared.command.Refusal as model
 use Rattle.rs_model.specs.declared.command.Refusal.TheVariants as decides
 use Rattle.rs_model.specs.declared.command.Reply.{Reply}
 use Rattle.rs_items.specs.declared.item.ItemFault.{ItemFault}
-use Rattle.rs_items.specs.declared.item.ItemFault.TheVariants as faults
 use Rattle.rs_store.specs.Answered.{Answers}
 use Rattle.rs_store.specs.Commands.{IsCause, Leads}
 use Rattle.rs_store.specs.Refusals.{decided, or_spent, is_spent}
@@ -24,9 +23,8 @@ use Rattle.rs_store.specs.declared.refusal.Refusal.TheVariants.{Closed, BadGroup
 use Rattle.rs_http.specs.Turn.{Turn}
 use Rattle.rs_http.specs.Counted.{counted_group}
 use Rattle.rs_http.specs.Groups.{items_in, items_asked, IsUnread}
-use Rattle.rs_http.specs.Outcomes.{RunComesTo, UnaskedGroup, unplanned}
+use Rattle.rs_http.specs.Outcomes.{RunComesTo, UnaskedGroup}
 use Rattle.rs_http.specs.Responses.{RequestOutcome, refused}
-use Rattle.rs_http.specs.declared.request.RequestFault.TheVariants.{Line}
 
 fewer : (m n : ℕ) → m < n → nat_eq m n ≡ false
 fewer m n l = grind (arith, nat_tests)
@@ -71,12 +69,6 @@ unread_unasked n came rest NoMemory other_than none = inr (inr (inl (none, refl)
 unread_unasked n came rest ShortBody other_than short = inl (short.0, short.1, refl)
 unread_unasked n came rest ReadFault other_than few = absurd (other_than refl)
 unread_unasked n came rest refusal other_than none = absurd none
-
--- items that were not read, by the fault
-pub faulty_unasked : (came : List ℕ) (rest : Option (List ℕ)) (fault : ItemFault) → (fault ≡ faults.NoMemory) ⊎ (items_in came ≡ Err fault)
-    → UnaskedGroup (length came) came rest (unplanned (Line fault))
-faulty_unasked came rest fault (inl lacking) = inr (inr (inr (refl, ap (λ f. unplanned (Line f)) lacking)))
-faulty_unasked came rest fault (inr is) = inr (inl (refl, fault, is, refl))
 
 too_many : (n : ℕ) → 17 ≤ n → not (nat_le 1 n && nat_le n 16) ≡ true
 too_many n l = grind (arith, nat_tests)

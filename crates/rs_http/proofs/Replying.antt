@@ -23,12 +23,10 @@ use Rattle.rs_io.specs.declared.fault.StreamFault.TheVariants.{Read, Write}
 use Rattle.rs_http.specs.declared.request.RequestPlan.{RequestPlan}
 use Rattle.rs_http.specs.declared.request.RequestPlan.TheVariants.{ShowBody, ShowDocument, Put, Delete, Publish, Group}
 use Rattle.rs_http.specs.declared.request.RequestFault.{RequestFault}
-use Rattle.rs_items.specs.declared.item.ItemFault.TheVariants as faults
-use Rattle.rs_http.specs.declared.request.RequestFault.TheVariants.{Line}
 use Rattle.rs_http.specs.declared.head.HeadRead.{HeadRead}
 use Rattle.rs_http.specs.declared.request.Request.{Request}
 use Rattle.rs_http.specs.declared.response.Framing.{Framing}
-use Rattle.rs_http.specs.Outcomes.{outcome_replied, IsShownAs, RunComesTo, UnaskedGroup, GroupComesTo, document_or_none, unplanned, RequestGives}
+use Rattle.rs_http.specs.Outcomes.{outcome_replied, IsShownAs, RunComesTo, UnaskedGroup, GroupComesTo, document_or_none, RequestGives}
 use Rattle.rs_http.specs.Requests.{Asks}
 use Rattle.rs_http.specs.Responses.{RequestOutcome, refused, response_text, go_on}
 use Rattle.rs_http.specs.Serving.{preface_of, IsBroken, IsUnsaid, IsCutOff, RequestEnds}
@@ -36,10 +34,6 @@ use Rattle.rs_http.specs.Told.{told_by, IsAsked, AsksCommand, LeavesCut, IsReque
 use Rattle.rs_http.specs.Turn.{Turn}
 use Rattle.rs_http.proofs.Seeing.{is_asked}
 use Rattle.rs_http.proofs.Walks.{begins_one}
-
-told_unplanned : (fault : RequestFault) → told_by (unplanned fault) ≡ []
-told_unplanned (Line faults.NoMemory) = refl
-told_unplanned fault = refl
 
 told_found : (found : Option (List ℕ)) → told_by (document_or_none found) ≡ []
 told_found None = refl
@@ -55,7 +49,7 @@ told_body s name (Err refusal) outcome is = ap told_by is
 
 told_unasked : (n : ℕ) (came : List ℕ) (rest : Option (List ℕ)) (outcome : RequestOutcome) → UnaskedGroup n came rest outcome → told_by outcome ≡ []
 told_unasked n came rest outcome (inl short) = ap told_by short.2
-told_unasked n came rest outcome (inr (inl faulty)) = ap told_by faulty.3 ∙ told_unplanned (Line faulty.1)
+told_unasked n came rest outcome (inr (inl faulty)) = ap told_by faulty.3
 told_unasked n came rest outcome (inr (inr (inl body))) = ap told_by body.1
 told_unasked n came rest outcome (inr (inr (inr items))) = ap told_by items.1
 
@@ -119,7 +113,7 @@ module _ {D : Type 0} (device : D → DiskState) (rest : RestIsIdle device) (rea
   request_gets (Ok (Delete name)) more left outcome gives = run_gets (Ok (Delete name)) more (commands.Delete name) outcome gives.1 refl tt
   request_gets (Ok Publish) more left outcome gives = run_gets (Ok Publish) more commands.Publish outcome gives.1 refl tt
   request_gets (Ok (Group n waits)) more left outcome gives = group_gets n waits more left outcome gives
-  request_gets (Err reason) more left outcome gives = idle_gets (Err reason) more outcome (ap told_by gives.1 ∙ told_unplanned reason) tt (still gives.2)
+  request_gets (Err reason) more left outcome gives = idle_gets (Err reason) more outcome (ap told_by gives.1) tt (still gives.2)
 
   -- a put or a group whose reader failed
   pub broken_idles : (plan : Result RequestPlan RequestFault) (more : List ℕ) → IsBroken turn plan more → IsIdle device turn.old turn.new

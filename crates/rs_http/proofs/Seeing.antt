@@ -8,7 +8,6 @@ use Rattle.rs_model.specs.declared.command.Command.{Command}
 use Rattle.rs_model.specs.declared.command.Command.TheVariants as commands
 use Rattle.rs_model.specs.declared.command.Reply.{Reply}
 use Rattle.rs_store.specs.declared.refusal.Refusal as stored
-use Rattle.rs_items.specs.declared.item.ItemFault.TheVariants as faults
 use Rattle.rs_http.specs.declared.target.Place.{Place}
 use Rattle.rs_http.specs.declared.target.Place.TheVariants.{Resource, Unlawful, Document, Publishing, Grouping, Nowhere}
 use Rattle.rs_http.specs.declared.target.Methods.TheVariants.{OfResources, OfDocuments}
@@ -17,14 +16,14 @@ use Rattle.rs_http.specs.declared.head.HeadRead.TheVariants.{Whole, TooLong, End
 use Rattle.rs_http.specs.declared.request.RequestPlan.{RequestPlan}
 use Rattle.rs_http.specs.declared.request.RequestPlan.TheVariants.{ShowBody, ShowDocument, Put, Delete, Publish, Group}
 use Rattle.rs_http.specs.declared.request.RequestFault.{RequestFault}
-use Rattle.rs_http.specs.declared.request.RequestFault.TheVariants.{BadMethod, Line}
+use Rattle.rs_http.specs.declared.request.RequestFault.TheVariants.{BadMethod}
 use Rattle.rs_http.specs.declared.request.Request.{Request}
 use Rattle.rs_http.specs.Fields.{Parts, head_parts}
 use Rattle.rs_http.specs.Checks.{Causes, first_fault, is_get, is_put, is_delete, kinds_in, stated_in, expects_word, put_plan, group_plan, resource_plan, plan_at, place_in, field_causes, put_head_causes_in, place_causes, causes_of}
 use Rattle.rs_http.specs.Requests.{IsPlanFor, Asks}
 use Rattle.rs_http.specs.Turn.{Turn}
 use Rattle.rs_http.specs.Responses.{RequestOutcome, shown}
-use Rattle.rs_http.specs.Outcomes.{outcome_replied, RunComesTo, UnaskedGroup, GroupComesTo, unplanned, RequestGives}
+use Rattle.rs_http.specs.Outcomes.{outcome_replied, RunComesTo, UnaskedGroup, GroupComesTo, RequestGives}
 use Rattle.rs_http.specs.Told.{AsksToSee, IsAsked}
 use Rattle.rs_http.proofs.Plans.{free_after}
 
@@ -106,13 +105,9 @@ replied_hides : (result : Result Reply stored.Refusal) → is_shown (outcome_rep
 replied_hides (Ok reply) = refl
 replied_hides (Err refusal) = refl
 
-unplanned_hides : (fault : RequestFault) → is_shown (unplanned fault) ≡ false
-unplanned_hides (Line faults.NoMemory) = refl
-unplanned_hides fault = refl
-
 unasked_hides : (n : ℕ) (came : List ℕ) (rest : Option (List ℕ)) (outcome : RequestOutcome) → UnaskedGroup n came rest outcome → is_shown outcome ≡ false
 unasked_hides n came rest outcome (inl short) = ap is_shown short.2
-unasked_hides n came rest outcome (inr (inl faulty)) = ap is_shown faulty.3 ∙ unplanned_hides (Line faulty.1)
+unasked_hides n came rest outcome (inr (inl faulty)) = ap is_shown faulty.3
 unasked_hides n came rest outcome (inr (inr (inl body))) = ap is_shown body.1
 unasked_hides n came rest outcome (inr (inr (inr items))) = ap is_shown items.1
 
@@ -133,7 +128,7 @@ module _ {D : Type 0} {device : D → DiskState} (turn : Turn device) where
   shown_only (Ok (Delete name)) more left outcome gives is = sym (run_hides (commands.Delete name) outcome gives.1) ∙ is
   shown_only (Ok Publish) more left outcome gives is = sym (run_hides commands.Publish outcome gives.1) ∙ is
   shown_only (Ok (Group n waits)) more left outcome gives is = sym (group_hides n more left outcome gives) ∙ is
-  shown_only (Err reason) more left outcome gives is = sym (ap is_shown gives.1 ∙ unplanned_hides reason) ∙ is
+  shown_only (Err reason) more left outcome gives is = sym (ap is_shown gives.1) ∙ is
 
   -- so the outcome of a request is one that its bytes ask for
   pub is_asked : (bytes : List ℕ) (read : HeadRead) (request : Request) → Asks bytes read (Some request) → (more : List ℕ) (left : Option (List ℕ)) (outcome : RequestOutcome)

@@ -2,7 +2,7 @@
 use Rattle.std.specs.Prelude.{◌≡◌, ℕ, ◌<◌, List, [], ◌∷◌, length, map, filter}
 use Rattle.std.specs.Str.{str_eq_ignore_ascii_case}
 use Rattle.httparse.specs.Grammar.{RequestHead}
-use Rattle.httparse.specs.Spans.{span_bytes, header_bytes, name_and_value, IsWithin}
+use Rattle.httparse.specs.Spans.{span_bytes, header_bytes, name_and_value}
 use Rattle.httparse.specs.declared.spans.HeaderSpan.{HeaderSpan}
 use Rattle.httparse.specs.declared.spans.RequestSpans.{RequestSpans}
 use Rattle.rs_http.specs.declared.fields.Lone.{Lone}
@@ -37,8 +37,8 @@ head_parts_at head spans headers =
 abbrev pub values_of : List ℕ → Pairs → List (List ℕ)
 values_of name pairs = map (λ pair. pair.1) (filter (λ pair. str_eq_ignore_ascii_case pair.0 name) pairs)
 
--- the fields of one name: none, one with its value at this place of the head, or more
-abbrev pub LoneIs : List ℕ → Lone → List (List ℕ) → Type 0
-LoneIs head Absent values = values ≡ []
-LoneIs head (One span) values = (values ≡ span_bytes head span ∷ []) × IsWithin (length head) span
-LoneIs head Many values = 1 < length values
+-- the values of the fields of one name: none, this one, or more
+abbrev pub LoneIs : Lone → List (List ℕ) → Type 0
+LoneIs Absent values = values ≡ []
+LoneIs (One text) values = values ≡ text.now ∷ []
+LoneIs Many values = 1 < length values

@@ -9,7 +9,6 @@ use Rattle.rs_model.specs.declared.command.Command.TheVariants as commands
 use Rattle.rs_model.specs.declared.command.Item.{Item}
 use Rattle.rs_model.specs.declared.command.Reply.{Reply}
 use Rattle.rs_items.specs.declared.item.ItemFault.{ItemFault}
-use Rattle.rs_items.specs.declared.item.ItemFault.TheVariants as faults
 use Rattle.rs_lists.specs.declared.doc.Doc.{Doc}
 use Rattle.rs_caps.specs.DocumentTexts.{document_text}
 use Rattle.rs_caps.specs.Shows.{shown_of}
@@ -73,18 +72,13 @@ abbrev pub document_shown : {D : Type 0} → (D → DiskState) → Stored D → 
 document_shown device old doc =
     if old.is_closed then refused Closed else document_or_none (document_text (shown_of (state_of device old)) doc)
 
--- the outcome of a request that has no plan
-abbrev pub unplanned : RequestFault → RequestOutcome
-unplanned (Line faults.NoMemory) = refused NoMemory
-unplanned fault = faulted fault
-
 -- the input ended within a body of n bytes, of which these came
 abbrev pub BodyIsShort : ℕ → List ℕ → Option (List ℕ) → RequestOutcome → Type 0
 BodyIsShort n came rest outcome = (length came < n) × IsAtEnd rest × (outcome ≡ refused ShortBody)
 
 -- the body of n bytes came whole, and this is the first fault of its lines
 abbrev pub BodyIsFaulty : ℕ → List ℕ → RequestOutcome → Type 0
-BodyIsFaulty n came outcome = (length came ≡ n) × (fault : ItemFault) × (items_in came ≡ Err fault) × (outcome ≡ unplanned (Line fault))
+BodyIsFaulty n came outcome = (length came ≡ n) × (fault : ItemFault) × (items_in came ≡ Err fault) × (outcome ≡ faulted (Line fault))
 
 -- there was no memory for the body, and no byte of it was read
 abbrev pub BodyLacksMemory : List ℕ → RequestOutcome → Type 0
@@ -127,7 +121,7 @@ PlanGives turn (Group n waits) more rest outcome = GroupComesTo turn n more rest
 -- the possible outcomes of a request; without a plan nothing is read or done
 abbrev pub RequestGives : {D : Type 0} {device : D → DiskState} → Turn device → Result RequestPlan RequestFault → List ℕ → Option (List ℕ) → RequestOutcome → Type 0
 RequestGives turn (Ok plan) more rest outcome = PlanGives turn plan more rest outcome
-RequestGives turn (Err reason) more rest outcome = (more ≡ []) × (outcome ≡ unplanned reason) × (turn.new ≡ turn.old)
+RequestGives turn (Err reason) more rest outcome = (more ≡ []) × (outcome ≡ faulted reason) × (turn.new ≡ turn.old)
 
 -- the response to an outcome was written, and this is its status; or the writer failed within it
 abbrev pub Sends : {W : Type 0} → (W → Option (List ℕ)) → Watched W → Watched W → Framing → RequestOutcome → Result StatusCode StreamFault → Type 0

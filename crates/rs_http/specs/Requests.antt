@@ -1,5 +1,5 @@
 -- What the bytes of a head ask for.
-use Rattle.std.specs.Prelude.{◌≡◌, ◌⊎◌, ℕ, ◌<◌, Bool, true, false, List, [], length, codes, bytes_eq, Option, Some, None, Result, Ok, Err, unwrap_or}
+use Rattle.std.specs.Prelude.{◌≡◌, ◌⊎◌, ℕ, ◌<◌, Bool, false, List, [], length, codes, bytes_eq, Option, Some, None, Result, Ok, Err, unwrap_or}
 use Rattle.httparse.specs.Grammar.{RequestHead, ReadsRequest, HasNoRequest}
 use Rattle.rs_http.specs.declared.head.HeadRead.{HeadRead}
 use Rattle.rs_http.specs.declared.head.HeadRead.TheVariants.{Whole, TooLong, Ended}
@@ -8,12 +8,10 @@ use Rattle.rs_http.specs.declared.request.RequestFault.{RequestFault}
 use Rattle.rs_http.specs.declared.request.RequestFault.TheVariants.{HeadTooLong, BadHead, Line}
 use Rattle.rs_http.specs.declared.request.RequestPlan.{RequestPlan}
 use Rattle.rs_http.specs.declared.request.RequestPlan.TheVariants.{ShowBody, Put, Delete}
-use Rattle.rs_record.specs.declared.fault.ValueFault.{ValueFault}
-use Rattle.rs_record.specs.declared.fault.ValueFault.TheVariants as types
 use Rattle.rs_items.specs.declared.item.ItemFault.TheVariants.{NoMemory}
 use Rattle.rs_http.specs.declared.request.Request.{Request}
 use Rattle.rs_http.specs.Fields.{Parts, head_parts}
-use Rattle.rs_http.specs.Checks.{Causes, first_fault, causes_of, put_head_causes, place_causes, is_bad_type, stated_type, place_in, put_plan, plan_at}
+use Rattle.rs_http.specs.Checks.{Causes, first_fault, causes_of, put_head_causes, place_causes, place_in, put_plan, plan_at}
 
 -- a plan of a resource has its name, which takes memory; no other plan takes any
 abbrev pub TakesMemory : Option RequestPlan → Type 0
@@ -38,12 +36,6 @@ IsPutPlan name stated kinds expects made =
 -- the plan of a request for this place, by the parts of its head
 abbrev pub IsPlanAt : Place → Parts → Result RequestPlan RequestFault → Type 0
 IsPlanAt place p made = IsPlanFor (place_causes place p) (plan_at place p) made
-
--- the type that the fields state for a body, or why there is none; there may be no memory for a lawful type
-abbrev pub TypeIs : List (List ℕ) → Result (List ℕ) ValueFault → Type 0
-TypeIs kinds (Ok kind) = (is_bad_type kinds ≡ false) × (kind ≡ stated_type kinds)
-TypeIs kinds (Err types.Malformed) = is_bad_type kinds ≡ true
-TypeIs kinds (Err types.NoMemory) = is_bad_type kinds ≡ false
 
 -- what this head asks for: whether its method is HEAD, and its plan
 pub record IsRequestOf (p : Parts) (request : Request) : Type 0 where

@@ -7,7 +7,7 @@ ghost use Rattle.rs_io.specs.Watch.{watched, seen_by, failures, is_flushed, Stay
 ghost use Rattle.rs_http.specs.Turn.{turn};
 ghost use Rattle.rs_http.specs.Serving.{PlanEnds, RequestEnds, TakesPart, preface_of};
 ghost use Rattle.rs_http.specs.Responses.{go_on};
-ghost use Rattle.rs_http.specs.Outcomes.{outcome_replied, unplanned, GroupComesTo, Sends, Responds};
+ghost use Rattle.rs_http.specs.Outcomes.{outcome_replied, GroupComesTo, Sends, Responds};
 
 use crate::ask::{run, show_body, show_document};
 use crate::body::read_body;
@@ -20,28 +20,11 @@ use crate::status::StatusCode;
 use httpdate::HttpDate;
 use rs_disk::Disk;
 use rs_io::{StreamFault, Watched, WriteFault};
-use rs_items::ItemFault;
 use rs_model::{Command, Group, Reply};
 use rs_store::{Refusal, Source};
 use rs_time::Moment;
 use std::alloc::Global;
 use std::io::{Read, Write};
-
-/// Writes the response to a request without a plan, and gives its status.
-fn write_unplanned<W: Write>(
-    writer: &mut Watched<W>,
-    framing: Framing,
-    fault: RequestFault,
-) -> Result<StatusCode, StreamFault>
-    ensures { Sends W.contents writer.old writer.new framing (unplanned fault) result }
-{
-    match fault {
-        RequestFault::Line(ItemFault::NoMemory) => {
-            write_refusal(writer, framing, Refusal::NoMemory)
-        }
-        _ => write_fault(writer, framing, fault),
-    }
-}
 
 /// Writes the response to a put that the source answered, unless its reader failed.
 fn write_put<W: Write>(
@@ -76,7 +59,7 @@ fn ask_group<D: Disk, W: Write>(
 {
     let items = match first_items(exchange.alloc, body) {
         Ok(items) => items,
-        Err(fault) => return write_unplanned(writer, exchange.framing, RequestFault::Line(fault)),
+        Err(fault) => return write_fault(writer, exchange.framing, RequestFault::Line(fault)),
     };
     let command = Command::Group(Group::new(items));
     run(source, &command, writer, exchange)
@@ -118,7 +101,7 @@ fn respond<D: Disk, R: Read, W: Write>(
     ensures silent { IsErrOf result StreamFault.Read → writer.new ≡ writer.old }
 {
     match plan {
-        Err(fault) => write_unplanned(writer, exchange.framing, fault),
+        Err(fault) => write_fault(writer, exchange.framing, fault),
         Ok(RequestPlan::ShowBody(name)) => show_body(source, &name, writer, exchange.framing),
         Ok(RequestPlan::ShowDocument(doc)) => show_document(source, doc, writer, exchange.framing),
         Ok(RequestPlan::Delete(name)) => run(source, &Command::Delete { name }, writer, exchange),

@@ -1,73 +1,58 @@
 //! What a request asks for.
 
-ghost use Rattle.std.specs.Prelude.{◌≡◌, ◌≤◌, ◌∷◌, [], ℕ, List, length, map, All, IfOk, IfSome, IfNone, Some, codes, bytes_eq, unwrap_or};
+ghost use Rattle.std.specs.Prelude.{◌≡◌, ◌≤◌, ℕ, List, length, IfSome, IfNone, IsTrue, Some, true, false, unwrap_or};
 ghost use Rattle.httparse.specs.Grammar.{HasNoRequest};
-ghost use Rattle.httparse.specs.Spans.{IsHeaderWithin, IsWithin, IsRequestWithin, IsRequestOf, header_bytes};
-ghost use Rattle.rs_http.specs.Fields.{LoneIs, head_parts_at};
-ghost use Rattle.rs_http.specs.Checks.{is_get as gets, is_post as posts, stated_in, kinds_in, group_head_causes, group_plan as plan_of_group, causes_of, plan_at as plan_there, place_in};
-ghost use Rattle.rs_http.specs.Requests.{TypeIs, IsPlanFor, IsPutPlan, IsPlanAt, AsksFor, Asks, refused_for};
+ghost use Rattle.httparse.specs.Spans.{IsRequestWithin, IsRequestOf};
+ghost use Rattle.rs_record.specs.MediaType.{is_media_type};
+ghost use Rattle.rs_http.specs.Fields.{LoneIs};
+ghost use Rattle.rs_http.specs.Checks.{is_bad_type, stated_type, stated_in, kinds_in, expects_word as says_word, group_head_causes, group_plan as plan_of_group, causes_of, plan_at as plan_there, place_in};
+ghost use Rattle.rs_http.specs.Requests.{IsPlanFor, IsPutPlan, IsPlanAt, AsksFor, Asks, refused_for};
 
-use crate::checks::{check_fields, expects_word};
-use crate::fields::{Lone, find_lone};
+use crate::checks::check_fields;
+use crate::fields::{HeadParts, Lone};
 use crate::head::HeadRead;
 use crate::request::{Request, RequestFault, RequestPlan};
-use crate::target::{Methods, Place, path_of_target, place_of};
+use crate::target::{Methods, NameInHead, Place, path_of_target, place_of};
 use httparse::Status;
 use httparse::spans::{EMPTY_HEADER_SPAN, HeaderSpan, RequestSpans, parse_request};
 use rs_items::ItemFault;
-use rs_record::{LONGEST_BODY, MediaType, Name, ValueFault};
-use std::alloc::{AllocError, Global};
+use rs_record::{LONGEST_BODY, MediaType};
+use std::alloc::Global;
 
-/// The media type of this text.
-fn type_of(alloc: Global, text: &[u8]) -> Result<MediaType, ValueFault>
-    ensures { TypeIs (text.now ∷ []) result }
-{
-    MediaType::new(alloc, text)
-}
-
-/// The media type that the fields state for a body.
-fn body_type(alloc: Global, head: &[u8], lone: Lone) -> Result<MediaType, ValueFault>
-    requires { (kinds : List (List ℕ)) × LoneIs head.now lone kinds }
-    ensures { (kinds : List (List ℕ)) → LoneIs head.now lone kinds → TypeIs kinds result }
+/// The media type that the fields state for a body, unless it is unlawful or a second one.
+fn stated_kind(lone: Lone<'_>) -> Option<&[u8]>
+    ensures some { IfSome result (λ kind. (kinds : List (List ℕ)) → LoneIs lone.entry kinds
+        → (is_bad_type kinds ≡ false) × (kind.now ≡ stated_type kinds)) }
+    ensures lawful { IfSome result (λ kind. IsTrue (is_media_type kind.now)) }
+    ensures none { IfNone result
+        ((kinds : List (List ℕ)) → LoneIs lone.entry kinds → is_bad_type kinds ≡ true) }
 {
     match lone {
-        Lone::Absent => type_of(alloc, b"application/octet-stream"),
-        Lone::One(span) => type_of(alloc, span.of(head)),
-        Lone::Many => Err(ValueFault::Malformed),
+        Lone::Absent => Some(b"application/octet-stream"),
+        Lone::One(text) if MediaType::is_lawful(text) => Some(text),
+        Lone::One(_) | Lone::Many => None,
     }
 }
 
-/// The plan of a put with the length that the fields state. Its name is an error where there is no memory for it.
+/// The plan of a put with the length that the fields state.
 fn put_plan(
     alloc: Global,
-    head: &[u8],
-    headers: &[HeaderSpan],
-    name: Result<Name, AllocError>,
+    head: &HeadParts<'_>,
     stated: Option<u64>,
-    expects: bool,
+    name: NameInHead<'_>,
 ) -> Result<RequestPlan, RequestFault>
-    requires { All (IsHeaderWithin (length head.now)) headers.now }
-    ensures { (bytes : List ℕ) → IfOk name (λ name. name ≡ bytes) → IsPutPlan bytes stated
-        (kinds_in (map (header_bytes head.now) headers.now)) expects result }
+    ensures { IsPutPlan name.entry stated (kinds_in head.now.fields) (says_word head.now) result }
 {
-    let Some(length) = stated else {
-        return Err(RequestFault::NoLength);
-    };
-    let kind = body_type(alloc, head, find_lone(head, headers, b"content-type"));
-    if let Err(ValueFault::Malformed) = kind {
-        return Err(RequestFault::Line(ItemFault::BadType));
-    }
+    let length = stated.ok_or(RequestFault::NoLength)?;
+    let kind = stated_kind(head.fields(b"content-type")).ok_or(ItemFault::BadType)?;
     if length > LONGEST_BODY as u64 {
         return Err(RequestFault::TooLong);
     }
-    let (Ok(name), Ok(kind)) = (name, kind) else {
-        return Err(RequestFault::Line(ItemFault::NoMemory));
-    };
     Ok(RequestPlan::Put {
-        name,
-        kind,
+        name: name.to_name(alloc)?,
+        kind: MediaType::from_lawful(alloc, kind)?,
         length,
-        waits: expects && length > 0,
+        waits: head.expects_word() && length > 0,
     })
 }
 
@@ -76,9 +61,7 @@ fn group_plan(stated: Option<u64>, expects: bool) -> Result<RequestPlan, Request
     ensures { IsPlanFor (group_head_causes stated)
         (Some (plan_of_group (unwrap_or stated 0) expects)) result }
 {
-    let Some(length) = stated else {
-        return Err(RequestFault::NoLength);
-    };
+    let length = stated.ok_or(RequestFault::NoLength)?;
     if length > LONGEST_BODY as u64 {
         return Err(RequestFault::TooLong);
     }
@@ -88,109 +71,56 @@ fn group_plan(stated: Option<u64>, expects: bool) -> Result<RequestPlan, Request
     })
 }
 
-/// Whether a method is `POST`.
-fn is_post(method: &[u8]) -> bool
-    ensures { result ≡ posts method.now }
-{
-    method == b"POST".as_slice()
-}
-
-/// Whether a method is `GET` or `HEAD`.
-fn is_get(method: &[u8]) -> bool
-    ensures { result ≡ gets method.now }
-{
-    method == b"GET".as_slice() || method == b"HEAD".as_slice()
-}
-
-/// The plan of a request for a resource. Its name is an error where there is no memory for it.
+/// The plan of a request for a resource.
 fn resource_plan(
     alloc: Global,
-    head: &[u8],
-    spans: RequestSpans,
-    headers: &[HeaderSpan],
+    head: &HeadParts<'_>,
     stated: Option<u64>,
-    name: Result<Name, AllocError>,
+    name: NameInHead<'_>,
 ) -> Result<RequestPlan, RequestFault>
-    requires method { IsWithin (length head.now) spans.method }
-    requires headers { All (IsHeaderWithin (length head.now)) headers.now }
-    requires stated { stated ≡ stated_in (head_parts_at head.now spans headers.now) }
-    ensures { (bytes : List ℕ) → IfOk name (λ name. name ≡ bytes)
-        → IsPlanAt (Place.Resource bytes) (head_parts_at head.now spans headers.now) result }
+    requires { stated ≡ stated_in head.now }
+    ensures { IsPlanAt (Place.Resource name.entry) head.now result }
 {
-    let method = spans.method.of(head);
-    if method == b"PUT".as_slice() {
-        let expects = expects_word(head, spans, headers);
-        return put_plan(alloc, head, headers, name, stated, expects);
+    if head.has_method(b"PUT") {
+        return put_plan(alloc, head, stated, name);
     }
-    let deletes = method == b"DELETE".as_slice();
-    if !deletes && !is_get(method) {
-        return Err(RequestFault::BadMethod(Methods::OfResources));
+    if head.has_method(b"DELETE") {
+        return Ok(RequestPlan::Delete(name.to_name(alloc)?));
     }
-    match name {
-        Err(_) => Err(RequestFault::Line(ItemFault::NoMemory)),
-        Ok(name) if deletes => Ok(RequestPlan::Delete(name)),
-        Ok(name) => Ok(RequestPlan::ShowBody(name)),
+    if head.is_get() {
+        return Ok(RequestPlan::ShowBody(name.to_name(alloc)?));
     }
+    Err(RequestFault::BadMethod(Methods::OfResources))
 }
 
 /// The plan of a request for a place.
 fn plan_at(
     alloc: Global,
-    head: &[u8],
-    spans: RequestSpans,
-    headers: &[HeaderSpan],
+    head: &HeadParts<'_>,
     stated: Option<u64>,
-    place: Place,
+    place: Place<'_>,
 ) -> Result<RequestPlan, RequestFault>
-    requires method { IsWithin (length head.now) spans.method }
-    requires headers { All (IsHeaderWithin (length head.now)) headers.now }
-    requires stated { stated ≡ stated_in (head_parts_at head.now spans headers.now) }
-    ensures { IsPlanAt place (head_parts_at head.now spans headers.now) result }
+    requires { stated ≡ stated_in head.now }
+    ensures { IsPlanAt place.entry head.now result }
 {
-    let method = spans.method.of(head);
     match place {
-        Place::Resource(name) => resource_plan(alloc, head, spans, headers, stated, Ok(name)),
+        Place::Resource(name) => resource_plan(alloc, head, stated, name),
         Place::Unlawful => Err(RequestFault::Line(ItemFault::BadName)),
-        Place::Document(doc) => {
-            if is_get(method) {
-                return Ok(RequestPlan::ShowDocument(doc));
-            }
-            Err(RequestFault::BadMethod(Methods::OfDocuments))
-        }
-        Place::Publishing => {
-            if is_post(method) {
-                return Ok(RequestPlan::Publish);
-            }
-            Err(RequestFault::BadMethod(Methods::OfPosts))
-        }
-        Place::Grouping => {
-            if is_post(method) {
-                return group_plan(stated, expects_word(head, spans, headers));
-            }
-            Err(RequestFault::BadMethod(Methods::OfPosts))
-        }
+        Place::Document(doc) if head.is_get() => Ok(RequestPlan::ShowDocument(doc)),
+        Place::Document(_) => Err(RequestFault::BadMethod(Methods::OfDocuments)),
+        Place::Publishing if head.is_post() => Ok(RequestPlan::Publish),
+        Place::Grouping if head.is_post() => group_plan(stated, head.expects_word()),
+        Place::Publishing | Place::Grouping => Err(RequestFault::BadMethod(Methods::OfPosts)),
         Place::Nowhere => Err(RequestFault::NoSuchDocument),
     }
 }
 
-/// The plan of a head with its parts at these spans and headers.
-fn plan_request(
-    alloc: Global,
-    head: &[u8],
-    spans: RequestSpans,
-    headers: &[HeaderSpan],
-) -> Result<RequestPlan, RequestFault>
-    requires method { IsWithin (length head.now) spans.method }
-    requires target { IsWithin (length head.now) spans.path }
-    requires headers { All (IsHeaderWithin (length head.now)) headers.now }
-    ensures { let p = head_parts_at head.now spans headers.now in
-        IsPlanFor (causes_of p) (plan_there (place_in p) p) result }
+/// The plan of a head with these parts.
+fn plan_request(alloc: Global, head: &HeadParts<'_>) -> Result<RequestPlan, RequestFault>
+    ensures { IsPlanFor (causes_of head.now) (plan_there (place_in head.now) head.now) result }
 {
-    let stated = check_fields(head, spans, headers)?;
-    match place_of(alloc, path_of_target(spans.path.of(head))) {
-        Ok(place) => plan_at(alloc, head, spans, headers, stated, place),
-        Err(fault) => resource_plan(alloc, head, spans, headers, stated, Err(fault)),
-    }
+    let stated = check_fields(head)?;
+    plan_at(alloc, head, stated, place_of(path_of_target(head.target())))
 }
 
 /// Room for more fields than 8,192 bytes can hold.
@@ -221,13 +151,6 @@ fn refused_request(fault: RequestFault) -> Request
     }
 }
 
-/// Whether a method is `HEAD`.
-fn is_head(method: &[u8]) -> bool
-    ensures { result ≡ bytes_eq method.now (codes "HEAD") }
-{
-    method == b"HEAD".as_slice()
-}
-
 /// What a head asks for, with room for its fields.
 fn read_with(alloc: Global, head: &[u8], headers: &mut [HeaderSpan]) -> Request
     requires short { length head.now ≤ 8192 }
@@ -237,9 +160,10 @@ fn read_with(alloc: Global, head: &[u8], headers: &mut [HeaderSpan]) -> Request
     let Some(spans) = parse_head(head, headers) else {
         return refused_request(RequestFault::BadHead);
     };
+    let parts = HeadParts::new(head, spans, &headers[..spans.headers]);
     Request {
-        is_head: is_head(spans.method.of(head)),
-        plan: plan_request(alloc, head, spans, &headers[..spans.headers]),
+        is_head: parts.has_method(b"HEAD"),
+        plan: plan_request(alloc, &parts),
     }
 }
 

@@ -6,6 +6,7 @@ use crate::target::Methods;
 use rs_items::ItemFault;
 use rs_lists::Doc;
 use rs_record::{MediaType, Name};
+use std::alloc::AllocError;
 
 /// Why a request is refused before the source sees it. The first cause in this order counts. Causes in the lines of a
 /// group come after all causes in its head, and there the first line with a cause counts.
@@ -68,6 +69,17 @@ impl From<ItemFault> for RequestFault {
 
     fn from(fault: ItemFault) -> RequestFault {
         RequestFault::Line(fault)
+    }
+}
+
+impl From<AllocError> for RequestFault {
+    ghost use Rattle.rs_http.specs.declared.request.RequestFault.TheVariants.{Line};
+    ghost use Rattle.rs_items.specs.declared.item.ItemFault.TheVariants.{NoMemory};
+
+    ghost from_gives = { λ _ made. made ≡ Line NoMemory };
+
+    fn from(_: AllocError) -> RequestFault {
+        RequestFault::Line(ItemFault::NoMemory)
     }
 }
 

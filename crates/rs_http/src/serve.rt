@@ -93,9 +93,7 @@ pub fn serve_one<D: Disk, R: Read, W: Write>(
     requests_recover::<D>();
     requests_make_walks::<D>();
     let mut buf = [0u8; HEAD_LIMIT];
-    let Ok((read, came)) = read_head(reader, &mut buf) else {
-        return Err(StreamFault::Read);
-    };
+    let (read, came) = read_head(reader, &mut buf)?;
     let Some(request) = read_request(alloc, &buf[..came], read) else {
         return Ok(Served::Nothing);
     };

@@ -1,6 +1,6 @@
 //! What the target of a request names.
 
-ghost use Rattle.std.specs.Prelude.{◌≡◌, ◌==◌, ◌≤◌, ℕ, List, length, IfOk, OnErr};
+ghost use Rattle.std.specs.Prelude.{◌≡◌, ◌==◌, ◌≤◌, length, IfOk};
 ghost use Rattle.std.specs.List.{position};
 ghost use Rattle.rs_http.specs.Targets.{path_of_target as path_in, scheme_length as length_of_scheme, after_authority as path_after, place_of as place_at, resource_place as resource_at};
 
@@ -8,14 +8,41 @@ use crate::fields::is_same;
 use rs_caps::doc_of;
 use rs_items::after;
 use rs_lists::Doc;
-use rs_record::{Name, ValueFault};
+use rs_record::Name;
 use std::alloc::{AllocError, Global};
+use std::marker::Model;
+
+/// A lawful name as it stands in a head, seen as the list of its bytes.
+#[derive(Debug, Drop)]
+pub(crate) struct NameInHead<'a> {
+    bytes: &'a [u8],
+}
+
+impl<'a> Model for NameInHead<'a> {
+    ghost use Rattle.std.specs.Prelude.{ℕ, List, IsTrue};
+    ghost use Rattle.rs_record.specs.Name.{is_name};
+
+    ghost Value = { List ℕ };
+
+    ghost view = { λ n. n.bytes.now };
+
+    ghost invariant = { λ n. IsTrue (is_name n.bytes.now) };
+}
+
+impl<'a> NameInHead<'a> {
+    /// The name, with memory of its own.
+    pub(crate) fn to_name(&self, alloc: Global) -> Result<Name, AllocError>
+        ensures { IfOk result (λ name. name ≡ self.now) }
+    {
+        Name::from_lawful(alloc, self.bytes)
+    }
+}
 
 /// What a path names.
 #[derive(Debug, Drop)]
-pub(crate) enum Place {
+pub(crate) enum Place<'a> {
     /// The resource of this name, whether it is held or not.
-    Resource(Name),
+    Resource(NameInHead<'a>),
     /// A resource of an unlawful name.
     Unlawful,
     /// This document, whether it exists or not.
@@ -82,37 +109,30 @@ pub(crate) fn path_of_target(target: &[u8]) -> &[u8]
 }
 
 /// The resource of this name, where it is lawful.
-fn resource_place(alloc: Global, name: &[u8]) -> Result<Place, AllocError>
-    ensures ok { IfOk result (λ place. place ≡ resource_at name.now) }
-    ensures err { OnErr result ((bytes : List ℕ) × (resource_at name.now ≡ Place.Resource bytes)) }
+fn resource_place(name: &[u8]) -> Place<'_>
+    ensures { result ≡ resource_at name.now }
 {
-    match Name::new(alloc, name) {
-        Ok(name) => Ok(Place::Resource(name)),
-        Err(ValueFault::Malformed) => Ok(Place::Unlawful),
-        Err(ValueFault::NoMemory) => Err(AllocError),
+    if !Name::is_lawful(name) {
+        return Place::Unlawful;
     }
+    Place::Resource(NameInHead { bytes: name })
 }
 
 /// What a path names.
-///
-/// # Errors
-///
-/// [`AllocError`] where the path names a resource, and there is no memory for its name.
-pub(crate) fn place_of(alloc: Global, path: &[u8]) -> Result<Place, AllocError>
-    ensures ok { IfOk result (λ place. place ≡ place_at path.now) }
-    ensures err { OnErr result ((name : List ℕ) × (place_at path.now ≡ Place.Resource name)) }
+pub(crate) fn place_of(path: &[u8]) -> Place<'_>
+    ensures { result ≡ place_at path.now }
 {
     if let Some(name) = after(b"/resource/", path) {
-        return resource_place(alloc, name);
+        return resource_place(name);
     }
     if path == b"/publish".as_slice() {
-        return Ok(Place::Publishing);
+        return Place::Publishing;
     }
     if path == b"/group".as_slice() {
-        return Ok(Place::Grouping);
+        return Place::Grouping;
     }
     match doc_of(path) {
-        Some(doc) => Ok(Place::Document(doc)),
-        None => Ok(Place::Nowhere),
+        Some(doc) => Place::Document(doc),
+        None => Place::Nowhere,
     }
 }

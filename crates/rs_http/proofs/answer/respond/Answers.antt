@@ -1,7 +1,7 @@
 -- Each plan, as its own function answers it.
 use Rattle.std.proofs.Common.{◌≡◌, ◌∙◌, Ok, Err, ap, refl}
 use Rattle.rs_http.specs.declared.request.RequestPlan.TheVariants.{ShowBody, ShowDocument, Delete, Publish}
-use Rattle.rs_http.specs.Outcomes.{unplanned}
+use Rattle.rs_http.specs.Responses.{faulted}
 use Rattle.rs_http.proofs.Asking.{answered}
 use Rattle.rs_http.proofs.Endings.{unread, sent_bare, put_answered}
 use Rattle.rs_http.proofs.answer.respond.Goals as goal
@@ -9,8 +9,8 @@ use Rattle.rs_http.proofs.answer.respond.Goals as goal
 pub returns-in-Err-clause-ends : goal.returns-in-Err-clause-ends
 returns-in-Err-clause-ends g c =
     sent_bare (Err c.in-Err.fault) g.R.Read.remaining c.args.reader.now c.in-Err.is
-    (answered {contents = g.W.Write.contents} {before = c.args.writer.now} {after = c.write_unplanned.new.writer} {framing = c.args.exchange.framing} {result = c.write_unplanned.result}
-    {comes = λ o. o ≡ unplanned c.in-Err.fault} (unplanned c.in-Err.fault) refl c.write_unplanned.ensures) (λ o e. (refl, e, refl))
+    (answered {contents = g.W.Write.contents} {before = c.args.writer.now} {after = c.write_fault.new.writer} {framing = c.args.exchange.framing} {result = c.write_fault.result}
+    {comes = λ o. o ≡ faulted c.in-Err.fault} (faulted c.in-Err.fault) refl c.write_fault.ensures) (λ o e. (refl, e, refl))
 
 pub returns-in-Ok-ShowBody-clause-ends : goal.returns-in-Ok-ShowBody-clause-ends
 returns-in-Ok-ShowBody-clause-ends g c =

@@ -5,4 +5,4 @@ use Rattle.rs_http.specs.Fields.{values_of, LoneIs}
 use Rattle.rs_http.proofs.fields.find_lone.Given as goal
 
 abbrev pub invariant-loop-header : goal.invariant-loop-header
-invariant-loop-header l = LoneIs l.head l.found (values_of l.name (map (header_bytes l.head) (take l.header-index l.headers)))
+invariant-loop-header l = LoneIs l.found (values_of l.name (map (header_bytes l.head) (take l.header-index l.headers)))
