@@ -342,9 +342,11 @@ OF_EDGES = [
         EDGES,
     ),
     body(
-        "a copy is synced before its slots are closed by one write", "copy", "writing",
-        "    close_slots(to)?;\n",
-        "    to.sync()?;\n    to.write(0, &[0; 1024])?;\n    to.sync()?;\n",
+        "a copy closes the second slot first", "commit", "copying",
+        "    disk.write(Slot::First.offset(), &[CLOSED])?;\n"
+        "    write_settled(disk, Slot::Second.offset(), &[CLOSED])\n",
+        "    disk.write(Slot::Second.offset(), &[CLOSED])?;\n"
+        "    write_settled(disk, Slot::First.offset(), &[CLOSED])\n",
         CALLS,
     ),
     body(

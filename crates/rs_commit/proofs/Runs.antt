@@ -1,15 +1,18 @@
 -- Commits and formatting as runs of device calls.
-use Rattle.std.proofs.Common.{true≢false, ◌≡◌, inl, inr, ℕ, ◌+◌, ◌<◌, ◌≤◌, Bool, true, false, List, [], ◌∷◌, length, refl, sym, ◌∙◌, ap, subst, arith, Result, Ok, Err, IsErr, OnOk, OnErr}
+use Rattle.std.proofs.Common.{true≢false, ◌≡◌, ◌⊎◌, inl, inr, ℕ, ◌+◌, ◌<◌, ◌≤◌, Bool, true, false, List, [], ◌∷◌, length, refl, sym, ◌∙◌, ap, subst, arith, Result, Ok, Err, IsErr, OnOk, OnErr}
+use Rattle.std.proofs.lemmas.Bool.{cases_lt}
 use Rattle.std.specs.Bool.{OnTrue, OnFalse}
 use Rattle.rs_disk.specs.Medium.{Medium, DiskState, IsImage, IsMedium, over, resting}
 use Rattle.rs_disk.specs.Calls.{CountsCall, Writes, Tears}
 use Rattle.rs_disk.specs.Leaves.{Leaves, Torn, TornFrom}
 use Rattle.rs_disk.specs.Runs.{WritesWithin, WritesNothing}
-use Rattle.rs_commit.proofs.FromBelow.{over_torn, back_part, started, goes_on, weaker, exit_images, write_leaves, writing_one, writing_then}
+use Rattle.rs_commit.proofs.FromBelow.{over_torn, back_part, started, goes_on, torn_byte, weaker, exit_images, write_leaves, writing_one, writing_then}
 use Rattle.rs_commit.specs.declared.root.Root.{Root}
 use Rattle.rs_commit.specs.declared.slot.Slot.{Slot}
+use Rattle.rs_commit.specs.declared.slot.Slot.TheVariants.{First, Second}
 use Rattle.rs_commit.specs.Slots.{Standing, offset, other, payload_of, IsLawfulRoot}
 use Rattle.rs_commit.specs.Commit.{SameBehind, IsReady, OutsideOf, OldOrNew, WritesSlots, with_root}
+use Rattle.rs_commit.specs.Format.{IsAsBefore, SameButGates}
 use Rattle.rs_commit.proofs.Blocks.{fits_slot, over_behind, over_thrice}
 use Rattle.rs_commit.proofs.Payloads.{length-payload}
 use Rattle.rs_commit.proofs.Phases.{Shut, behind_on, at_entry, closing, shut_already, shut_now, staging, staged_now, opening}
@@ -79,6 +82,32 @@ slots_then {old = old} {mid = mid} {new = new} one two = record {
       (weaker mid new (λ _. OutsideOf mid.now) (λ _. OutsideOf old.now)
       (λ m image out. let before = exit_images old mid (λ _. OutsideOf old.now) one.leaves out.0 out.1 in (before.0, before.1, behind_on image out.0 before.0 out.2 before.2)) two.leaves);
 }
+
+-- A run that writes the gate of a slot leaves all else as it was at entry,
+but_gates : (at : ℕ) (one two : List ℕ) → (at ≡ offset First) ⊎ (at ≡ offset Second) → Torn at 1 one two → SameButGates two one
+but_gates at one two gate torn = record { size = torn.size; bytes = λ i first second. torn_byte at 1 i one two torn (beside i first second gate) }
+  where
+    apart : (i : ℕ) → ¬ (i ≡ at) → (i + 1 ≤ at) ⊎ (at + 1 ≤ i)
+    apart i other = elim (cases_lt i at) [
+      | inl less ↦ inl (omega (arith, less))
+      | inr more ↦ elim (cases_lt at i) [ inl less ↦ inr (omega (arith, less)) | inr equal ↦ absurd (other (omega (arith, more, equal))) ]
+    ]
+
+    beside : (i : ℕ) → ¬ (i ≡ offset First) → ¬ (i ≡ offset Second) → (at ≡ offset First) ⊎ (at ≡ offset Second) → (i + 1 ≤ at) ⊎ (at + 1 ≤ i)
+    beside i first second (inl is) = apart i (λ same. first (same ∙ is))
+    beside i first second (inr is) = apart i (λ same. second (same ∙ is))
+
+pub gate_leaves : {A : Type 0} {old new : DiskState} (at : ℕ) → (at ≡ offset First) ⊎ (at ≡ offset Second) → WritesWithin at 1 A old new → Leaves old new (λ _. IsAsBefore old.now)
+gate_leaves {old = old} {new = new} at gate run =
+    weaker old new (λ _. TornFrom old.now at 1) (λ _. IsAsBefore old.now) (λ m image torn. (torn.0, torn.1, but_gates at torn.0 image gate torn.2)) run.leaves
+
+-- and so do two such runs, one after the other.
+pub gates_leave : {old mid new : DiskState} → Leaves old mid (λ _. IsAsBefore old.now) → Leaves mid new (λ _. IsAsBefore mid.now) → Leaves old new (λ _. IsAsBefore old.now)
+gates_leave {old = old} {mid = mid} {new = new} one two =
+    goes_on old mid new (λ _. IsAsBefore old.now) one
+    (weaker mid new (λ _. IsAsBefore mid.now) (λ _. IsAsBefore old.now)
+    (λ m image as_mid. let before = exit_images old mid (λ _. IsAsBefore old.now) one as_mid.0 as_mid.1 in
+    (before.0, before.1, record { size = as_mid.2.size ∙ before.2.size; bytes = λ i first second. as_mid.2.bytes i first second ∙ before.2.bytes i first second })) two)
 
 -- The steps of a commit.
 module _ (slots : Standing) (old : DiskState) (is : IsMedium old.size old.now) (ready : IsReady slots old.now) (new : Root) where

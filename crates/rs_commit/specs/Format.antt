@@ -1,6 +1,6 @@
 -- The slots as they are made.
-use Rattle.std.specs.Prelude.{◌≡◌, ◌⊎◌, ℕ, ◌-◌, ◌≤◌, false, List, [], ◌∷◌, ◌++◌, length, replicate, None}
-use Rattle.rs_disk.specs.Medium.{Medium, over, resting}
+use Rattle.std.specs.Prelude.{◌≡◌, ◌⊎◌, ℕ, ◌-◌, ◌≤◌, false, List, [], ◌∷◌, ◌++◌, length, get_or, replicate, None}
+use Rattle.rs_disk.specs.Medium.{Medium, IsImage, over, resting}
 use Rattle.rs_commit.specs.declared.root.Root.{Root}
 use Rattle.rs_commit.specs.declared.slot.Slot.TheVariants.{First, Second}
 use Rattle.rs_commit.specs.Slots.{Standing, OpensTo, offset, block, gate, current, payload_of, written_version}
@@ -26,6 +26,15 @@ with_closed_gates bytes = over (over bytes (offset First) (0 ∷ [])) (offset Se
 -- the first slot open, with a root and zeros behind it, whatever the second one holds
 abbrev pub with_first_root : List ℕ → Root → List ℕ
 with_first_root bytes root = over bytes (offset First) (slot_bytes 1 (payload_of root))
+
+-- two lists of one size, the same at each byte that is the gate of neither slot
+pub record SameButGates (one two : List ℕ) : Type 0 where
+  pub size : length one ≡ length two
+  pub bytes : (i : ℕ) → ¬ (i ≡ offset First) → ¬ (i ≡ offset Second) → get_or one i 0 ≡ get_or two i 0
+
+-- an image is as some image at entry, whatever the gates of its slots hold
+abbrev pub IsAsBefore : Medium → List ℕ → Type 0
+IsAsBefore entry image = (e : List ℕ) × IsImage entry e × SameButGates image e
 
 -- The disk has blocks 0 and 1, both gates are closed by what a read gives, and both blocks are settled. So each image
 -- opens to no root.

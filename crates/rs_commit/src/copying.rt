@@ -5,7 +5,7 @@ ghost use Rattle.rs_disk.specs.Leaves.{Leaves};
 ghost use Rattle.rs_disk.specs.Runs.{WritesWithin, MakesCalls};
 ghost use Rattle.rs_commit.specs.Commit.{WritesSlots};
 ghost use Rattle.rs_commit.specs.Slots.{payload_of, written_version, IsLawfulRoot};
-ghost use Rattle.rs_commit.specs.Format.{slot_bytes, with_closed_gates, AreShut, NoneOrRoot, HoldsFirst};
+ghost use Rattle.rs_commit.specs.Format.{slot_bytes, with_closed_gates, AreShut, HoldsFirst, IsAsBefore, NoneOrRoot};
 
 use crate::format::closed_slot;
 use crate::root::payload;
@@ -20,14 +20,17 @@ use rs_disk::{Disk, Fault};
 /// The disk has blocks 0 and 1.
 ///
 /// # Errors
-/// [`Fault`] where a device call failed. Blocks 0 and 1 may then hold anything; behind them a read
-/// gives what it gave before.
+/// [`Fault`] where a device call failed. The gates may then hold anything; elsewhere all is as it was.
 pub fn close_slots<D: Disk>(disk: &mut D) -> Result<(), Fault>
     requires { 1024 ≤ (D.state disk.old).size }
 
     // Behind the slots a read gives what it gave, and each image at any moment is as one at entry.
     ensures runs { WritesSlots (IsErr result) (D.state disk.old) (D.state disk.new) }
     ensures calls { MakesCalls 3 (IsErr result) (D.state disk.old) (D.state disk.new) }
+
+    // Whatever the result, each image at any moment is as one at entry, but for the two gates.
+    ensures gates { Leaves (D.state disk.old) (D.state disk.new)
+        (λ _. IsAsBefore (D.state disk.old).now) }
 
     // After Ok both are closed, and nothing is unsettled.
     ensures shut { OnOk result (AreShut (D.state disk.new).now) }

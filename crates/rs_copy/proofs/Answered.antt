@@ -53,7 +53,8 @@ copies_written r old new l l' slots large same lists laid found =
       };
       lies = record { placed = l.contents; laid_out = laid_at l same lists laid; contents = refl };
       holds = λ s honest told image at. w.holds s honest told.state image at;
-      any_moment = λ s honest told when. w.any_moment s honest told.state when;
+      any_moment = λ s honest told. w.any_moment s honest told.state;
+      settled = λ s honest told when. w.settled s honest told.state when;
     }))
 
 -- a copy whose writing failed
@@ -79,5 +80,6 @@ copies_failed r old new l l' fault result large same lists laid is found =
       copied = tt;
       lies = tt;
       holds = λ s honest told. tt;
-      any_moment = λ s honest told when. w.any_moment s honest told.state when;
+      any_moment = λ s honest told. w.any_moment s honest told.state;
+      settled = λ s honest told when. w.settled s honest told.state when;
     })

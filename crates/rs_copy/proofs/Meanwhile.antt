@@ -1,5 +1,5 @@
 -- What each image of the second disk tells while a source is copied to it.
-use Rattle.std.proofs.Common.{◌≡◌, inl, inr, ℕ, ◌+◌, ◌*◌, ◌/◌, ◌%◌, ◌<◌, ◌≤◌, true, false, nat_lt, List, take, get_or, None, sym, ◌∙◌, subst, arith, length-take}
+use Rattle.std.proofs.Common.{◌≡◌, ◌⊎◌, inl, inr, ℕ, ◌+◌, ◌*◌, ◌/◌, ◌%◌, ◌<◌, ◌≤◌, true, false, nat_lt, List, take, get_or, None, sym, ◌∙◌, subst, arith, length-take}
 use Rattle.std.proofs.lemmas.Bool.Decides.{nat_tests}
 use Rattle.std.proofs.lemmas.List.{ext_get_or, get_or-take}
 use Rattle.rs_disk.specs.Medium.{DiskState, IsMedium}
@@ -9,12 +9,13 @@ use Rattle.rs_body.specs.Outside.{Keeps, KeptFrom, WritesOutside}
 use Rattle.rs_commit.specs.declared.root.Root.{Root}
 use Rattle.rs_commit.specs.Slots.{current}
 use Rattle.rs_commit.specs.Commit.{OutsideOf, SameBehind}
-use Rattle.rs_commit.specs.Format.{AreShut, NoneOrRoot}
+use Rattle.rs_commit.specs.Format.{AreShut, IsAsBefore, NoneOrRoot}
 use Rattle.rs_commit.specs.Laws.{ShutTellsNone, ShutStays}
 use Rattle.rs_model.specs.State.{Source}
 use Rattle.rs_image.specs.declared.contents.Contents.{Contents}
 use Rattle.rs_image.specs.StateOfImage.{Tells}
-use Rattle.rs_copy.specs.Copying.{is_slot, NoneOrState}
+use Rattle.rs_copy.specs.Copies.{NoneOrState}
+use Rattle.rs_copy.specs.Copying.{is_slot}
 
 is_low : (b : ℕ) → b < 2 → nat_lt b 2 ≡ true
 is_low b lt = grind (arith, nat_tests)
@@ -48,17 +49,22 @@ module _ (none : ShutTellsNone) (old one two : DiskState) (is : IsMedium one.siz
       (weaker one two (λ _. KeptFrom is_slot one.now) (λ m image. old.calls + 3 ≤ m → NoneOrState s image)
       (λ m image left late. inl (none_meanwhile image left)) writing.leaves)
 
+  pub none_or_before : Leaves old one (λ _. IsAsBefore old.now) → (s : Source) → Leaves old two (λ _ image. NoneOrState s image ⊎ IsAsBefore old.now image)
+  none_or_before gates s =
+      goes_on old one two (λ _ image. NoneOrState s image ⊎ IsAsBefore old.now image)
+      (weaker old one (λ _. IsAsBefore old.now) (λ _ image. NoneOrState s image ⊎ IsAsBefore old.now image) (λ m image before. inr before) gates)
+      (weaker one two (λ _. KeptFrom is_slot one.now) (λ _ image. NoneOrState s image ⊎ IsAsBefore old.now image)
+      (λ m image left. inl (inl (none_meanwhile image left))) writing.leaves)
+
   pub shut_still : ShutStays → AreShut two.now
   shut_still stays =
       stays one.now two.now (front_kept one.now.seen two.now.seen writing.seen) (same_front one.now.unsettled two.now.unsettled false writing.marks.same) shut
 
 -- From then on each image tells no root, or represents the state that the root tells.
-pub state_opened : {old two new : DiskState} (s : Source) (root : Root) (c : Contents) → Leaves old two (λ m image. old.calls + 3 ≤ m → NoneOrState s image)
-    → Leaves two new (λ _. NoneOrRoot two.now root) → Tells root c two.now.seen s → Leaves old new (λ m image. old.calls + 3 ≤ m → NoneOrState s image)
-state_opened {old} {two} {new} s root c so_far opening tells =
-    goes_on old two new (λ m image. old.calls + 3 ≤ m → NoneOrState s image) so_far
-    (weaker two new (λ _. NoneOrRoot two.now root) (λ m image. old.calls + 3 ≤ m → NoneOrState s image)
-    (λ m image left late. stands image left) opening)
+pub state_opened : {old two new : DiskState} (s : Source) (root : Root) (c : Contents) (P : ℕ → List ℕ → Type 0) → ((m : ℕ) (image : List ℕ) → NoneOrState s image → P m image)
+    → Leaves old two P → Leaves two new (λ _. NoneOrRoot two.now root) → Tells root c two.now.seen s → Leaves old new P
+state_opened {old} {two} {new} s root c P so so_far opening tells =
+    goes_on old two new P so_far (weaker two new (λ _. NoneOrRoot two.now root) P (λ m image left. so m image (stands image left)) opening)
   where
     stands : (image : List ℕ) → NoneOrRoot two.now root image → NoneOrState s image
     stands image (inl untold) = inl untold.0

@@ -8,7 +8,7 @@ use Rattle.rs_record.specs.declared.record.Record.{Record}
 use Rattle.rs_body.specs.Blocks.{part}
 use Rattle.rs_commit.specs.Commit.{IsReady}
 use Rattle.rs_commit.specs.Slots.{current, written_version}
-use Rattle.rs_commit.specs.Format.{fresh}
+use Rattle.rs_commit.specs.Format.{fresh, IsAsBefore}
 use Rattle.rs_catalogue.specs.Catalogue.{records_of}
 use Rattle.rs_model.specs.State.{Source}
 use Rattle.rs_image.specs.declared.contents.Contents.{Contents}
@@ -59,6 +59,10 @@ pub record StopsCopying (old new : Disks) : Type 0 where
   pub to : StopsAtFault old.to new.to
   pub one : old.from.faults < new.from.faults → new.to.faults ≡ old.to.faults
 
+-- an image tells no root, or represents the state
+abbrev pub NoneOrState : Source → List ℕ → Type 0
+NoneOrState s image = (current image ≡ None) ⊎ StandsFor image s
+
 -- What copying a root's source does to both disks, from the moment `old` to the moment `new`.
 -- `rests`, `once`: it only reads the first disk, and each body at most once, also a damaged one; `advances`: the second keeps its size, and its counts do not fall.
 -- `too_small`, `full`: the causes of these; `untouched`: they come before a call of either disk.
@@ -67,8 +71,9 @@ pub record StopsCopying (old new : Disks) : Type 0 where
 -- `stops`: it makes no call behind a failed one of the same disk, and at most one call fails.
 -- `damaged`: a body lacks its recorded SHA-256, if the first disk has followed the model.
 -- `copied`, `lies`: what Ok leaves; `holds`: then each image of the second disk tells the state that the first one told.
--- `any_moment`: if the second disk had more than three calls, or none failed, then from its third call on each of its images tells no
--- root, or represents that state.
+-- `any_moment`: at any moment each image of the second disk tells no root, or represents that state, or is as before the copy, but for
+-- the gates of its slots.
+-- `settled`: if the second disk had more than three calls, or none failed, then from its third call on no image is as before.
 pub record Copies (root : Rooted) (old new : Disks) (result : Result Copied CopyFault) : Type 0 where
   pub rests : Rests old.from new.from
   pub once : CallsAtMost (calls_for (records_of root.contents.catalogue)) old.from new.from
@@ -87,5 +92,7 @@ pub record Copies (root : Rooted) (old new : Disks) (result : Result Copied Copy
   pub holds : (s : Source) → IsTrue new.from.honest → Tells root.root root.contents old.from.now.seen s
       → IfOk result (λ copied. (image : List ℕ) → IsImage new.to.now image → Tells copied.slots.root copied.contents image s)
   pub any_moment : (s : Source) → IsTrue new.from.honest → Tells root.root root.contents old.from.now.seen s
+      → Leaves old.to new.to (λ _ image. NoneOrState s image ⊎ IsAsBefore old.to.now image)
+  pub settled : (s : Source) → IsTrue new.from.honest → Tells root.root root.contents old.from.now.seen s
       → (old.to.calls + 3 < new.to.calls) ⊎ (new.to.faults ≡ old.to.faults)
-      → Leaves old.to new.to (λ m image. old.to.calls + 3 ≤ m → (current image ≡ None) ⊎ StandsFor image s)
+      → Leaves old.to new.to (λ m image. old.to.calls + 3 ≤ m → NoneOrState s image)

@@ -1,5 +1,5 @@
 -- The words of the contracts within rs_copy: what each step of a copy leaves, and what stands on the disk after it.
-use Rattle.std.specs.Prelude.{◌≡◌, ◌⊎◌, ◌<◌, ◌≤◌, ◌+◌, ◌*◌, ◌++◌, ℕ, Bool, [], nat_lt, ◌∷◌, List, length, map, All, None, Result, IfErr, IfOk, OnOk, IsErrOf, IsTrue}
+use Rattle.std.specs.Prelude.{◌≡◌, ◌⊎◌, ◌<◌, ◌≤◌, ◌+◌, ◌*◌, ◌++◌, ℕ, Bool, [], nat_lt, ◌∷◌, List, length, map, All, Result, IfErr, IfOk, OnOk, IsErrOf, IsTrue}
 use Rattle.rs_disk.specs.Medium.{IsImage}
 use Rattle.rs_disk.specs.Leaves.{Leaves}
 use Rattle.rs_disk.specs.Runs.{Advances, CallsAtMost, HasFailed, Rests}
@@ -11,8 +11,8 @@ use Rattle.rs_body.specs.Blocks.{part, IsSized}
 use Rattle.rs_body.specs.Outside.{WritesOutside}
 use Rattle.rs_commit.specs.declared.root.Root.{Root}
 use Rattle.rs_commit.specs.Commit.{IsReady}
-use Rattle.rs_commit.specs.Slots.{Standing, current, written_version}
-use Rattle.rs_commit.specs.Format.{fresh}
+use Rattle.rs_commit.specs.Slots.{Standing, written_version}
+use Rattle.rs_commit.specs.Format.{fresh, IsAsBefore}
 use Rattle.rs_record.specs.declared.record.Record.{Record}
 use Rattle.rs_model.specs.State.{Source}
 use Rattle.rs_page.specs.declared.page.store.StoreFault.{StoreFault}
@@ -25,13 +25,13 @@ use Rattle.rs_directory.specs.Directory.{written_format}
 use Rattle.rs_image.specs.declared.contents.Contents.{Contents}
 use Rattle.rs_image.specs.Reach.{bodies_of}
 use Rattle.rs_image.specs.Rooted.{rooted, MemoryIsSound}
-use Rattle.rs_image.specs.StateOfImage.{Tells, StandsFor, AreListable, listing, held_in, state_in, directory_bytes_of, AreLists}
+use Rattle.rs_image.specs.StateOfImage.{Tells, AreListable, listing, held_in, state_in, directory_bytes_of, AreLists}
 use Rattle.rs_image.specs.Whole.{IsWhole}
 use Rattle.rs_copy.specs.declared.faults.CopyFault.{CopyFault}
 use Rattle.rs_copy.specs.declared.faults.CopyFault.TheVariants.{TooSmall, Full, Device, Damaged, NoMemory}
 use Rattle.rs_copy.specs.declared.laying_out.Layout.{Layout}
 use Rattle.rs_copy.specs.Laying.{all_stored}
-use Rattle.rs_copy.specs.Copies.{Disks, HasItsBody, StopsCopying, calls_for}
+use Rattle.rs_copy.specs.Copies.{Disks, HasItsBody, NoneOrState, StopsCopying, calls_for}
 
 -- the fault of a copy for the fault of a page
 abbrev pub copy_fault_of : StoreFault → CopyFault
@@ -164,14 +164,10 @@ pub record IsBehindRoot (size : ℕ) (c : Contents) : Type 0 where
   pub root : Root
   pub whole : IsWhole size root c
 
--- an image of the second disk tells no root, or represents the state
-abbrev pub NoneOrState : Source → List ℕ → Type 0
-NoneOrState s image = (current image ≡ None) ⊎ StandsFor image s
-
 -- What writing a copy of these lists as it was laid out leaves.
 -- `runs`, `once`, `others`, `damaged`: what it does to both disks, that it reads each body once, and which faults it answers.
 -- `slots` to `intact`: what Ok leaves: the root leads to the stored lists, memory is sound, and each body has its SHA-256.
--- `holds`, `any_moment`: what each image of the second disk tells of the state of the old lists, in the end and meanwhile.
+-- `holds`, `any_moment`, `settled`: what each image of the second disk tells of the state of the old lists, in the end and meanwhile.
 pub record WritesCopy (c : Contents) (l l' : Layout) (old new : Disks) (result : Result Standing CopyFault) : Type 0 where
   pub runs : RunsCopying (IsErrOf result Device) old new
   pub once : CallsAtMost (calls_for (records_of c.catalogue)) old.from new.from
@@ -186,5 +182,7 @@ pub record WritesCopy (c : Contents) (l l' : Layout) (old new : Disks) (result :
       → OnOk result ((image : List ℕ) → IsImage new.to.now image
       → Tells (copied_root l.directory (all_stored l.contents)) (all_stored l.contents) image s)
   pub any_moment : (s : Source) → IsTrue new.from.honest → state_in old.from.now.seen c ≡ s
+      → Leaves old.to new.to (λ _ image. NoneOrState s image ⊎ IsAsBefore old.to.now image)
+  pub settled : (s : Source) → IsTrue new.from.honest → state_in old.from.now.seen c ≡ s
       → (old.to.calls + 3 < new.to.calls) ⊎ (new.to.faults ≡ old.to.faults)
       → Leaves old.to new.to (λ m image. old.to.calls + 3 ≤ m → NoneOrState s image)

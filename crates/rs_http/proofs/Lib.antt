@@ -15,4 +15,5 @@ pub mod Running
 pub mod Seeing
 pub mod Replying
 pub mod CountedExamples
+pub mod ResponseExamples
 pub mod ToldExamples

@@ -71,7 +71,8 @@ module _ {D E : Type 0} (device : D → DiskState) (other : E → DiskState) (ol
         to = (writing_none {A = ⊥} (other to) (λ none. none)).stops;
         one = λ rose. refl;
       };
-      any_moment = λ s holds honest cut. absurd (true≢false (sym shut ∙ holds.is_open));
+      any_moment = λ s holds honest. absurd (true≢false (sym shut ∙ holds.is_open));
+      settled = λ s holds honest cut. absurd (true≢false (sym shut ∙ holds.is_open));
     };
   }
 
@@ -91,7 +92,8 @@ module _ {D E : Type 0} (device : D → DiskState) (other : E → DiskState) (ol
           omega (arith, same, made.once));
       advances = made.advances;
       stops = made.stops;
-      any_moment = λ s holds honest cut. made.any_moment s honest (tells s holds) cut;
+      any_moment = λ s holds honest. made.any_moment s honest (tells s holds);
+      settled = λ s holds honest cut. made.settled s honest (tells s holds) cut;
     }
 
     -- the copy stands

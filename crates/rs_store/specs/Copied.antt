@@ -1,18 +1,17 @@
 -- What a source answers when it is copied to another disk.
-use Rattle.std.specs.Prelude.{◌≡◌, ◌⊎◌, ◌↔◌, ◌<◌, ◌≤◌, ◌+◌, ℕ, Bool, false, List, All, None, Result, IfOk, IsErrAnd, IsTrue}
+use Rattle.std.specs.Prelude.{◌≡◌, ◌⊎◌, ◌↔◌, ◌<◌, ◌≤◌, ◌+◌, ℕ, Bool, false, List, All, Result, IfOk, IsErrAnd, IsTrue}
 use Rattle.rs_disk.specs.Medium.{DiskState}
 use Rattle.rs_disk.specs.Leaves.{Leaves}
 use Rattle.rs_disk.specs.Runs.{Advances, CallsAtMost, HasFailed}
-use Rattle.rs_commit.specs.Slots.{current, written_version}
+use Rattle.rs_commit.specs.Slots.{written_version}
 use Rattle.rs_commit.specs.Commit.{IsReady}
-use Rattle.rs_commit.specs.Format.{fresh}
+use Rattle.rs_commit.specs.Format.{fresh, IsAsBefore}
 use Rattle.rs_catalogue.specs.Catalogue.{records_of}
 use Rattle.rs_image.specs.declared.contents.Contents.{Contents}
 use Rattle.rs_image.specs.Reach.{blocks_of_disk}
-use Rattle.rs_image.specs.StateOfImage.{StandsFor}
 use Rattle.rs_model.specs.State.{Source}
 use Rattle.rs_copy.specs.Laying.{LacksCopyRoom}
-use Rattle.rs_copy.specs.Copies.{HasItsBody, LiesCopied, StopsCopying}
+use Rattle.rs_copy.specs.Copies.{HasItsBody, LiesCopied, NoneOrState, StopsCopying}
 use Rattle.rs_copy.specs.declared.faults.CopyFault.{CopyFault}
 use Rattle.rs_copy.specs.declared.faults.CopyFault.TheVariants.{TooSmall, Full, Device, Damaged}
 use Rattle.rs_store.specs.declared.copying.CopyRefusal.{CopyRefusal}
@@ -75,16 +74,19 @@ pub record RefusesCopy {D E : Type 0} (device : D → DiskState) (other : E → 
 -- `once`: it reads each body at most once, also a damaged one.
 -- `advances`: the new disk keeps its size, and its counts do not fall.
 -- `stops`: no call of a disk comes behind a failed one of that disk, and at most one call fails.
--- `any_moment`: if the new disk had more than three calls, or none failed, then from its third call on each of its images tells no root,
--- or represents the state that the source holds.
+-- `any_moment`: at any moment each image of the new disk tells no root, or represents the state that the source holds, or is as before
+-- the copy, but for the gates of its slots.
+-- `settled`: if the new disk had more than three calls, or none failed, then from its third call on no image is as before the copy.
 pub record IsCopying {D E : Type 0} (device : D → DiskState) (other : E → DiskState) (old new : Stored D) (to disk : E) : Type 0 where
   pub reads_only : OnlyReads device old new
   pub once : CallsAtMost (calls_for_held (state_of device old).held) (device old.disk) (device new.disk)
   pub advances : Advances (other to) (other disk)
   pub stops : StopsCopying (record { from = device old.disk; to = other to }) (record { from = device new.disk; to = other disk })
   pub any_moment : (s : Source) → Holds device old s → IsTrue (device new.disk).honest
+      → Leaves (other to) (other disk) (λ _ image. NoneOrState s image ⊎ IsAsBefore (other to).now image)
+  pub settled : (s : Source) → Holds device old s → IsTrue (device new.disk).honest
       → ((other to).calls + 3 < (other disk).calls) ⊎ ((other disk).faults ≡ (other to).faults)
-      → Leaves (other to) (other disk) (λ m image. (other to).calls + 3 ≤ m → (current image ≡ None) ⊎ StandsFor image s)
+      → Leaves (other to) (other disk) (λ m image. (other to).calls + 3 ≤ m → NoneOrState s image)
 
 -- What a source answers when it is copied to the disk `to`, and what both disks are then.
 -- `refuses`: the causes of each refusal, and what it leaves.

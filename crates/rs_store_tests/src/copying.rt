@@ -102,6 +102,58 @@ fn a_copy_is_whole_or_none(rt: HostRuntime) {
     assert_eq!(rt; told(&rt, &mut source).as_str(), want.as_str());
 }
 
+/// The bytes of a disk that holds another source.
+fn other_source(rt: &(impl Abort + AllocGlobal)) -> Vec<u8> {
+    let mut other = made(rt, disk_of(rt, 32768));
+    let _answer = ask(rt, &mut other, Put(b"other", b"three"));
+    let disk = other.into_disk();
+    disk.image(&[]).expect(rt, "memory for an image")
+}
+
+/// Looks whether these bytes are as others of their number, but for bytes 0 and 512, the gates of the slots.
+fn are_as_before(rt: &impl Abort, bytes: &[u8], before: &[u8], calls: u64) {
+    assert_eq!(rt; bytes.len(), before.len());
+    for at in 0..bytes.len() {
+        let is_gate = at == 0 || at == 512;
+        assert!(rt;
+            is_gate || bytes[at] == before[at],
+            "byte {at} after {calls} calls"
+        );
+    }
+}
+
+/// Looks at each image of a disk: all is as before but for the gates, or once the third call has settled them, the
+/// disk holds no source or the copy.
+fn images_are_as_before_or_tell(
+    rt: &(impl Abort + AllocGlobal),
+    disk: &MemoryDisk,
+    before: &[u8],
+    want: &str,
+    calls: u64,
+) {
+    if calls >= 3 {
+        images_tell(rt, disk, want);
+        return;
+    }
+    for choice in &CHOICES {
+        let image = disk.image(choice).expect(rt, "memory for an image");
+        are_as_before(rt, &image, before, calls);
+    }
+}
+
+#[test]
+fn what_a_disk_held_before_shows_unchanged_or_no_more(rt: HostRuntime) {
+    let mut source = filled(&rt);
+    let want = told(&rt, &mut source);
+    let before = other_source(&rt);
+    for k in 0..CALLS {
+        let mut disk = MemoryDisk::from_bytes(rt.alloc(), &before).expect(&rt, "memory for a disk");
+        disk.stop_after(k);
+        let (disk, _fault) = refused(&rt, &mut source, disk);
+        images_are_as_before_or_tell(&rt, &disk, &before, want.as_str(), k);
+    }
+}
+
 const BODY: [u8; 5633] = [7; 5633];
 
 // How many bytes a disk has, and why a source with a body of 5,633 bytes is not copied to it.
