@@ -73,7 +73,8 @@ NoneOrState s image = (current image ≡ None) ⊎ StandsFor image s
 -- `copied`, `lies`: what Ok leaves; `holds`: then each image of the second disk tells the state that the first one told.
 -- `any_moment`: at any moment each image of the second disk tells no root, or represents that state, or is as before the copy, but for
 -- the gates of its slots.
--- `settled`: if the second disk had more than three calls, or none failed, then from its third call on no image is as before.
+-- `settled`: if the second disk had more than three calls, or none failed, then from its third call on each image of it tells no root,
+-- or represents that state.
 pub record Copies (root : Rooted) (old new : Disks) (result : Result Copied CopyFault) : Type 0 where
   pub rests : Rests old.from new.from
   pub once : CallsAtMost (calls_for (records_of root.contents.catalogue)) old.from new.from

@@ -76,7 +76,8 @@ pub record RefusesCopy {D E : Type 0} (device : D → DiskState) (other : E → 
 -- `stops`: no call of a disk comes behind a failed one of that disk, and at most one call fails.
 -- `any_moment`: at any moment each image of the new disk tells no root, or represents the state that the source holds, or is as before
 -- the copy, but for the gates of its slots.
--- `settled`: if the new disk had more than three calls, or none failed, then from its third call on no image is as before the copy.
+-- `settled`: if the new disk had more than three calls, or none failed, then from its third call on each image of it tells no root, or
+-- represents that state.
 pub record IsCopying {D E : Type 0} (device : D → DiskState) (other : E → DiskState) (old new : Stored D) (to disk : E) : Type 0 where
   pub reads_only : OnlyReads device old new
   pub once : CallsAtMost (calls_for_held (state_of device old).held) (device old.disk) (device new.disk)
