@@ -6,6 +6,7 @@ import pwd
 import re
 import shutil
 import subprocess
+import tempfile
 from collections.abc import Callable, Iterator
 
 from operations.tests.system import install_looks, install_shared
@@ -52,8 +53,8 @@ def site(folder: pathlib.Path, behind: int, port: int = 0,
     """The port of nginx before a source on the port `behind`. `change` makes other settings, and `edit`
     another page."""
     port = port or free_port()
-    room = pathlib.Path(folder, f"site-{port}")
-    room.mkdir()
+    # (a port may come again once it is free)
+    room = pathlib.Path(tempfile.mkdtemp(prefix="site-", dir=folder))
     shutil.copytree(PAGE, room / "page")
     (room / ABOUT).parent.mkdir()
     edit(room / "page")
