@@ -3,9 +3,9 @@ use Rattle.std.proofs.Common.{rules, ◌≡◌, ◌⊎◌, inl, inr, ℕ, ◌+�
 use Rattle.std.proofs.lemmas.Bool.Decides.{nat_tests}
 use Rattle.std.proofs.lemmas.List.{append_assoc, drop-append-le, drop-take, ext_get_or, get_or-take, get_or-drop, length-take-le, places, take_at}
 use Rattle.rs_disk.specs.Medium.{Medium, DiskState, IsImage, IsImageAt, over, marked}
-use Rattle.rs_disk.specs.Leaves.{Torn, TornFrom}
+use Rattle.rs_disk.specs.Leaves.{Torn}
 use Rattle.rs_disk.specs.Runs.{RunsReading, WritesWithin}
-use Rattle.rs_body.proofs.FromBelow.{torn_below, torn_above, started, goes_on, weaker, exit_images, within_true, outside, turned}
+use Rattle.rs_body.proofs.FromBelow.{torn_below, torn_above, same_goes_on, same_weaker, started, weaker, within_true, outside, turned}
 use Rattle.rs_extent.specs.declared.Extent.{Extent}
 use Rattle.rs_extent.specs.Blocks.{block_size}
 use Rattle.rs_extent.specs.Extents.{within, IsOnDisk, IsBeside}
@@ -75,11 +75,7 @@ pub outside_on : (kept : ℕ → Bool) (old mid new : DiskState) → WritesOutsi
 outside_on kept old mid new first behind = record {
   seen = keeps_on kept old.now.seen mid.now.seen new.now.seen first.seen behind.seen;
   marks = record { same = λ b i is lt. behind.marks.same b i is lt ∙ first.marks.same b i is lt };
-  leaves = goes_on old mid new (λ _. KeptFrom kept old.now) first.leaves
-      (weaker mid new (λ _. KeptFrom kept mid.now) (λ _. KeptFrom kept old.now)
-      (λ m image left. let was = exit_images old mid (λ _. KeptFrom kept old.now) first.leaves left.0 left.1 in
-      (was.0, was.1, keeps_on kept was.0 left.0 image was.2 left.2))
-      behind.leaves);
+  leaves = same_goes_on (Keeps kept) (keeps_on kept) first.leaves behind.leaves;
 }
 
 -- in a subset
@@ -87,7 +83,7 @@ pub outside_less : (kept more : ℕ → Bool) → ((b : ℕ) → kept b ≡ true
 outside_less kept more from old new run = record {
   seen = keeps_less kept more from old.now.seen new.now.seen run.seen;
   marks = record { same = λ b i is lt. run.marks.same b i (from b is) lt };
-  leaves = weaker old new (λ _. KeptFrom more old.now) (λ _. KeptFrom kept old.now) (λ m image left. (left.0, left.1, keeps_less kept more from left.0 image left.2)) run.leaves;
+  leaves = same_weaker (Keeps kept) (Keeps more) (keeps_less kept more from) run.leaves;
 }
 
 -- a run that changes nothing
@@ -111,7 +107,7 @@ pub outside_write : {A : Type 0} (kept : ℕ → Bool) (e : Extent) (at n : ℕ)
 outside_write kept e at n old new beside fits room run held = record {
   seen = keeps_torn kept e at n beside fits old.now.seen new.now.seen run.torn;
   marks = marks_held kept e at n old.now new.now beside fits room held;
-  leaves = weaker old new (λ _. TornFrom old.now (block_size * e.first + at) n) (λ _. KeptFrom kept old.now) (λ m image left. (left.0, left.1, keeps_torn kept e at n beside fits left.0 image left.2)) run.leaves;
+  leaves = same_weaker (Keeps kept) (Torn (block_size * e.first + at) n) (keeps_torn kept e at n beside fits) run.leaves;
 }
 
 -- A write at a place of an extent leaves what is before it, and its bytes follow.

@@ -6,12 +6,12 @@ use Rattle.rs_disk.specs.Medium.{Medium, DiskState, IsImage, IsMedium, over, res
 use Rattle.rs_disk.specs.Calls.{CountsCall, Writes, Tears}
 use Rattle.rs_disk.specs.Leaves.{Leaves, Torn, TornFrom}
 use Rattle.rs_disk.specs.Runs.{WritesWithin, WritesNothing}
-use Rattle.rs_commit.proofs.FromBelow.{over_torn, back_part, started, goes_on, torn_byte, weaker, exit_images, write_leaves, writing_one, writing_then}
+use Rattle.rs_commit.proofs.FromBelow.{over_torn, back_part, started, goes_on, same_goes_on, same_weaker, torn_byte, weaker, exit_images, write_leaves, writing_one, writing_then}
 use Rattle.rs_commit.specs.declared.root.Root.{Root}
 use Rattle.rs_commit.specs.declared.slot.Slot.{Slot}
 use Rattle.rs_commit.specs.declared.slot.Slot.TheVariants.{First, Second}
 use Rattle.rs_commit.specs.Slots.{Standing, offset, other, payload_of, IsLawfulRoot}
-use Rattle.rs_commit.specs.Commit.{SameBehind, IsReady, OutsideOf, OldOrNew, WritesSlots, with_root}
+use Rattle.rs_commit.specs.Commit.{SameBehind, IsReady, OldOrNew, WritesSlots, with_root}
 use Rattle.rs_commit.specs.Format.{IsAsBefore, SameButGates}
 use Rattle.rs_commit.proofs.Blocks.{fits_slot, over_behind, over_thrice}
 use Rattle.rs_commit.proofs.Payloads.{length-payload}
@@ -54,7 +54,7 @@ pub slots_within : {A : Type 0} {old new : DiskState} {at n : ℕ} → WritesWit
 slots_within {old = old} {new = new} {at = at} {n = n} run fits = record {
   writes = run.writes;
   outside = behind old.now.seen new.now.seen run.torn;
-  leaves = weaker old new (λ _. TornFrom old.now at n) (λ _. OutsideOf old.now) (λ m image torn. (torn.0, torn.1, behind torn.0 image torn.2)) run.leaves;
+  leaves = same_weaker (λ e image. SameBehind image e) (Torn at n) behind run.leaves;
 }
   where
     behind : (one two : List ℕ) → Torn at n one two → SameBehind two one
@@ -78,36 +78,26 @@ pub slots_then : {A : Type 0} {old mid new : DiskState} → WritesSlots (false �
 slots_then {old = old} {mid = mid} {new = new} one two = record {
   writes = writing_then old mid new well one.writes two.writes;
   outside = behind_on new.now.seen mid.now.seen old.now.seen two.outside one.outside;
-  leaves = goes_on old mid new (λ _. OutsideOf old.now) one.leaves
-      (weaker mid new (λ _. OutsideOf mid.now) (λ _. OutsideOf old.now)
-      (λ m image out. let before = exit_images old mid (λ _. OutsideOf old.now) one.leaves out.0 out.1 in (before.0, before.1, behind_on image out.0 before.0 out.2 before.2)) two.leaves);
+  leaves = same_goes_on (λ e image. SameBehind image e) (λ e between image first then. behind_on image between e then first) one.leaves two.leaves;
 }
 
 -- A run that writes the gate of a slot leaves all else as it was at entry,
 but_gates : (at : ℕ) (one two : List ℕ) → (at ≡ offset First) ⊎ (at ≡ offset Second) → Torn at 1 one two → SameButGates two one
-but_gates at one two gate torn = record { size = torn.size; bytes = λ i first second. torn_byte at 1 i one two torn (beside i first second gate) }
+but_gates at one two gate torn = record { size = torn.size; bytes = λ i first second. torn_byte at 1 i one two torn (apart i first second gate) }
   where
-    apart : (i : ℕ) → ¬ (i ≡ at) → (i + 1 ≤ at) ⊎ (at + 1 ≤ i)
-    apart i other = elim (cases_lt i at) [
-      | inl less ↦ inl (omega (arith, less))
-      | inr more ↦ elim (cases_lt at i) [ inl less ↦ inr (omega (arith, less)) | inr equal ↦ absurd (other (omega (arith, more, equal))) ]
+    apart : (i : ℕ) → ¬ (i ≡ offset First) → ¬ (i ≡ offset Second) → (at ≡ offset First) ⊎ (at ≡ offset Second) → (i + 1 ≤ at) ⊎ (at + 1 ≤ i)
+    apart i first second gate = elim (cases_lt i at) [
+      | inl below ↦ inl (omega arith)
+      | inr from ↦ inr (elim gate [ inl is ↦ omega (arith, first, is) | inr is ↦ omega (arith, second, is) ])
     ]
 
-    beside : (i : ℕ) → ¬ (i ≡ offset First) → ¬ (i ≡ offset Second) → (at ≡ offset First) ⊎ (at ≡ offset Second) → (i + 1 ≤ at) ⊎ (at + 1 ≤ i)
-    beside i first second (inl is) = apart i (λ same. first (same ∙ is))
-    beside i first second (inr is) = apart i (λ same. second (same ∙ is))
-
 pub gate_leaves : {A : Type 0} {old new : DiskState} (at : ℕ) → (at ≡ offset First) ⊎ (at ≡ offset Second) → WritesWithin at 1 A old new → Leaves old new (λ _. IsAsBefore old.now)
-gate_leaves {old = old} {new = new} at gate run =
-    weaker old new (λ _. TornFrom old.now at 1) (λ _. IsAsBefore old.now) (λ m image torn. (torn.0, torn.1, but_gates at torn.0 image gate torn.2)) run.leaves
+gate_leaves at gate run = same_weaker (λ e image. SameButGates image e) (Torn at 1) (λ e image torn. but_gates at e image gate torn) run.leaves
 
 -- and so do two such runs, one after the other.
 pub gates_leave : {old mid new : DiskState} → Leaves old mid (λ _. IsAsBefore old.now) → Leaves mid new (λ _. IsAsBefore mid.now) → Leaves old new (λ _. IsAsBefore old.now)
-gates_leave {old = old} {mid = mid} {new = new} one two =
-    goes_on old mid new (λ _. IsAsBefore old.now) one
-    (weaker mid new (λ _. IsAsBefore mid.now) (λ _. IsAsBefore old.now)
-    (λ m image as_mid. let before = exit_images old mid (λ _. IsAsBefore old.now) one as_mid.0 as_mid.1 in
-    (before.0, before.1, record { size = as_mid.2.size ∙ before.2.size; bytes = λ i first second. as_mid.2.bytes i first second ∙ before.2.bytes i first second })) two)
+gates_leave = same_goes_on (λ e image. SameButGates image e)
+    (λ e between image first then. record { size = then.size ∙ first.size; bytes = λ i one two. then.bytes i one two ∙ first.bytes i one two })
 
 -- The steps of a commit.
 module _ (slots : Standing) (old : DiskState) (is : IsMedium old.size old.now) (ready : IsReady slots old.now) (new : Root) where

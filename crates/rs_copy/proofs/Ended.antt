@@ -22,11 +22,11 @@ use Rattle.rs_copy.specs.declared.faults.CopyFault.{CopyFault}
 use Rattle.rs_copy.specs.declared.faults.CopyFault.TheVariants.{Device, Damaged}
 use Rattle.rs_copy.specs.declared.laying_out.Layout.{Layout}
 use Rattle.rs_copy.specs.Laying.{IsLaidOut, all_stored}
-use Rattle.rs_copy.specs.Copies.{Disks, HasItsBody, NoneOrState, calls_for}
+use Rattle.rs_copy.specs.Copies.{Disks, HasItsBody, calls_for}
 use Rattle.rs_copy.specs.Copying.{CopiesOnly, CopyStands, IsBehindRoot, IsOfWriting, RunsCopying, WritesCopy, copied_root, is_slot, written_in}
 use Rattle.rs_copy.proofs.Handed.{handed_err, told_on}
 use Rattle.rs_copy.proofs.Laid.{bodies_among, room}
-use Rattle.rs_copy.proofs.Meanwhile.{none_or_before, none_written, shut_still, turned}
+use Rattle.rs_copy.proofs.Meanwhile.{MayTell, OnceShut, TellsMeanwhile, shut_still, turned, written}
 use Rattle.rs_copy.proofs.MovedBodies.{bodies_stay}
 use Rattle.rs_copy.proofs.Runs.{copying_as, copying_then, copying_write}
 use Rattle.rs_copy.proofs.Told.{tells_copied}
@@ -42,9 +42,9 @@ not_yet old new P Q left short =
 pub ends_badly : {S : Type 0} {c : Contents} {l l' : Layout} {old new : Disks} (result : Result Standing CopyFault) (fault : CopyFault) → IsErrAnd result (λ y. y ≡ fault)
     → RunsCopying (IsErrOf {T = S} (Err fault) Device) old new → CallsAtMost (calls_for (records_of c.catalogue)) old.from new.from → IsOfWriting fault
     → (IsErrOf {T = S} (Err fault) Damaged → IsTrue new.from.honest → ¬ All (HasItsBody old.from.now.seen) (records_of c.catalogue))
-    → ((s : Source) → IsTrue new.from.honest → state_in old.from.now.seen c ≡ s → Leaves old.to new.to (λ _ image. NoneOrState s image ⊎ IsAsBefore old.to.now image))
+    → ((s : Source) → IsTrue new.from.honest → state_in old.from.now.seen c ≡ s → Leaves old.to new.to (λ _. MayTell s old.to))
     → ((s : Source) → IsTrue new.from.honest → state_in old.from.now.seen c ≡ s → (old.to.calls + 3 < new.to.calls) ⊎ (new.to.faults ≡ old.to.faults)
-    → Leaves old.to new.to (λ m image. old.to.calls + 3 ≤ m → NoneOrState s image))
+    → Leaves old.to new.to (OnceShut s old.to))
     → WritesCopy c l l' old new result
 ends_badly (Ok x) fault handed runs once of damaged any settled = absurd handed
 ends_badly {S} (Err y) fault handed runs once of damaged any settled =
@@ -102,8 +102,7 @@ pub record Reached (c : Contents) (l : Layout) (old new : Disks) : Type 0 where
   pub runs : RunsCopying ⊥ old new
   pub long : length new.to.now.seen ≡ old.to.size
   pub shut : AreShut new.to.now
-  pub any : (s : Source) → Leaves old.to new.to (λ _ image. NoneOrState s image ⊎ IsAsBefore old.to.now image)
-  pub none : (s : Source) → Leaves old.to new.to (λ m image. old.to.calls + 3 ≤ m → NoneOrState s image)
+  pub meanwhile : (s : Source) → TellsMeanwhile s old.to new.to
   pub told : (s : Source) → IsTrue new.from.honest → state_in old.from.now.seen c ≡ s → Tells (copied_root l.directory (all_stored l.contents)) (all_stored l.contents) new.to.now.seen s
 
 pub reached : {A B : Type 0} {before after old one two : DiskState} (c : Contents) (l : Layout) → ShutTellsNone → ShutStays → IsMedium one.size one.now → IsMedium two.size two.now
@@ -118,9 +117,8 @@ reached {before = before} {old = old} {one = one} {two = two} c l none stays is_
     record {
       runs = copying_as (λ is. absurd (well_too is)) (λ none. absurd none) (copying_then well (copying_write before old one closed.writes) copies.runs);
       long = long;
-      shut = shut_still none old one two is_one shut closed.leaves (calls.all well) outside stays;
-      any = none_or_before none old one two is_one shut closed.leaves (calls.all well) outside gates;
-      none = none_written none old one two is_one shut closed.leaves (calls.all well) outside;
+      shut = shut_still none old one two is_one shut gates (calls.all well) outside stays;
+      meanwhile = written none old one two is_one shut gates (calls.all well) outside;
       told = λ s honest state.
           tells_copied old.size c l.contents l.directory l.used laid before.now.seen two.now.seen s (whole_here c l old.size before.size laid behind two.now.seen long stands) stands (copied honest) state;
     }

@@ -8,7 +8,7 @@ use Rattle.rs_copy.proofs.FromBelow.{goes_on, goes_further, weaker, current_stay
 use Rattle.rs_body.specs.Outside.{Keeps, KeptFrom, WritesOutside}
 use Rattle.rs_commit.specs.declared.root.Root.{Root}
 use Rattle.rs_commit.specs.Slots.{current}
-use Rattle.rs_commit.specs.Commit.{OutsideOf, SameBehind}
+use Rattle.rs_commit.specs.Commit.{SameBehind}
 use Rattle.rs_commit.specs.Format.{AreShut, IsAsBefore, NoneOrRoot}
 use Rattle.rs_commit.specs.Laws.{ShutTellsNone, ShutStays}
 use Rattle.rs_model.specs.State.{Source}
@@ -36,35 +36,48 @@ front_kept old new keeps = ext_get_or 0 (take 1024 new) (take 1024 old)
 pub turned : (one two : List ℕ) → SameBehind one two → SameBehind two one
 turned one two same = record { size = sym same.size; bytes = sym same.bytes }
 
+-- an image tells no root, or the state, or is as before but for the gates
+abbrev pub MayTell : Source → DiskState → List ℕ → Type 0
+MayTell s old image = NoneOrState s image ⊎ IsAsBefore old.now image
+
+-- from the third call on an image tells no root, or the state
+abbrev pub OnceShut : Source → DiskState → ℕ → List ℕ → Type 0
+OnceShut s old m image = old.calls + 3 ≤ m → NoneOrState s image
+
+-- What each image from `old` to `new` tells, where the slots were shut in between.
+pub record TellsMeanwhile (s : Source) (old new : DiskState) : Type 0 where
+  pub any : Leaves old new (λ _. MayTell s old)
+  pub none : Leaves old new (OnceShut s old)
+
 -- From the moment that the slots are closed each image tells no root, until a root is put there.
 module _ (none : ShutTellsNone) (old one two : DiskState) (is : IsMedium one.size one.now) (shut : AreShut one.now)
-    (closing : Leaves old one (λ _. OutsideOf old.now)) (calls : one.calls ≡ old.calls + 3) (writing : WritesOutside is_slot one two) where
+    (closing : Leaves old one (λ _. IsAsBefore old.now)) (calls : one.calls ≡ old.calls + 3) (writing : WritesOutside is_slot one two) where
   none_meanwhile : (image : List ℕ) → KeptFrom is_slot one.now image → current image ≡ None
   none_meanwhile image (e, left, keeps) = current_stays image e (front_kept e image keeps) ∙ none one.now one.size is shut e left
 
-  pub none_written : (s : Source) → Leaves old two (λ m image. old.calls + 3 ≤ m → NoneOrState s image)
-  none_written s =
-      goes_further old one two (λ _. OutsideOf old.now) (λ m image. old.calls + 3 ≤ m → NoneOrState s image) closing
-      (λ m image before left late. absurd (omega (arith, before, late, calls)))
-      (weaker one two (λ _. KeptFrom is_slot one.now) (λ m image. old.calls + 3 ≤ m → NoneOrState s image)
-      (λ m image left late. inl (none_meanwhile image left)) writing.leaves)
+  written_on : (P : ℕ → List ℕ → Type 0) → ((m : ℕ) (image : List ℕ) → m < one.calls → IsAsBefore old.now image → P m image) → ((m : ℕ) (image : List ℕ) → current image ≡ None → P m image)
+      → Leaves old two P
+  written_on P early late =
+      goes_further old one two (λ _. IsAsBefore old.now) P closing early
+      (weaker one two (λ _. KeptFrom is_slot one.now) P (λ m image left. late m image (none_meanwhile image left)) writing.leaves)
 
-  pub none_or_before : Leaves old one (λ _. IsAsBefore old.now) → (s : Source) → Leaves old two (λ _ image. NoneOrState s image ⊎ IsAsBefore old.now image)
-  none_or_before gates s =
-      goes_on old one two (λ _ image. NoneOrState s image ⊎ IsAsBefore old.now image)
-      (weaker old one (λ _. IsAsBefore old.now) (λ _ image. NoneOrState s image ⊎ IsAsBefore old.now image) (λ m image before. inr before) gates)
-      (weaker one two (λ _. KeptFrom is_slot one.now) (λ _ image. NoneOrState s image ⊎ IsAsBefore old.now image)
-      (λ m image left. inl (inl (none_meanwhile image left))) writing.leaves)
+  pub written : (s : Source) → TellsMeanwhile s old two
+  written s = record {
+    any = written_on (λ _. MayTell s old) (λ m image before so. inr so) (λ m image none. inl (inl none));
+    none = written_on (OnceShut s old) (λ m image before so late. absurd (omega (arith, before, late, calls))) (λ m image none late. inl none);
+  }
 
   pub shut_still : ShutStays → AreShut two.now
   shut_still stays =
       stays one.now two.now (front_kept one.now.seen two.now.seen writing.seen) (same_front one.now.unsettled two.now.unsettled false writing.marks.same) shut
 
 -- From then on each image tells no root, or represents the state that the root tells.
-pub state_opened : {old two new : DiskState} (s : Source) (root : Root) (c : Contents) (P : ℕ → List ℕ → Type 0) → ((m : ℕ) (image : List ℕ) → NoneOrState s image → P m image)
-    → Leaves old two P → Leaves two new (λ _. NoneOrRoot two.now root) → Tells root c two.now.seen s → Leaves old new P
-state_opened {old} {two} {new} s root c P so so_far opening tells =
-    goes_on old two new P so_far (weaker two new (λ _. NoneOrRoot two.now root) P (λ m image left. so m image (stands image left)) opening)
+pub opened : {old two new : DiskState} (s : Source) (root : Root) (c : Contents) → TellsMeanwhile s old two → Leaves two new (λ _. NoneOrRoot two.now root) → Tells root c two.now.seen s
+    → TellsMeanwhile s old new
+opened {old} {two} {new} s root c so_far opening tells = record {
+  any = goes_on old two new (λ _. MayTell s old) so_far.any (weaker two new (λ _. NoneOrRoot two.now root) (λ _. MayTell s old) (λ m image left. inl (stands image left)) opening);
+  none = goes_on old two new (OnceShut s old) so_far.none (weaker two new (λ _. NoneOrRoot two.now root) (OnceShut s old) (λ m image left late. stands image left) opening);
+}
   where
     stands : (image : List ℕ) → NoneOrRoot two.now root image → NoneOrState s image
     stands image (inl untold) = inl untold.0

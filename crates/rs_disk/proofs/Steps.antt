@@ -118,3 +118,20 @@ goes_further old mid new P Q first from behind = record {
     | inr late ↦ behind.each m image late le left
   ];
 }
+
+-- an image that is the same, in some sense, as an image at the entry of a run
+abbrev pub AsAtEntry : (List ℕ → List ℕ → Type 0) → Medium → List ℕ → Type 0
+AsAtEntry Same entry image = (e : List ℕ) × IsImage entry e × Same e image
+
+-- What is the same in one sense is so in a weaker one.
+pub same_weaker : (Same More : List ℕ → List ℕ → Type 0) → ((e image : List ℕ) → More e image → Same e image) → {old new : DiskState} → Leaves old new (λ _. AsAtEntry More old.now) → Leaves old new (λ _. AsAtEntry Same old.now)
+same_weaker Same More from {old} {new} leaves =
+    weaker old new (λ _. AsAtEntry More old.now) (λ _. AsAtEntry Same old.now) (λ m image is. (is.0, is.1, from is.0 image is.2)) leaves
+
+-- Two runs in turn leave what is the same as at their entry, if the sense goes on from image to image.
+pub same_goes_on : (Same : List ℕ → List ℕ → Type 0) → ((one two three : List ℕ) → Same one two → Same two three → Same one three)
+    → {old mid new : DiskState} → Leaves old mid (λ _. AsAtEntry Same old.now) → Leaves mid new (λ _. AsAtEntry Same mid.now) → Leaves old new (λ _. AsAtEntry Same old.now)
+same_goes_on Same on {old} {mid} {new} first then =
+    goes_on old mid new (λ _. AsAtEntry Same old.now) first
+    (weaker mid new (λ _. AsAtEntry Same mid.now) (λ _. AsAtEntry Same old.now)
+    (λ m image is. let was = exit_images old mid (λ _. AsAtEntry Same old.now) first is.0 is.1 in (was.0, was.1, on was.0 is.0 image was.2 is.2)) then)

@@ -1,7 +1,6 @@
-use Rattle.std.proofs.Common.{◌⊎◌, inl, inr, ℕ, ◌+◌, ◌≤◌, refl, sym, ◌∙◌, ap, subst, arith}
+use Rattle.std.proofs.Common.{inl, inr, ℕ, refl, sym, ◌∙◌, ap, subst, arith}
 use Rattle.rs_disk.specs.Leaves.{Leaves}
 use Rattle.rs_commit.specs.declared.root.Root.{Root}
-use Rattle.rs_commit.specs.Commit.{OutsideOf}
 use Rattle.rs_commit.specs.Format.{IsAsBefore, NoneOrRoot, fresh}
 use Rattle.rs_commit.specs.Slots.{Standing}
 use Rattle.rs_copy.specs.declared.faults.CopyFault.TheVariants.{Device}
@@ -10,7 +9,7 @@ use Rattle.rs_copy.specs.Copies.{NoneOrState}
 use Rattle.rs_copy.specs.Copying.{HasRoom, copied_root, is_slot}
 use Rattle.rs_copy.proofs.Ended.{not_yet, ends_badly, reached, told_there, intact_there, sound_here}
 use Rattle.rs_copy.proofs.Laid.{room, records_moved}
-use Rattle.rs_copy.proofs.Meanwhile.{none_or_before, none_written, state_opened}
+use Rattle.rs_copy.proofs.Meanwhile.{MayTell, opened, written}
 use Rattle.rs_copy.proofs.FromBelow.{weaker}
 use Rattle.rs_copy.proofs.Runs.{copying_as, copying_then, copying_write}
 use Rattle.rs_copy.proofs.Whole.{all_have_places}
@@ -23,8 +22,8 @@ returns-in_err-close_slots g c =
     let e = c.in_err-close_slots.ensures in
     ends_badly {S = Standing} c.from_residual.result Device c.from_residual.ensures.1
     (copying_as (λ is. refl) (λ is. refl) (copying_write (g.D.Disk.state c.args.from.now) old new e.runs.writes)) (omega arith) tt (λ is. absurd cc)
-    (λ s honest state. weaker old new (λ _. IsAsBefore old.now) (λ _ image. NoneOrState s image ⊎ IsAsBefore old.now image) (λ m image before. inr before) e.gates)
-    (λ s honest state when. not_yet old new (OutsideOf old.now) (λ m image. NoneOrState s image) e.runs.leaves
+    (λ s honest state. weaker old new (λ _. IsAsBefore old.now) (λ _. MayTell s old) (λ m image before. inr before) e.gates)
+    (λ s honest state when. not_yet old new (IsAsBefore old.now) (λ m. NoneOrState s) e.gates
     (elim when [ inl late ↦ absurd (omega (arith, late, e.calls.most)) | inr unmet ↦ e.calls.cut_short refl unmet ]))
 
 pub write_behind-requires-clause-places : goal.write_behind-requires-clause-places
@@ -51,13 +50,12 @@ returns-in_err-root g c =
     let l = c.args.layout.now in
     let closed = c.in_ok-close_slots.ensures in
     let e = c.in_err-root.ensures in
-    let outside = e.copies.outside is_slot (room old.size c.args.old.now l.contents l.directory l.used c.requires.laid_out).behind in
+    let told =
+    written c.shut_tells_none.ensures.none old one two (g.met.E.Disk.holds c.close_slots.new.disk) closed.shut closed.gates (closed.calls.all (λ is. absurd cc))
+    (e.copies.outside is_slot (room old.size c.args.old.now l.contents l.directory l.used c.requires.laid_out).behind) in
     ends_badly {S = Root} c.from_residual-in_err-root.result c.in_err-root.field-0.0 c.from_residual-in_err-root.ensures.1
     (copying_then (λ is. absurd cc) (copying_write before old one closed.runs.writes) e.copies.runs) e.once e.others e.bodies.damaged
-    (λ s honest state. none_or_before c.shut_tells_none.ensures.none old one two (g.met.E.Disk.holds c.close_slots.new.disk) closed.shut closed.runs.leaves
-    (closed.calls.all (λ is. absurd cc)) outside closed.gates s)
-    (λ s honest state when. none_written c.shut_tells_none.ensures.none old one two (g.met.E.Disk.holds c.close_slots.new.disk) closed.shut closed.runs.leaves
-    (closed.calls.all (λ is. absurd cc)) outside s)
+    (λ s honest state. (told s).any) (λ s honest state when. (told s).none)
 
 pub returns-in_err-open_first : goal.returns-in_err-open_first
 returns-in_err-open_first g c =
@@ -76,9 +74,8 @@ returns-in_err-open_first g c =
     let opening : Leaves two new (λ _. NoneOrRoot two.now root) = subst (λ (r : Root). Leaves two new (λ _. NoneOrRoot two.now r)) e.made.root (o.any_moment at.shut) in
     ends_badly {S = Standing} c.from_residual-in_err-open_first.result Device c.from_residual-in_err-open_first.ensures.1
     (copying_as (λ is. refl) (λ is. refl) (copying_then (λ none. none) at.runs (copying_write after two new o.runs.writes))) e.once tt (λ is. absurd cc)
-    (λ s honest state. state_opened s root (all_stored l.contents) (λ _ image. NoneOrState s image ⊎ IsAsBefore old.now image) (λ m image. inl) (at.any s) opening (at.told s honest state))
-    (λ s honest state when. state_opened s root (all_stored l.contents) (λ m image. old.calls + 3 ≤ m → NoneOrState s image) (λ m image is late. is) (at.none s) opening
-    (at.told s honest state))
+    (λ s honest state. (opened s root (all_stored l.contents) (at.meanwhile s) opening (at.told s honest state)).any)
+    (λ s honest state when. (opened s root (all_stored l.contents) (at.meanwhile s) opening (at.told s honest state)).none)
 
 pub returns : goal.returns
 returns g c =
@@ -110,8 +107,6 @@ returns g c =
       intact = intact_there lists l old.size before.size c.requires.laid_out c.requires.behind two.now.seen at.long e.made.stands new.now.seen o.runs.outside e.bodies.intact;
       holds = λ s honest state image is.
           told_there lists l old.size before.size c.requires.laid_out c.requires.behind two.now.seen at.long e.made.stands s new.now _ image (at.told s honest state) o.made.written o.runs.outside is;
-      any_moment = λ s honest state.
-          state_opened s root (all_stored l.contents) (λ _ image. NoneOrState s image ⊎ IsAsBefore old.now image) (λ m image. inl) (at.any s) opening (at.told s honest state);
-      settled = λ s honest state when.
-          state_opened s root (all_stored l.contents) (λ m image. old.calls + 3 ≤ m → NoneOrState s image) (λ m image is late. is) (at.none s) opening (at.told s honest state);
+      any_moment = λ s honest state. (opened s root (all_stored l.contents) (at.meanwhile s) opening (at.told s honest state)).any;
+      settled = λ s honest state when. (opened s root (all_stored l.contents) (at.meanwhile s) opening (at.told s honest state)).none;
     }
