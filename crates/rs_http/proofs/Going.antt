@@ -26,10 +26,10 @@ use Rattle.rs_http.specs.declared.request.RequestFault.{RequestFault}
 use Rattle.rs_http.specs.declared.request.Request.{Request}
 use Rattle.rs_http.specs.Outcomes.{GroupComesTo, RequestGives}
 use Rattle.rs_store.specs.Advancing.{GoesOnBy, GoesOnOnce}
+use Rattle.rs_http.proofs.FromBelow.{begins_one, may_fit}
 use Rattle.rs_http.specs.Responses.{RequestOutcome}
 use Rattle.rs_http.specs.Turn.{Turn}
 use Rattle.rs_http.specs.Serving.{IsBroken, IsUnsaid, IsCutOff, RequestEnds}
-use Rattle.rs_http.proofs.Walks.{begins_one, may_fit}
 
 -- the model accepts a command against which nothing is decided
 unless_refused : (refusal : Option model.Refusal) (spent closed : Bool) → (if closed then Some Closed else or_spent refusal spent) ≡ None → refusal ≡ None

@@ -17,6 +17,7 @@ use Rattle.rs_store.specs.declared.refusal.Refusal as stored
 use Rattle.rs_store.specs.declared.refusal.Refusal.TheVariants.{Closed, ReadFault, ShortBody}
 use Rattle.rs_recovery.specs.Replies.{AnsweredCommand}
 use Rattle.rs_recovery.specs.Turns.{IsOneTurn, CommandsAreTurns, IsPutTurn, PutsComeInTurn, ReadingsIdle}
+use Rattle.rs_http.proofs.FromBelow.{begins_one}
 use Rattle.rs_http.specs.declared.status.StatusCode.{StatusCode}
 use Rattle.rs_io.specs.declared.fault.StreamFault.{StreamFault}
 use Rattle.rs_io.specs.declared.fault.StreamFault.TheVariants.{Read, Write}
@@ -33,7 +34,6 @@ use Rattle.rs_http.specs.Serving.{preface_of, IsBroken, IsUnsaid, IsCutOff, Requ
 use Rattle.rs_http.specs.Told.{told_by, IsAsked, AsksCommand, LeavesCut, IsRequestOutcome, IsPlanOutcome, Gets, TellsRequest, RequestsGetOne, BrokenBodiesIdle}
 use Rattle.rs_http.specs.Turn.{Turn}
 use Rattle.rs_http.proofs.Seeing.{is_asked}
-use Rattle.rs_http.proofs.Walks.{begins_one}
 
 told_found : (found : Option (List ℕ)) → told_by (document_or_none found) ≡ []
 told_found None = refl

@@ -1,8 +1,6 @@
 -- A request makes a walk.
-use Rattle.std.proofs.Common.{◌≡◌, inl, inr, ◌≤◌, ◌-◌, ℕ, Bool, true, false, List, [], ◌∷◌, ◌++◌, length, refl, sym, ◌∙◌, ap, subst, arith, cond, Option, Some, None, Result, Ok, Err, Vec, Global, IsTrue, length-append}
-use Rattle.std.proofs.Math.Seq.{take-append_seam}
-use Rattle.std.proofs.lemmas.List.{length-replicate}
-use Rattle.std.specs.Prelude.{◌⊎◌, replicate, codes}
+use Rattle.std.proofs.Common.{◌≡◌, inl, inr, ◌≤◌, ℕ, Bool, true, false, List, [], ◌∷◌, ◌++◌, length, refl, sym, ◌∙◌, ap, subst, arith, cond, Option, Some, None, Result, Ok, Err, Vec, Global, IsTrue, length-append}
+use Rattle.std.specs.Prelude.{codes}
 use Rattle.rs_disk.specs.Medium.{DiskState, IsMedium}
 use Rattle.rs_model.specs.State.{Source, body_of}
 use Rattle.rs_model.specs.declared.command.Command.{Command}
@@ -22,14 +20,14 @@ use Rattle.rs_caps.specs.Shows.{shown_of}
 use Rattle.rs_store.specs.Answered.{Answers}
 use Rattle.rs_store.specs.AnswersBody.{AnswersBody}
 use Rattle.rs_store.specs.Laws.{HeldStands}
-use Rattle.rs_store.specs.Received.{IsBodyOf, MayHaveCome, AnswersFrom, coming_put}
+use Rattle.rs_store.specs.Received.{IsBodyOf, AnswersFrom, coming_put}
 use Rattle.rs_store.specs.Refusals.{named_as}
 use Rattle.rs_store.specs.Source.{Stored, Holds, state_of}
 use Rattle.rs_store.specs.declared.refusal.Refusal as stored
 use Rattle.rs_store.specs.declared.refusal.Refusal.TheVariants.{Closed, ReadFault, ShortBody, Device, NoMemory}
 use Rattle.rs_recovery.specs.Turns.{ReadingsIdle}
 use Rattle.rs_recovery.specs.Walked.{CommandEvents, LeavesWalk, CommandsMakeWalks}
-use Rattle.rs_http.proofs.FromBelow.{told, walked}
+use Rattle.rs_http.proofs.FromBelow.{begins_one, may_fit, told, walked}
 use Rattle.rs_http.specs.declared.request.RequestPlan.{RequestPlan}
 use Rattle.rs_http.specs.declared.request.RequestPlan.TheVariants.{ShowBody, ShowDocument, Put, Delete, Publish, Group}
 use Rattle.rs_http.specs.declared.request.RequestFault.{RequestFault}
@@ -51,27 +49,6 @@ Kind = List Event → Type 0
 never_named : (reason : model.Refusal) → named_as reason ≡ NoMemory → ⊥
 never_named decides.BadGroup e = absurd cc
 never_named reason e = absurd cc
-
--- no more bytes came than the body has: some body begins so
-pub begins_one : (n : ℕ) (came : List ℕ) → length came ≤ n → (body : List ℕ) × IsBodyOf n came body
-begins_one n came le = (
-  came ++ replicate (n - length came) 0,
-  record {
-    len = length-append came (replicate (n - length came) 0) ∙ (omega (arith, length-replicate {A = ℕ} (n - length came) 0));
-    front = take-append_seam came (replicate (n - length came) 0);
-  },
-)
-
--- no byte came, or all of a body
-none_or_all : (n : ℕ) (came : List ℕ) → (came ≡ []) ⊎ (length came ≡ n) → length came ≤ n
-none_or_all n came (inl none) = rw none (omega arith)
-none_or_all n came (inr all) = omega (arith, all)
-
--- no more bytes came of a refused body than it has
-pub may_fit : (n : ℕ) (came : List ℕ) (refusal : stored.Refusal) → MayHaveCome n came refusal → length came ≤ n
-may_fit n came Device may = may
-may_fit n came NoMemory may = none_or_all n came may
-may_fit n came refusal may = rw may (omega arith)
 
 module _ {D : Type 0} {device : D → DiskState} (turn : Turn device) where
   pub some_of : (name kind : List ℕ) (n : ℕ) (came : List ℕ) (result : Result Reply stored.Refusal)

@@ -1,7 +1,5 @@
 -- A put whose body comes from a reader is a turn.
-use Rattle.std.proofs.Common.{◌≡◌, ◌⊎◌, inl, inr, ◌<◌, ◌≤◌, ◌-◌, ◌∙◌, ℕ, false, List, [], ◌++◌, length, replicate, length-append, Result, Ok, Err, subst, arith}
-use Rattle.std.proofs.Math.Seq.{take-append_seam}
-use Rattle.std.proofs.lemmas.List.{length-replicate}
+use Rattle.std.proofs.Common.{◌≡◌, ◌⊎◌, inl, inr, ◌<◌, ℕ, false, List, length, Result, Ok, Err, subst, arith}
 use Rattle.rs_disk.specs.Medium.{DiskState}
 use Rattle.rs_disk.specs.Leaves.{Leaves}
 use Rattle.rs_model.specs.State.{Source}
@@ -9,33 +7,14 @@ use Rattle.rs_model.specs.declared.command.Command.TheVariants.{Put}
 use Rattle.rs_model.specs.declared.command.Reply.{Reply}
 use Rattle.rs_image.specs.StateOfImage.{StandsFor}
 use Rattle.rs_store.specs.declared.refusal.Refusal.{Refusal}
-use Rattle.rs_store.specs.declared.refusal.Refusal.TheVariants.{ReadFault, ShortBody, Device, NoMemory}
+use Rattle.rs_store.specs.declared.refusal.Refusal.TheVariants.{ReadFault, ShortBody, Device}
 use Rattle.rs_store.specs.Answered.{Answers}
 use Rattle.rs_store.specs.Counted.{is_device}
 use Rattle.rs_store.specs.Laws.{EarlyFaultsLeave, DeviceOrNoDoubt, RefusedIsNotDone}
-use Rattle.rs_store.specs.Received.{MayHaveCome, IsBodyOf, AnswersFrom, coming_put}
+use Rattle.rs_store.specs.Received.{IsBodyOf, AnswersFrom, coming_put}
 use Rattle.rs_store.specs.Source.{Stored, Holds}
+use Rattle.rs_recovery.proofs.FromBelow.{begins_one, may_fit}
 use Rattle.rs_recovery.specs.Turns.{CommandsAreTurns, CutPutsIdle, IsPutTurn, ComesInTurn}
-
-none_or_all : (n : ℕ) (came : List ℕ) → (came ≡ []) ⊎ (length came ≡ n) → length came ≤ n
-none_or_all n came (inl none) = rw none (omega arith)
-none_or_all n came (inr all) = omega (arith, all)
-
--- no more bytes came of a refused body than it has
-may_fit : (n : ℕ) (came : List ℕ) (refusal : Refusal) → MayHaveCome n came refusal → length came ≤ n
-may_fit n came Device may = may
-may_fit n came NoMemory may = none_or_all n came may
-may_fit n came refusal may = rw may (omega arith)
-
--- a body that begins with these bytes
-begins_one : (n : ℕ) (came : List ℕ) → length came < n → (body : List ℕ) × IsBodyOf n came body
-begins_one n came fewer = (
-  came ++ replicate (n - length came) 0,
-  record {
-    len = length-append came (replicate (n - length came) 0) ∙ (omega (arith, length-replicate {A = ℕ} (n - length came) 0));
-    front = take-append_seam came (replicate (n - length came) 0);
-  },
-)
 
 module _ {D : Type 0} (device : D → DiskState) (command : CommandsAreTurns device) (idle : CutPutsIdle device)
     (old new : Stored D) (name kind : List ℕ) (n now : ℕ) (came : List ℕ) where
@@ -54,7 +33,7 @@ module _ {D : Type 0} (device : D → DiskState) (command : CommandsAreTurns dev
   refused_leaves refusal early (inl failed) kept a each fewer s held =
       early old new s name kind n now came (subst (λ (r : Refusal). AnswersFrom device old new (coming_put name kind n now) came (Err r)) failed a) fewer held
   refused_leaves refusal early (inr told) kept a each fewer s held =
-      let body = begins_one n came fewer in
+      let body = begins_one n came (omega (arith, fewer)) in
       (kept old new s (Put name kind body.0) now refusal told ((each body.0 body.1).leads s held)).1
 
   module _ (early : EarlyFaultsLeave device) (doubt : DeviceOrNoDoubt) (kept : RefusedIsNotDone device) where

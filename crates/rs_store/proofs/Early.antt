@@ -1,8 +1,7 @@
 -- A put whose device fails before its body came whole leaves the old state: its answer is that of two bodies that begin alike.
 use Rattle.std.proofs.Common.{◌≡◌, ◌⊎◌, inl, inr, ℕ, ◌+◌, ◌-◌, ◌<◌, arith, List, [], ◌∷◌, ◌++◌, length, Option, Some, None, refl, sym, ◌∙◌, ap, subst}
 use Rattle.std.specs.Prelude.{replicate}
-use Rattle.std.proofs.Math.Seq.{take-append_seam}
-use Rattle.std.proofs.lemmas.List.{length-append, length-replicate}
+use Rattle.std.proofs.lemmas.List.{length-replicate}
 use Rattle.rs_disk.specs.Medium.{DiskState}
 use Rattle.rs_model.specs.State.{Source, facts_of}
 use Rattle.rs_model.specs.declared.value.Held.{Held}
@@ -16,6 +15,7 @@ use Rattle.rs_store.proofs.FromBelow.{value-bind, stands_once}
 use Rattle.rs_image.specs.StateOfImage.{StandsFor}
 use Rattle.rs_store.specs.Laws.{EarlyFaultsLeave}
 use Rattle.rs_store.specs.Received.{IsBodyOf}
+use Rattle.rs_store.proofs.Received.{begins}
 
 -- a command leaves the state, or the next one
 left_or_next : (r : Option Refusal) (s : Source) (next : Source × Reply) → (state_after s (accepted_unless r next) ≡ s) ⊎ (state_after s (accepted_unless r next) ≡ next.0)
@@ -45,10 +45,8 @@ bodies_differ [] rest same = absurd cc
 bodies_differ (x ∷ came) rest same = bodies_differ came rest cc
 
 one_body : (n : ℕ) (came : List ℕ) (x : ℕ) → length came < n → IsBodyOf n came (came ++ x ∷ replicate (n - (length came + 1)) 0)
-one_body n came x fewer = record {
-  len = omega (arith, length-append came (x ∷ replicate (n - (length came + 1)) 0), length-replicate {A = ℕ} (n - (length came + 1)) 0, fewer);
-  front = take-append_seam came (x ∷ replicate (n - (length came + 1)) 0);
-}
+one_body n came x fewer =
+    begins n came (x ∷ replicate (n - (length came + 1)) 0) (omega (arith, length-replicate {A = ℕ} (n - (length came + 1)) 0, fewer))
 
 -- An image that, for each of two puts, represents the old state or the next one, represents the old one.
 stands_for_old : (s : Source) (name kind a b : List ℕ) (now : ℕ) (image : List ℕ) → (a ≡ b → ⊥)

@@ -1,7 +1,7 @@
 -- The answer to a put of bytes is the answer to the put that gets them from a reader.
-use Rattle.std.proofs.Common.{◌≡◌, inl, inr, ℕ, ◌+◌, ◌<◌, ◌≤◌, arith, List, [], ◌++◌, length, take, Option, Result, Ok, Err, refl, sym, ◌∙◌, ap, subst}
+use Rattle.std.proofs.Common.{◌≡◌, ◌⊎◌, inl, inr, ℕ, ◌+◌, ◌-◌, ◌<◌, ◌≤◌, arith, List, [], ◌++◌, length, take, Option, Result, Ok, Err, refl, sym, ◌∙◌, ap, subst}
 use Rattle.std.specs.Prelude.{replicate, IfErr, IsErrOf}
-use Rattle.std.proofs.Math.Seq.{take-length}
+use Rattle.std.proofs.Math.Seq.{take-append_seam, take-length}
 use Rattle.std.proofs.lemmas.List.{length-append, length-replicate}
 use Rattle.rs_disk.specs.Medium.{DiskState}
 use Rattle.rs_store.proofs.FromBelow.{writing_as}
@@ -18,6 +18,27 @@ same_body : (n : ℕ) (came body : List ℕ) → length came ≡ n → IsBodyOf 
 same_body n came body whole h =
     let long : length came ≡ length body = whole ∙ sym h.len in
     sym h.front ∙ (ap (λ k. take k body) long ∙ take-length body)
+
+-- what came and these bytes are a body
+pub begins : (n : ℕ) (came rest : List ℕ) → length came + length rest ≡ n → IsBodyOf n came (came ++ rest)
+begins n came rest all = record { len = length-append came rest ∙ all; front = take-append_seam came rest }
+
+-- some body begins with what came, where it is no longer
+pub begins_one : (n : ℕ) (came : List ℕ) → length came ≤ n → (body : List ℕ) × IsBodyOf n came body
+begins_one n came le =
+    let rest : List ℕ = replicate (n - length came) 0 in
+    (came ++ rest, begins n came rest (omega (arith, length-replicate {A = ℕ} (n - length came) 0)))
+
+-- no byte came, or all of a body
+none_or_all : (n : ℕ) (came : List ℕ) → (came ≡ []) ⊎ (length came ≡ n) → length came ≤ n
+none_or_all n came (inl none) = rw none (omega arith)
+none_or_all n came (inr all) = omega (arith, all)
+
+-- no more bytes came of a refused body than it has
+pub may_fit : (n : ℕ) (came : List ℕ) (r : Refusal) → MayHaveCome n came r → length came ≤ n
+may_fit n came Device may = may
+may_fit n came NoMemory may = none_or_all n came may
+may_fit n came refusal may = rw may (omega arith)
 
 -- at any refusal nothing may have come
 pub nothing_came : (n : ℕ) (r : Refusal) → MayHaveCome n [] r
