@@ -416,10 +416,9 @@ class Planted(unittest.TestCase):
         return self.found(self.headline)
 
     def without(self, line: str) -> list[str]:
-        """What is wrong once the headline lacks this line."""
-        head, title, rest = self.headline.partition("== The headline\n")
-        self.assertIn(line, rest)
-        return self.found(head + title + rest.replace(line, "", 1))
+        """What is wrong once the headline, or what stands before it, lacks this line."""
+        self.assertIn(line, self.headline)
+        return self.found(self.headline.replace(line, "", 1))
 
     def found(self, table: str) -> list[str]:
         """What is wrong with the promises of this table, and was not before."""
@@ -466,7 +465,6 @@ class Planted(unittest.TestCase):
 
     def test_a_headline_without_a_line(self) -> None:
         for name in ("IsStop {from to left}", "StandsFor", "Holds", "(device disk).now.seen ≡ x.image"):
-            _, _, section = self.headline.partition("== The headline\n")
-            line = next(line for line in section.split("premise: ") if line.startswith(f"{name}\n"))
+            line = next(line for line in self.headline.split("premise: ") if line.startswith(f"{name}\n"))
             found = self.without(f"premise: {line}")
             self.assertTrue(any(fault.startswith(f"{HEADLINE}: {NOTHING}") for fault in found), name)
