@@ -1,4 +1,4 @@
--- Runs of calls that keep what a set of blocks holds.
+-- Runs of calls that keep the bytes of a set of blocks.
 use Rattle.std.proofs.Common.{rules, ◌≡◌, ◌⊎◌, inl, inr, ℕ, ◌+◌, ◌*◌, ◌-◌, ◌/◌, ◌%◌, ◌<◌, ◌≤◌, ◌==◌, Bool, true, false, List, ◌++◌, length, take, drop, get_or, refl, sym, ◌∙◌, ap, subst, arith, length-append, length-take, length-drop}
 use Rattle.std.proofs.lemmas.Bool.Decides.{nat_tests}
 use Rattle.std.proofs.lemmas.List.{append_assoc, drop-append-le, drop-take, ext_get_or, get_or-take, get_or-drop, length-take-le, places, take_at}
@@ -23,11 +23,11 @@ has_room e n size some fits inside =
 pub lies : (e : Extent) (at n size : ℕ) → false ≡ (n == 0) → at + n ≤ block_size * e.blocks → IsOnDisk e size → block_size * e.first + at + n ≤ size
 lies e at n size some fits inside = let room = has_room e (at + n) size (grind (arith, nat_tests, some)) fits inside in omega (arith, room)
 
--- A block of a set lies below or above each extent that is beside the set.
+-- A block of a set lies below or above every extent that is disjoint from the set.
 pub apart_from : (kept : ℕ → Bool) (e : Extent) → IsBeside kept e → (b : ℕ) → kept b ≡ true → (b < e.first) ⊎ (e.first + e.blocks ≤ b)
 apart_from kept e beside b is = outside e b (turned (within e) kept beside b is)
 
--- Blocks are kept where nothing changes, by two changes in turn, and in a subset.
+-- Blocks are kept by no change, by two changes in turn, and in a subset.
 pub keeps_same : (kept : ℕ → Bool) (bytes : List ℕ) → Keeps kept bytes bytes
 keeps_same kept bytes = record { size = refl; same = λ b i is lt. refl }
 
@@ -37,7 +37,7 @@ keeps_on kept a b c first behind = record { size = behind.size ∙ first.size; s
 pub keeps_less : (kept more : ℕ → Bool) → ((b : ℕ) → kept b ≡ true → more b ≡ true) → (a b : List ℕ) → Keeps more a b → Keeps kept a b
 keeps_less kept more from a b keeps = record { size = keeps.size; same = λ k i is lt. keeps.same k i (from k is) lt }
 
--- A list torn only within an extent keeps each set beside it.
+-- A list torn only within an extent keeps every set disjoint from it.
 pub keeps_torn : (kept : ℕ → Bool) (e : Extent) (at n : ℕ) → IsBeside kept e → at + n ≤ block_size * e.blocks → (old new : List ℕ) → Torn (block_size * e.first + at) n old new → Keeps kept old new
 keeps_torn kept e at n beside fits old new torn = record {
   size = torn.size;
@@ -86,7 +86,7 @@ outside_less kept more from old new run = record {
   leaves = same_weaker (Keeps kept) (Keeps more) (keeps_less kept more from) run.leaves;
 }
 
--- a run that changes nothing
+-- a run that leaves the disk as it is
 pub outside_rests : {A : Type 0} (kept : ℕ → Bool) (old new : DiskState) → RunsReading A old new → WritesOutside kept old new
 outside_rests kept old new rests = record {
   seen = subst (λ (m : Medium). Keeps kept old.now.seen m.seen) (sym rests.now) (keeps_same kept old.now.seen);
@@ -110,7 +110,7 @@ outside_write kept e at n old new beside fits room run held = record {
   leaves = same_weaker (Keeps kept) (Torn (block_size * e.first + at) n) (keeps_torn kept e at n beside fits) run.leaves;
 }
 
--- A write at a place of an extent leaves what is before it, and its bytes follow.
+-- A write at a place of an extent keeps the bytes before the place, and the written bytes follow them.
 pub piece_follows : (e : Extent) (at : ℕ) (old bytes : List ℕ) → block_size * e.first + at ≤ length old → part e (at + length bytes) (over old (block_size * e.first + at) bytes) ≡ part e at old ++ bytes
 piece_follows e at old bytes le =
     let from : ℕ = block_size * e.first + at in
@@ -136,7 +136,7 @@ part_kept kept e n fits all old new keeps = ext_get_or 0 (part e n new) (part e 
         let there : get_or new (block_size * e.first + j) 0 ≡ get_or old (block_size * e.first + j) 0 = subst (λ (k : ℕ). get_or new k 0 ≡ get_or old k 0) place one in
         get_or-take n (drop (block_size * e.first) new) j 0 lt ∙ get_or-drop (block_size * e.first) new j 0 ∙ there ∙ sym (get_or-drop (block_size * e.first) old j 0) ∙ sym (get_or-take n (drop (block_size * e.first) old) j 0 lt)
 
--- So they do in each image of a crash within a run that writes outside the set.
+-- So they do in every image of a crash within a run that writes outside the set.
 pub image_part_kept : (kept : ℕ → Bool) (e : Extent) (n : ℕ) → n ≤ block_size * e.blocks → ((b : ℕ) → within e b ≡ true → kept b ≡ true) → (old new : DiskState) → WritesOutside kept old new
     → (m : ℕ) (image : List ℕ) → old.calls ≤ m → m ≤ new.calls → IsImageAt new m image → (entry : List ℕ) × IsImage old.now entry × (part e n image ≡ part e n entry)
 image_part_kept kept e n fits all old new run m image ge le left =

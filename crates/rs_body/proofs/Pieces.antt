@@ -8,16 +8,16 @@ use Rattle.rs_extent.specs.Blocks.{block_size}
 use Rattle.rs_body.specs.Blocks.{part}
 use Rattle.rs_body.specs.Reading.{HasNextPiece}
 
--- The bytes read behind the first ones follow them.
+-- The bytes read after the first ones follow them.
 pub piece_behind : (e : Extent) (at n : ℕ) (bytes : List ℕ) → part e (at + n) bytes ≡ part e at bytes ++ take n (drop (block_size * e.first + at) bytes)
 piece_behind e at n bytes =
     take-add at n (drop (block_size * e.first) bytes) ∙ ap (λ (l : List ℕ). part e at bytes ++ take n l) (drop-drop at (block_size * e.first) bytes)
 
--- Bytes with a piece behind them are those before it and the piece.
+-- Bytes with a piece at their end are the bytes before it and the piece.
 pub with_piece : (e : Extent) (end : ℕ) (old new : DiskState) (before after : List ℕ) → HasNextPiece e end old new before after → before ++ drop (length before) after ≡ after
 with_piece e end old new before after next = ap (λ (l : List ℕ). l ++ drop (length before) after) (sym next.front) ∙ take-append-drop (length before) after
 
--- Where those were the front of the extent, so are these.
+-- If those were the front of the extent, so are these.
 pub front_with_piece : (e : Extent) (at end : ℕ) (old mid new : DiskState) (before after : List ℕ) → mid.now ≡ old.now → length before ≡ at → HasNextPiece e end mid new before after
     → before ≡ part e at old.now.seen → IsTrue new.honest → after ≡ part e end old.now.seen
 front_with_piece e at end old mid new before after same long next front honest =

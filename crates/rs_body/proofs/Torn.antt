@@ -1,15 +1,15 @@
--- What one write leaves on the disk.
+-- The effect of one write on the disk.
 use Rattle.std.proofs.Common.{◌≡◌, ◌⊎◌, inl, inr, ℕ, ◌+◌, ◌≤◌, List, length, refl, sym, subst, arith, Result, Ok, Err, OnOk, OnErr}
 use Rattle.rs_disk.specs.Medium.{Medium, DiskState, over, written}
 use Rattle.rs_disk.specs.Calls.{Writes, Tears}
 use Rattle.rs_disk.specs.Leaves.{Torn}
 use Rattle.rs_body.proofs.FromBelow.{over_torn}
 
--- any bytes of its length in its place, or what was held
+-- any bytes of its length in its place, or no change
 abbrev pub IsHeld : ℕ → ℕ → Medium → Medium → Type 0
 IsHeld at n old new = ((any : List ℕ) × (length any ≡ n) × (new ≡ written old at any)) ⊎ (new ≡ old)
 
--- whatever the write answers
+-- with any answer of the write
 pub held : {T E : Type 0} (old new : DiskState) (at : ℕ) (bytes : List ℕ) (result : Result T E) → OnOk result (Writes at bytes old new) → OnErr result (Tears at (length bytes) old new) → IsHeld at (length bytes) old.now new.now
 held old new at bytes (Ok x) ok err = inl (bytes, refl, ok.now)
 held old new at bytes (Err e) ok (inl torn) = inl (torn.0, torn.1, torn.2.now)

@@ -8,7 +8,7 @@ use Rattle.rs_body.specs.declared.read.LoadFault.{LoadFault}
 use Rattle.rs_body.specs.declared.read.LoadFault.TheVariants.{Device, Damaged}
 use Rattle.rs_body.specs.Blocks.{part}
 
--- How a record names a body: its extent, its length in bytes, and its SHA-256.
+-- A body as its record names it: its extent, its length in bytes, and its SHA-256.
 pub record Named : Type 0 where
   pub extent : Extent
   pub length : ℕ
@@ -17,10 +17,9 @@ pub record Named : Type 0 where
 -- A body was read into `bytes`, or was not.
 -- `found`: if the device has followed the model, the bytes are those of the extent.
 -- `long`, `digest`: on every device, they have the length and the SHA-256 of the body.
--- `empty`: where it was not read, there are none.
--- `damaged`: if the device has followed the model, Damaged comes only where the bytes of the extent have another
--- SHA-256.
--- `runs`: nothing changes, and Device is answered only where the device failed.
+-- `empty`: if the body was not read, there are no bytes.
+-- `damaged`: if the device has followed the model, Damaged comes only if the bytes of the extent have another SHA-256.
+-- `runs`: the disk does not change, and Device is answered only if the device failed.
 -- `no_call`: a body of no bytes needs no call.
 pub record ReadsBody (body : Named) (old new : DiskState) (bytes : List ℕ) (result : Result (Unit {0}) LoadFault) : Type 0 where
   pub found : OnOk result (IsTrue new.honest → bytes ≡ part body.extent body.length old.now.seen)
@@ -32,20 +31,20 @@ pub record ReadsBody (body : Named) (old new : DiskState) (bytes : List ℕ) (re
   pub no_call : body.length ≡ 0 → new ≡ old
 
 -- The first n bytes of an extent were read, or were not. On every device there are n of them, and they are the extent's
--- if the device has followed the model. Nothing changes, and 0 bytes need no call.
+-- if the device has followed the model. The disk does not change, and 0 bytes need no call.
 pub record ReadsPart {T E : Type 0} (extent : Extent) (n : ℕ) (old new : DiskState) (bytes : List ℕ) (result : Result T E) : Type 0 where
   pub found : OnOk result (IsTrue new.honest → bytes ≡ part extent n old.now.seen)
   pub long : OnOk result (length bytes ≡ n)
   pub runs : RunsReading (IsErr result) old new
   pub no_call : n ≡ 0 → new ≡ old
 
--- n bytes are read by one call, or by none where n is 0: nothing changes.
+-- n bytes are read by one call, or by no call if n is 0; the disk does not change.
 pub record ReadsOnce (n : ℕ) (told : Type 0) (old new : DiskState) : Type 0 where
   pub runs : RunsReading told old new
   pub one_call : CallsAtMost 1 old new
   pub no_call : n ≡ 0 → new ≡ old
 
--- A piece of an extent was read behind the bytes before it, up to byte `end` of the extent.
+-- A piece of an extent was read after the bytes before it, up to byte `end` of the extent.
 pub record HasNextPiece (extent : Extent) (end : ℕ) (old new : DiskState) (before after : List ℕ) : Type 0 where
   pub front : take (length before) after ≡ before
   pub long : length after ≡ end

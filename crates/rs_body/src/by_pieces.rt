@@ -13,16 +13,16 @@ use rs_disk::{Disk, Fault};
 use rs_extent::Extent;
 use rs_fixity::Sha256Hashing;
 
-/// The size of each piece but the last, in bytes: 512 blocks.
+/// The size of all pieces but the last, in bytes: 512 blocks.
 const PIECE_SIZE: u32 = 262_144;
 
-/// Reads a body as [`read_body`](crate::read_body) does, but in pieces of 262,144 bytes, each by one
-/// device call. The last piece may have fewer. It hashes each piece while that is in the cache, so a
-/// large body takes less time.
+/// Reads a body as [`read_body`](crate::read_body) does, but in pieces of 262,144 bytes, with one device call per
+/// piece. The last piece may have fewer bytes. It hashes a piece while that is in the cache, so a large body takes less
+/// time.
 ///
-/// The blocks of the extent have to lie on the disk, and the bytes have to fit into them. Bytes
-/// past the length are not read. Memory is allocated once, for exactly the length, and not at all
-/// where the vector has room. The disk stays as it is.
+/// The blocks of the extent have to lie on the disk, and the bytes have to fit into them. Bytes past the length are not
+/// read. Memory is allocated once, for exactly the length, and not at all if the vector has room. The disk stays as it
+/// is.
 ///
 /// # Errors
 /// As with [`read_body`](crate::read_body).
@@ -56,8 +56,7 @@ pub fn read_in_pieces<D: Disk>(
     }
 }
 
-/// Appends the bytes of an extent to an empty vector with room for them, piece by piece, and gives
-/// their SHA-256.
+/// Appends the bytes of an extent to an empty vector with room for them, piece by piece, and returns their SHA-256.
 fn append_pieces<D: Disk>(
     disk: &mut D,
     extent: Extent,

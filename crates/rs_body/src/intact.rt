@@ -11,18 +11,18 @@ use rs_disk::{Disk, Fault};
 use rs_extent::Extent;
 use rs_fixity::Sha256Hashing;
 
-/// The size of each piece but the last, in bytes: 32 blocks.
+/// The size of all pieces but the last, in bytes: 32 blocks.
 const PIECE_SIZE: usize = 16_384;
 
-/// Whether the body of `length` bytes at the front of an extent has this SHA-256. It reads pieces of
-/// 16,384 bytes, each by one device call, and holds one piece in memory at a time. The last piece
-/// may have fewer bytes. A body of no bytes needs no call.
+/// Returns whether the body of `length` bytes at the front of an extent has this SHA-256. It reads pieces of 16,384
+/// bytes, with one device call per piece, and holds one piece in memory at a time. The last piece may have fewer bytes.
+/// A body of no bytes needs no call.
 ///
 /// The blocks of the extent have to lie on the disk, and the bytes have to fit into them. The disk
 /// stays as it is.
 ///
 /// # Errors
-/// [`Fault`] where the device fails.
+/// [`Fault`] if the device fails.
 pub fn is_intact<D: Disk>(
     disk: &mut D,
     extent: Extent,

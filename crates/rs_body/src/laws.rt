@@ -1,13 +1,12 @@
 //! Laws of blocks and of runs that write outside them, over their definitions alone.
 //!
-//! Each function here does nothing: its contract is the law, which the check proves. Proofs cite
-//! the lemmas behind them, in `proofs/KeptBlocks.antt` and `proofs/Only.antt`, and
-//! in rs_extent.
+//! The functions here have no effect: their contracts are the laws, which the check proves. Proofs cite their lemmas,
+//! in `proofs/KeptBlocks.antt` and `proofs/Only.antt`, and in rs_extent.
 ghost use Rattle.rs_body.specs.Laws.{BesideEach, FewestBlocks, NoCallOutside, OutsideGoesOn, OutsideLess, OutsideRests, OnlyJoins, PartIsOnly, PartKept, ImagePartKept};
 
 use rs_disk::laws::Told;
 
-/// Extents are beside a set of blocks where each of them is.
+/// Extents are disjoint from a set of blocks exactly if all of them are.
 pub fn beside_each()
     ensures { BesideEach }
 {}
@@ -27,25 +26,24 @@ pub fn outside_goes_on()
     ensures { OutsideGoesOn }
 {}
 
-/// A run that writes outside a set of blocks writes outside each of its subsets.
+/// A run that writes outside a set of blocks writes outside all its subsets.
 pub fn outside_less()
     ensures { OutsideLess }
 {}
 
-/// A run that changes nothing writes outside every set of blocks.
+/// A run that leaves the disk as it is writes outside every set of blocks.
 pub fn outside_rests<A: Told>()
     ensures { OutsideRests A.told }
 {}
 
-/// Two runs in turn that each write only some extents write only these as one run.
+/// Two runs in turn, both of which write only some extents, write only these as one run.
 pub fn only_goes_on<A: Told, B: Told, C: Told>()
     ensures joins { OnlyJoins A.told B.told C.told }
     ensures part { PartIsOnly A.told }
 {}
 
-/// The bytes of an extent within a set of blocks stay where the set's blocks keep what they held. In
-/// each image of a crash within a run that writes outside the set, they are those of an image from
-/// before the run.
+/// The bytes of an extent within a set of blocks stay if the set's blocks keep their bytes. In every image of a crash
+/// within a run that writes outside the set, they are those of an image from before the run.
 pub fn part_kept()
     ensures part { PartKept }
     ensures image { ImagePartKept }

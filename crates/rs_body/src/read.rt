@@ -13,7 +13,7 @@ use rs_fixity::sha256_of;
 use std::alloc::AllocError;
 use thiserror::Error;
 
-/// Why a body, a page or a directory was not read.
+/// The fault of a body, a page or a directory that was not read.
 #[derive(Clone, Copy, Debug, PartialEq, Eq, Error)]
 pub enum LoadFault {
     /// The device failed.
@@ -37,19 +37,19 @@ impl From<AllocError> for LoadFault {
     }
 }
 
-/// Reads the body of `length` bytes at the front of an extent into a vector, in place of what the
-/// vector held, by one device call. A body of no bytes needs none.
+/// Reads the body of `length` bytes at the front of an extent into a vector, in place of the earlier content of the
+/// vector, by one device call. A body of no bytes needs no call.
 ///
-/// The blocks of the extent have to lie on the disk, and the bytes have to fit into them. Bytes
-/// past the length are not read. Memory is allocated once, for exactly the length, and not at all
-/// where the vector has room. The disk stays as it is.
+/// The blocks of the extent have to lie on the disk, and the bytes have to fit into them. Bytes past the length are not
+/// read. Memory is allocated once, for exactly the length, and not at all if the vector has room. The disk stays as it
+/// is.
 ///
 /// # Errors
-/// - [`LoadFault::NoMemory`] where that memory is refused. The device is then not called.
-/// - [`LoadFault::Device`] where the device fails.
-/// - [`LoadFault::Damaged`] where the bytes that were read do not have this SHA-256.
+/// - [`LoadFault::NoMemory`] if that memory is refused. The device is then not called.
+/// - [`LoadFault::Device`] if the device fails.
+/// - [`LoadFault::Damaged`] if the bytes that were read do not have this SHA-256.
 ///
-/// After each of them the vector is empty.
+/// After any of these errors the vector is empty.
 pub fn read_body<D: Disk>(
     disk: &mut D,
     extent: Extent,
@@ -102,15 +102,15 @@ pub(crate) fn append_piece<D: Disk>(
     read_piece(disk, extent, at as u32, &mut into[at..])
 }
 
-/// Reads a piece of a body from byte `at` of an extent on, as many bytes as the buffer has room for,
-/// by one device call. A piece of no bytes needs none.
+/// Reads a piece of a body from byte `at` of an extent on, as many bytes as the buffer has room for, by one device
+/// call. A piece of no bytes needs no call.
 ///
-/// The place is counted in bytes from the front of the extent. The blocks of the extent have to lie
-/// on the disk, and the piece has to end within them. Pieces that are read one after the other, each
-/// from where the last one ended, join to the body. The disk stays as it is.
+/// The place is counted in bytes from the front of the extent. The blocks of the extent have to lie on the disk, and
+/// the piece has to end within them. Pieces that are read one after the other, each from the end of the last one, join
+/// to the body. The disk stays as it is.
 ///
 /// # Errors
-/// [`Fault`] where the device fails. The buffer may then hold any bytes.
+/// [`Fault`] if the device fails. The buffer may then hold any bytes.
 pub fn read_piece<D: Disk>(
     disk: &mut D,
     extent: Extent,

@@ -1,4 +1,4 @@
--- What the documents say does not depend on the blocks of the published records.
+-- The documents do not depend on the blocks of the published records.
 use Rattle.std.proofs.Common.{◌≡◌, ℕ, List, [], ◌∷◌, length, map, refl, sym, ap, ◌∙◌, Some, None, nat_le}
 use Rattle.std.specs.Prelude.{codes, ◌==◌, ◌&&◌, if◌then◌else◌}
 use Rattle.std.proofs.lemmas.List.{length-map, take-map, drop-map}

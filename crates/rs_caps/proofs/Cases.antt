@@ -1,4 +1,4 @@
--- Which text a document has, by its kind.
+-- The text of a document, by its kind.
 use Rattle.std.proofs.Common.{◌≡◌, refl, ap, Some}
 use Rattle.rs_lists.specs.declared.doc.Doc.{Doc}
 use Rattle.rs_lists.specs.declared.doc.Doc.TheVariants.{Description, Capabilities, ResourceHead, ResourcePart, ChangeHead, ChangePart}

@@ -30,7 +30,7 @@ by_this_kind P of_bound of_deleted c (inl (again, f, what, facts)) =
 by_this_kind P of_bound of_deleted c (inr (what, facts)) =
     subst P (same_change (deleted c.name c.moment) c refl (sym what) refl (sym facts)) (of_deleted c.name c.moment)
 
--- what is so of the changes of both kinds is so of each change
+-- a property of the changes of both kinds is a property of every change
 pub by_kind : (P : Change → Type 0) → ((name : List ℕ) (again : Bool) (moment : ℕ) (f : Facts) → P (bound name again moment f))
     → ((name : List ℕ) (moment : ℕ) → P (deleted name moment)) → (c : Change) → P c
 by_kind P of_bound of_deleted c = by_this_kind P of_bound of_deleted c (kind c.what c.facts c.agreed)

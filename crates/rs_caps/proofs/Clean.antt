@@ -60,7 +60,7 @@ moment_clean t = clean_by is_moment_byte refl refl refl (moment_text t) (moment_
 pub hash_clean : (d : Digests) → IsClean (hash_text_of d)
 hash_clean d = hash_text-passes is_clean refl refl refl refl d
 
--- what is escaped
+-- escaped text
 clean_when : (a b d : Bool) → not a ≡ true → b ≡ false → d ≡ false → (not a && not b && not d && true) ≡ true
 clean_when a b d h e f = λ i. h i && not (e i) && not (f i) && true
 

@@ -1,4 +1,4 @@
--- What the search for a prefix and for a mark finds.
+-- The results of the search for a prefix and for a mark.
 use Rattle.std.proofs.Common.{◌≡◌, ◌≢◌, ℕ, ◌+◌, ◌<◌, List, [], ◌∷◌, ◌++◌, length, take, drop, Bool, true, false, not, cond, refl, sym, ap, ◌∙◌, Option, Some, None, get_or, arith, one-add, ◌≤◌, ◌*◌, ◌-◌, nat_lt}
 use Rattle.std.specs.Prelude.{◌==◌}
 use Rattle.std.specs.List.{position_or_len, position}
@@ -14,7 +14,7 @@ same_or_not c p o h = by_test (c == p) refl
     by_test true e = h (grind (arith, nat_tests))
     by_test false e = refl
 
--- nothing follows a prefix with which the text does not begin
+-- a prefix with which the text does not begin is not stripped
 pub strip-none : (prefix text : List ℕ) → ((rest : List ℕ) → text ≢ prefix ++ rest) → strip prefix text ≡ None
 unfolding strip
 strip-none [] text h = absurd (h text refl)
@@ -22,7 +22,7 @@ strip-none (p ∷ prefix) [] h = refl
 strip-none (p ∷ prefix) (c ∷ text) h =
     same_or_not c p (strip prefix text) (λ e. strip-none prefix text (λ rest same. h rest (cc)))
 
--- what stands before the first mark, and the rest
+-- the bytes before the first mark, and the rest
 abbrev end_of : ℕ → List ℕ → ℕ
 end_of mark text = position_or_len (λ byte. byte == mark) text
 

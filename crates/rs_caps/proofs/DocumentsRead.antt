@@ -1,4 +1,4 @@
--- The text of a list or an index reads as what its lines say.
+-- The text of a list or an index reads as the content of its lines.
 use Rattle.std.proofs.Common.{◌≡◌, ℕ, List, [], ◌∷◌, ◌++◌, map, refl, ap, ◌∙◌, arith, Option, Some, true, cond, append_assoc}
 use Rattle.std.specs.Prelude.{codes, IsTrue, ◌==◌, ◌&&◌}
 use Rattle.std.specs.List.{AllByRecursion}
@@ -21,7 +21,7 @@ use Rattle.rs_caps.proofs.Lines.{IsLine, AreLines, onto, lines_of-joined, read_c
 use Rattle.rs_caps.proofs.LinesRead.{IsEnd, up_read, resource_md_read, change_md_read}
 use Rattle.rs_caps.proofs.WrittenLines.{link_is_line}
 
--- what a line read as, with the lines after it
+-- the reading of a line, with the lines after it
 abbrev pub paired : {X : Type 0} → List (List ℕ) → Option X → Option (X × List (List ℕ))
 paired lines o = o >>= λ x. Some (x, lines)
 

@@ -7,7 +7,7 @@ use Rattle.rs_record.specs.declared.change.Change.{Change}
 use Rattle.rs_lists.specs.Chunks.{part_at}
 use Rattle.rs_caps.proofs.FromBelow.{last_joined}
 
--- part k of what is left without the first g parts is part g + k of all
+-- part k of the items after the first g parts is part g + k of all
 pub part_dropped : {A : Type 0} (g k limit : ℕ) (items : List A) → part_at k limit (drop (g * limit) items) ≡ part_at (g + k) limit items
 part_dropped g k limit items =
     let e : g * limit + k * limit ≡ (g + k) * limit = grind arith in

@@ -1,4 +1,4 @@
--- What a destination gathers from documents that are fetched at different times.
+-- The lists that a destination gathers from documents that are fetched at different times.
 use Rattle.std.proofs.Common.{◌≡◌, ℕ, suc, zero, ◌+◌, ◌-◌, ◌*◌, ◌<◌, ◌≤◌, List, [], ◌∷◌, length, map, take, drop, refl, sym, ap, ◌∙◌, arith, Option, Some, None, Bool, true, false, cond, nat_le, length-take, length-drop, subst, min}
 use Rattle.std.specs.Prelude.{codes, ◌==◌}
 use Rattle.std.specs.List.{AllByRecursion}
@@ -27,7 +27,7 @@ use Rattle.rs_caps.proofs.DroppedParts.{part_dropped}
 use Rattle.rs_caps.proofs.Walks.{AreLaws, IsKept, lawful_at, count_between, count_of_all, kept_at, kept_count}
 use Rattle.rs_caps.proofs.TimesOfFetches.{later_between, listed_part, changed_part, same_part, same_count}
 
--- what is known of the parts that an index names
+-- a property of the parts that an index names
 unmapped : {A B C : Type 0} (P : C → Type 0) (f : B → C) (g : A → B) (xs : List A) → AllByRecursion P (map f (map g xs)) → AllByRecursion (λ x. P (f (g x))) xs
 unmapped P f g [] h = tt
 unmapped P f g (x ∷ xs) h = (h.0, unmapped P f g xs h.1)
@@ -77,8 +77,8 @@ resources_fetched laws s events when done l all f =
     (paths_in_index (nat_le count 1) Part (ResourceList v.at (map listed_of v.published)) (ResourceListIndex v.at (map (resource_entry_of v) numbers)) e parts))) in
     resources_from_head r fetched lawful refl ∙ resources_from_parts laws.listed_chunks v fetched (nat_le count 1) shown each
 
--- What is gathered of the Change List is all changes up to number n, at least those that its head knew, without the
--- parts that were dropped when the head was fetched.
+-- The changes gathered of the Change List are all changes up to number n, at least those that its head knew, without
+-- the parts that were dropped when the head was fetched.
 pub record AreKeptChanges (s : Source) (events : List Event) (when : List ℕ → ℕ) (last : ℕ) : Type 0 where
   pub n : ℕ
   pub low : count_at s events (when (codes "/changelist.xml")) ≤ n
@@ -113,7 +113,7 @@ changes_whole laws base limit moment events when last l all f e =
           ∙ ap (λ items. Some (h.begin, items)) (kept_at laws.recorded base limit moment events i).changes;
     }
 
--- A Change List in parts: what its last part shows is where the changes end.
+-- A Change List in parts: the changes end where its last part ends.
 changes_in_parts : AreKeptWhere false
 changes_in_parts laws base limit moment events when last l all f e =
     let s : Source = start_of base limit moment in

@@ -1,4 +1,4 @@
--- The lines of a text are those that it was joined from, and children read one by one are what was written.
+-- The lines of a text are those that it was joined from, and children read one by one are the written ones.
 use Rattle.std.proofs.Common.{◌≡◌, ℕ, List, [], ◌∷◌, ◌++◌, refl, ap, ◌∙◌, Option, Some, None, Bool, true, false, cond, append_assoc, map}
 use Rattle.std.specs.Prelude.{IsTrue, ◌==◌, ◌&&◌, not}
 use Rattle.std.proofs.lemmas.Bool.{eqb-true}

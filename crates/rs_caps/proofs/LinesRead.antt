@@ -1,4 +1,4 @@
--- Each line of a list or an index reads as what it was written from.
+-- Every line of a list or an index reads as the value from which it was written.
 use Rattle.std.proofs.Common.{◌≡◌, ℕ, ◌+◌, ◌<◌, ◌≤◌, ◌^◌, List, [], ◌∷◌, ◌++◌, refl, ap, ◌∙◌, arith, Option, Some, None, Bool, true, false, cond, sym, append_assoc, length, length-append}
 use Rattle.std.specs.Prelude.{nat_eq, codes, IsTrue, IfSome, ◌==◌, ◌&&◌}
 use Rattle.std.specs.List.{concat}
@@ -141,7 +141,7 @@ change_line_read base c b =
     (λ name again moment f h. any_bound_read base name again moment f b h.name h.facts h.moment)
     (λ name moment h. any_deleted_read base name moment b h.name h.moment) c
 
--- what the `rs:md` of lists say
+-- the content of the `rs:md` of lists
 pub resource_md_read : (at : ℕ) → IsMoment at → read_resource_md (resource_md at) ≡ Some at
 unfolding read_resource_md strip
 resource_md_read at h = then_some _ _ _ _ (moment_own 34 refl at _ h) refl

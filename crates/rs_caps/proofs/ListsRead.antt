@@ -1,4 +1,5 @@
--- The lists of one state are gathered whole, and the one mirrored with the other is what is held.
+-- The lists of one state are gathered whole, and the Resource List mirrored with the Change List gives the held
+-- resources.
 use Rattle.std.proofs.Common.{◌≡◌, ℕ, ◌+◌, ◌-◌, ◌<◌, ◌≤◌, ◌^◌, List, [], ◌∷◌, length, map, refl, sym, ap, subst, ◌∙◌, arith, Option, Some, None, Bool, true, false, cond, nat_le, nat_lt}
 use Rattle.std.specs.Prelude.{codes, ◌==◌, ◌&&◌}
 use Rattle.std.specs.List.{AllByRecursion}
@@ -155,7 +156,7 @@ pub change_head_read : (s : Source) → IsLawful s
     → (text : List ℕ) × (answer s (codes "/changelist.xml") ≡ Some text) × (reads text ≡ Some (change_head_of (shown_of s)))
 change_head_read s l = head_read s ChangeHead l tt tt (change_head_text (shown_of s))
 
--- what is gathered from a head that is answered as in some state
+-- the items gathered from a head that is answered as in some state
 from_head : {A : Type 0} (gathered : Document → Option A) (fetched answered : Option (List ℕ)) (head : Document)
     → (text : List ℕ) × (answered ≡ Some text) × (reads text ≡ Some head) → fetched ≡ answered
     → (fetched >>= λ text. reads text >>= λ d. gathered d) ≡ gathered head
@@ -235,7 +236,7 @@ changes_by chunks s false e l =
 pub changes_gathered : PartsAreChunks Change → (s : Source) → IsLawful s → gather_changes (answer s) ≡ Some (s.begin, s.changes)
 changes_gathered chunks s l = changes_from_head s (answer s) l refl ∙ changes_by chunks s _ refl l
 
--- what is listed is what was published
+-- the listed resources are the published ones
 pub same_entries : (m : Names Entry) → map listed_entry (map listed_of (map record_of m)) ≡ m
 same_entries [] = refl
 same_entries (e ∷ m) = ap (λ l. e ∷ l) (same_entries m)

@@ -23,7 +23,7 @@ decimal_leads : (n : ℕ) → n < 2 ^ 64 → HasNoLeadingZero (decimal n)
 decimal_leads zero w = subst HasNoLeadingZero (sym (decimal_digit 0 (omega arith))) (λ e. refl)
 decimal_leads (suc n) w = λ e. absurd (omega (arith, first_decimal (suc n) (omega arith) w, e))
 
--- a digit that is not `0`, or nothing after it
+-- a digit that is not `0`, or no digit after it
 leads : (b : Bool) (c : ℕ) (text : List ℕ) → (c == 48) ≡ b → (c ≡ 48 → length (c ∷ text) ≡ 1) → (is_empty text || not b) ≡ true
 leads b c [] e h = refl
 leads false c (d ∷ text) e h = refl

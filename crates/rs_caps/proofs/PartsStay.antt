@@ -37,11 +37,11 @@ if_there false x y h = cc
 same_number : (n m : ℕ) → (n == m) ≡ true → n ≡ m
 same_number n m e = grind (arith, nat_tests)
 
--- the base and the moment that the text of a part has, beside its items
+-- the base and the moment that the text of a part has, in addition to its items
 abbrev shows : List ℕ → ℕ → Shown
 shows base at = record { base = base; limit = 0; start = 0; number = 0; at = at; published = []; changes = []; first = 0; begin = 0 }
 
--- a part of the Resource List, by what it depends on
+-- a part of the Resource List, by the values on which it depends
 abbrev listed_text : List ℕ → ℕ → ℕ → Names Entry → ℕ → List ℕ
 listed_text base limit at listed k =
     let s : Shown = shows base at in
@@ -76,7 +76,7 @@ pub listed_parts_stay : (s : Source) (earlier more : List (Command × ℕ)) (pat
 listed_parts_stay s earlier more path x y p k d h g =
     listed_stays (fold_of s earlier) more path x y p k d h (ap (λ t. answer t path) (sym (fold-append s earlier more)) ∙ g)
 
--- a closed part of the Change List, by what it depends on
+-- a closed part of the Change List, by the values on which it depends
 abbrev from_in : ℕ → ℕ → List Change → ℕ → ℕ
 from_in begin limit changes k = last_moment begin (take (k * limit) changes)
 
@@ -129,7 +129,7 @@ closed_dropped base limit begin g changes k =
     λ i. change_list s (part_links s (codes "/changelist.xml")) (moment_dropped g k limit begin changes i) (Some (next i))
     (part_dropped g k limit changes i)
 
--- a part stays full among what is left
+-- a part stays full among the remaining changes
 room_left : (s t : Source) (more : List Change) (n m : ℕ) → KeepsChanges s more t → t.first - s.first + m ≡ n
     → (n + 1) * s.limit ≤ length s.changes → (m + 1) * t.limit ≤ length t.changes
 room_left s t more n m k is full =

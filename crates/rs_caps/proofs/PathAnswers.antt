@@ -1,4 +1,4 @@
--- What is answered at the paths of documents and of resources.
+-- The answers at the paths of documents and of resources.
 use Rattle.std.proofs.Common.{◌≡◌, ℕ, List, refl, ap, ◌∙◌, get_or, arith, Option, Some, None}
 use Rattle.std.specs.Prelude.{codes}
 use Rattle.rs_model.specs.State.{body_of}

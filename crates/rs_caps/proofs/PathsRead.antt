@@ -1,4 +1,4 @@
--- The path of each document reads as that document, and no other path does.
+-- The path of every document reads as that document, and no other path does.
 use Rattle.std.proofs.Common.{◌≡◌, ℕ, ◌<◌, ◌^◌, List, [], ◌∷◌, ◌++◌, refl, sym, ap, ◌∙◌, arith, Option, Some, None, Bool, true, false, cond, nat_lt, append_assoc, subst}
 use Rattle.std.specs.Prelude.{codes, ◌==◌}
 use Rattle.std.specs.Fmt.{decimal}
@@ -29,7 +29,7 @@ last_part_read part k h =
     (cut_value 46 (decimal k) (codes "xml") (number_lacks 46 k refl h))
     ∙ then_some (read_count (decimal k)) (λ n. Some (part n)) k (Some (part k)) (count_read k h) refl
 
--- the numbers of a path, and what joins them
+-- the numbers of a path, and the text that joins them
 apart : (p k : ℕ) → decimal p ++ codes "/" ++ decimal k ++ codes ".xml" ≡ decimal p ++ (codes "/" ++ (decimal k ++ codes ".xml"))
 apart p k = append_assoc (decimal p ++ codes "/") (decimal k) (codes ".xml")
     ∙ append_assoc (decimal p) (codes "/") (decimal k ++ codes ".xml")

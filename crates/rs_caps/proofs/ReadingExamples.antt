@@ -1,4 +1,4 @@
--- Worked examples, computed: texts with their lengths in bytes and what they read as, and texts that do not read.
+-- Worked examples, computed: texts with their lengths in bytes and their readings, and texts that do not read.
 use Rattle.std.proofs.Common.{◌≡◌, ℕ, List, [], ◌∷◌, length, take, refl, Option, Some, None, true, false}
 use Rattle.std.specs.Prelude.{codes}
 use Rattle.std.specs.Option.{option_map}
@@ -28,7 +28,7 @@ use Rattle.rs_caps.specs.ReadLines.{read_facts, read_resource, read_bound, read_
 use Rattle.rs_caps.specs.Reads.{reads, read_list, read_index, read_children, read_resource_list, read_change_list, read_resource_index, read_change_index}
 use Rattle.rs_caps.specs.Answer.{answer}
 
--- the length in bytes of what is answered at a path, and what it reads as
+-- the length in bytes of the answer at a path, and its reading
 abbrev shown_at : Source → List ℕ → Option (ℕ × Option Document)
 shown_at s path = option_map (λ text. (length text, reads text)) (answer s path)
 
@@ -123,8 +123,8 @@ pub texts :
 unfolding digits encode_with decode_pairs block_words rounds compress hash_after digest_bytes md5 first_words schedule rounds_256 compress_256 hash_after_256 digest_bytes_256 sha256 date_of period_of days_of moment_text read_moment moment_digits read_hash list_text strip cut lines_of characters read_number doc_of read_count last_part resource_part change_part document_text read_facts read_resource read_bound read_deleted read_end read_resource_entry read_change_entry before_end read_up read_resource_md read_change_md reads read_list read_index read_children read_resource_list read_change_list read_resource_index read_change_index
 texts = (refl, refl, refl, refl, refl, refl, refl, refl, refl, refl, refl, refl, refl, refl)
 
--- The Change List of these: each publication drops the full parts that end at the publication before it or earlier, and
--- the others keep their numbers.
+-- The Change List of these: every publication drops the full parts that end at the publication before it or earlier,
+-- and the others keep their numbers.
 pub kept_parts :
     (reads_at (in_turn 2) (codes "/changelist.xml") ≡ Some
     (ChangeList 0 None (put_of (codes "a") 1 ∷ put_of (codes "b") 2 ∷ [])))
@@ -159,7 +159,7 @@ pub part_stays_where_another_goes :
 unfolding digits encode_with decode_pairs block_words rounds compress hash_after digest_bytes md5 first_words schedule rounds_256 compress_256 hash_after_256 digest_bytes_256 sha256 date_of period_of days_of moment_text read_moment moment_digits read_hash list_text strip cut lines_of characters read_number doc_of read_count last_part resource_part change_part document_text read_facts read_resource read_bound read_deleted read_end read_resource_entry read_change_entry before_end read_up read_resource_md read_change_md reads read_list read_index read_children read_resource_list read_change_list read_resource_index read_change_index
 part_stays_where_another_goes = (refl, refl, refl, refl, refl)
 
--- A history of which nothing was dropped yet, as all five changes of these are kept: its next publication leaves the
+-- A history of which no change was dropped yet, as all five changes of these are kept: its next publication leaves the
 -- last.
 pub all_at_once :
     ((fold_of undropped ((Publish, 0) ∷ [])).first ≡ 2) × ((fold_of undropped ((Publish, 0) ∷ [])).begin ≡ 6)
@@ -178,7 +178,7 @@ pub refused_values :
 unfolding read_number characters strip
 refused_values = (refl, refl, refl, refl, refl, refl, refl, refl, refl, refl, refl, refl, refl, refl)
 
--- A path has the numbers that it wants, of 64 bits, and nothing after its end.
+-- A path has the numbers that it wants, of 64 bits, and no byte after its end.
 pub refused_paths :
     (doc_of (codes "/resourcelist/1/0.xml") ≡ Some (ResourcePart 1 0)) × (doc_of (codes "/resourcelist/01/0.xml") ≡ None)
     × (doc_of (codes "/resourcelist/0.xml") ≡ None)
@@ -187,8 +187,8 @@ pub refused_paths :
 unfolding doc_of read_count last_part resource_part change_part strip cut read_number
 refused_paths = (refl, refl, refl, refl, refl, refl)
 
--- Lines: a space after its end, a part whose `until` is 30 February, a `'` that stands as it is, a `lastmod` that is
--- not the `datetime`, and a base that is none.
+-- Lines: a space after its end, a part whose `until` is 30 February, a `'` that is not escaped, a `lastmod` that is not
+-- the `datetime`, and a base that is none.
 pub refused_lines :
     (read_resource_entry (codes "http://a")
     (codes "<sitemap><loc>http://a/resourcelist/2/0.xml</loc><rs:md at=\"1970-01-01T00:00:00.005Z\"/></sitemap> ") ≡ None)

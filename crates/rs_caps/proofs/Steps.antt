@@ -1,4 +1,4 @@
--- What a step of a reading tells, and the test in it.
+-- The result of a step of a reading, and the test in it.
 use Rattle.std.proofs.Common.{◌≡◌, ℕ, List, [], ◌∷◌, ◌++◌, refl, ap, ◌∙◌, Option, Some, None, Bool, true, false, cond}
 use Rattle.std.specs.Prelude.{IsTrue, ◌&&◌, ◌==◌}
 use Rattle.std.proofs.lemmas.Bool.{eqb-true}
@@ -24,7 +24,7 @@ pub let_through : {A : Type 0} (b : Bool) (o : Option A) (y : A) → cond b o No
 let_through true o y h = (refl, h)
 let_through false o y h = cc
 
--- what one of two readings gave
+-- the result of one of two readings
 pub either_gave : {A : Type 0} (P : Type 0) (a b : Option A) (y : A) → (a ≡ Some y → P) → (b ≡ Some y → P) → (a or_else b) ≡ Some y → P
 either_gave P None b y h k e = k e
 either_gave P (Some x) b y h k e = h e
@@ -45,7 +45,7 @@ same_bytes-itself text = (bytes_decides text text).1 refl
 pub same_bytes-equal : (a b : List ℕ) → same_bytes a b ≡ true → a ≡ b
 same_bytes-equal a b h = (bytes_decides a b).0 h
 
--- where each byte that passes one test passes another, so do the bytes of a text
+-- where every byte that passes one test passes another, so do the bytes of a text
 pub all_pass : (p q : ℕ → Bool) → ((c : ℕ) → p c ≡ true → q c ≡ true) → (text : List ℕ) → list_all p text ≡ true → list_all q text ≡ true
 all_pass p q so [] h = refl
 all_pass p q so (c ∷ text) h = λ i. so c (first_so (p c) (list_all p text) h) i && all_pass p q so text

@@ -1,4 +1,4 @@
--- Each text of a lawful source reads as its document.
+-- Every text of a lawful source reads as its document.
 use Rattle.std.proofs.Common.{◌≡◌, ℕ, ◌+◌, ◌-◌, ◌*◌, ◌<◌, ◌≤◌, ◌^◌, List, [], ◌∷◌, ◌++◌, length, map, take, drop, refl, sym, ap, ◌∙◌, arith, Option, Some, None, Bool, true, false, cond, nat_le}
 use Rattle.std.proofs.lemmas.List.{length-map}
 use Rattle.std.proofs.lemmas.Nat.{div_below}
@@ -33,7 +33,7 @@ use Rattle.rs_caps.proofs.LinesRead.{IsEnd, resource_line_read, change_line_read
 use Rattle.rs_caps.proofs.WrittenLines.{resource_is_line, change_is_line, resource_md_is_line, change_md_is_line, resource_entry_is_line, change_entry_is_line, link_is_line}
 use Rattle.rs_caps.proofs.DocumentsRead.{paired, list_reads, index_reads, after_own_index, after_other_index, resources_read, changes_read}
 
--- what the reading of a text asks of what is shown: each lawful source shows so
+-- the requirements of the reading of a text on the shown values: every lawful source meets them
 pub record IsRecord (r : Record) : Type 0 where
   pub name : IsTrue (is_name r.name)
   pub facts : AreFacts (facts_in r)
@@ -233,7 +233,7 @@ change_index_reads s l =
     (not_resource_index s.base s.begin (map (change_entry s) numbers ++ close_line (codes "sitemapindex") ∷ []))
     ∙ change_entries_read s numbers l each)
 
--- each document
+-- all documents
 one_of_two : (b : Bool) (x y text : List ℕ) (d e : Document) → reads x ≡ Some d → reads y ≡ Some e → Some (cond b x y) ≡ Some text
     → reads text ≡ Some (cond b d e)
 one_of_two true x y text d e p q h = let same : x ≡ text = cc in ap reads (sym same) ∙ p

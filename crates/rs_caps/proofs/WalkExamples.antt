@@ -1,4 +1,4 @@
--- Worked walks, computed: a destination whose fetches stand between commands, and one of the commands stopped.
+-- Worked walks, computed: a destination whose fetches lie between commands, and one of the commands stopped.
 use Rattle.std.proofs.Common.{◌≡◌, ℕ, ◌≤◌, sym, ap, subst, ◌∙◌, arith, List, [], ◌∷◌, refl, Option, Some, None, true, false}
 use Rattle.std.specs.Prelude.{codes, if◌then◌else◌, is_some, IsTrue}
 use Rattle.std.specs.List.{AllByRecursion}
@@ -47,13 +47,13 @@ with_event event =
     Tried (put (codes "a")) 0 ∷ Tried Publish 0 ∷ Fetch ∷ Tried (put (codes "b")) 0 ∷ Tried (Delete (codes "a")) 0 ∷ Fetch
     ∷ event ∷ Tried (put (codes "d")) 0 ∷ Fetch ∷ Fetch ∷ []
 
--- after how many events each is fetched
+-- the number of events after which a path is fetched
 abbrev when : List ℕ → ℕ
 when path =
     if same_bytes path (codes "/resourcelist.xml") then 2 else if same_bytes path (codes "/changelist.xml") then 5
     else if same_bytes path (codes "/changelist/0.xml") then 8 else 9
 
--- `c` is put in between, or the source is stopped in it and it stands, or does not
+-- `c` is put in between, or the source is stopped in this put, which was applied, or was not
 abbrev with_c : List Event
 with_c = with_event (Tried (put (codes "c")) 0)
 
@@ -81,8 +81,8 @@ read_by events when path = fetched_at source events when path >>= reads
 abbrev read_at : List Event → List ℕ → Option Document
 read_at events path = read_by events when path
 
--- Four changes are gathered of five, and mirrored they are `b` and `c`: the catalogue after 4 changes, and what was
--- held after seven of the events.
+-- Four changes are gathered of five, and mirrored they are `b` and `c`: the catalogue after 4 changes, and the
+-- resources held after seven of the events.
 pub walk_with_c :
     (read_at with_c (codes "/changelist.xml") ≡ Some (ChangeListIndex 0 None
     (between (codes "/changelist/0.xml") 0 (Some 3) ∷ between (codes "/changelist/1.xml") 3 None ∷ [])))
@@ -100,7 +100,7 @@ pub walk_with_c :
 unfolding digits encode_with decode_pairs block_words rounds compress hash_after digest_bytes md5 first_words schedule rounds_256 compress_256 hash_after_256 digest_bytes_256 sha256 date_of period_of days_of moment_text read_moment moment_digits read_hash list_text strip cut lines_of characters read_number doc_of read_count last_part resource_part change_part document_text read_facts read_resource read_bound read_deleted read_end read_resource_entry read_change_entry before_end read_up read_resource_md read_change_md reads read_list read_index read_children read_resource_list read_change_list read_resource_index read_change_index parts_at
 walk_with_c = (refl, refl, refl, refl, refl, refl, refl, refl, refl)
 
--- Where the stopped put stands, all is as if it had been answered; where it does not, `d` has its moment.
+-- Where the stopped put was applied, all is as if it had been answered; where it was not, `d` has its moment.
 pub walk_stopped :
     (walk_of source with_c_after_all ≡ walk_of source with_c)
     × (catalogue source with_c_after_all 4 ≡ catalogue source with_c 4)
@@ -123,8 +123,8 @@ with_drops =
 abbrev at_last : ℕ → List ℕ → ℕ
 at_last n path = if same_bytes path (codes "/resourcelist.xml") then 3 else n
 
--- Between the drops the Change List begins at a moment that the Resource List has, and the two make what is held. After
--- both there is a gap: `c` and `d` are missing.
+-- Between the drops the Change List begins at a moment that the Resource List has, and the two make the held resources.
+-- After both there is a gap: `c` and `d` are missing.
 pub walk_with_drops :
     (gather_resources (fetched_at source with_drops (at_last 6)) ≡ Some
     (3, record { name = codes "a"; facts = no_bytes; moment = 1 } ∷ record { name = codes "b"; facts = no_bytes; moment = 2 } ∷ []))
@@ -143,7 +143,7 @@ walk_has_gap no_gap =
     let gap : 6 ≤ 3 = no_gap 3 6 _ _ (walk_with_drops.4 ∙ walk_with_drops.0) walk_with_drops.5 in
     omega (arith, gap)
 
--- These fetches are such as the law on destinations speaks of: so it says something of them.
+-- These fetches meet the premises of the law on destinations: so it applies to them.
 same_document : (events : List Event) (when : List ℕ → ℕ) (head text : List ℕ) (known document : Document)
     → read_by events when head ≡ Some known → fetched_at source events when head ≡ Some text → reads text ≡ Some document → known ≡ document
 same_document events when head text known document k h r =

@@ -1,4 +1,4 @@
--- Walks cut in two: the states at their points, what is recorded by then, and what is kept of it.
+-- Walks cut in two: the states at their points, the changes recorded by then, and those of them that are kept.
 use Rattle.std.proofs.Common.{◌≡◌, ℕ, ◌-◌, ◌*◌, ◌≤◌, List, ◌++◌, length, take, drop, sym, ap, ◌∙◌, subst, arith, length-append, length-take, length-drop}
 use Rattle.std.specs.List.{AllByRecursion}
 use Rattle.std.proofs.lemmas.List.{take-append-drop, take-take}
@@ -14,7 +14,7 @@ use Rattle.rs_model.specs.WalkLaws.{WalksAreFolds, WalksStayLawful, ChangesAreRe
 use Rattle.rs_lists.specs.Laws.{PartsAreChunks}
 use Rattle.rs_caps.proofs.FromBelow.{all_taken, recorded-append, recorded_first, walk-append}
 
--- the laws of walks and of parts that a destination's stand on
+-- the laws of walks and of parts on which the laws of destinations depend
 pub record AreLaws : Type 0 where
   pub listed_chunks : PartsAreChunks Record
   pub change_chunks : PartsAreChunks Change
@@ -73,7 +73,7 @@ kept_at recorded_law base limit moment events i =
           ∙ ap (drop (t.first * limit)) (sym (recorded_first s events i));
     }
 
--- how many there are
+-- the number of these changes
 pub kept_count : (all : List Change) (limit n : ℕ) (t : Source) → IsKept all limit n t → n ≤ length all
     → length t.changes ≡ n - t.first * limit
 kept_count all limit n t k h =

@@ -1,4 +1,4 @@
--- Each line of a list or an index is one line: it has no line feed.
+-- Every line of a list or an index is one line: it has no line feed.
 use Rattle.std.proofs.Common.{ℕ, ◌+◌, ◌<◌, ◌^◌, List, [], ◌∷◌, ◌++◌, refl, arith, Option, Some, None, Bool, true, false}
 use Rattle.std.specs.Prelude.{codes, IsTrue, ◌&&◌, not, ◌==◌}
 use Rattle.std.specs.List.{list_all, concat}

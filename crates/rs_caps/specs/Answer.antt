@@ -1,4 +1,4 @@
--- What a source answers at a path, and what its lists read as.
+-- The answers of a source at paths, and the readings of its lists.
 use Rattle.std.specs.Prelude.{ℕ, ◌+◌, ◌-◌, nat_le, if◌then◌else◌, List, map, codes, Option, Some, None}
 use Rattle.rs_record.specs.Format.{facts_in}
 use Rattle.rs_record.specs.declared.record.Record.{Record}
@@ -56,7 +56,7 @@ change_head_of s =
     if nat_le (change_parts_of s) 1 then ChangeList s.begin None s.changes
     else ChangeListIndex s.begin None (map (change_entry_of s) (numbers_from 0 (change_parts_of s)))
 
--- what the text of a list, a part or an index reads as
+-- the reading of the text of a list, a part or an index
 abbrev pub reading_of : Shown → Doc → Option Document
 reading_of s ResourceHead = Some (resource_head_of s)
 reading_of s (ResourcePart publication k) = Some (ResourceList s.at (map listed_of (part_at k s.limit s.published)))

@@ -1,4 +1,4 @@
--- What a document has, and the text that it has.
+-- The content of a document, and its text.
 use Rattle.std.specs.Prelude.{ℕ, List}
 use Rattle.rs_caps.specs.declared.documents.document.Content.{Content}
 use Rattle.rs_caps.specs.declared.documents.document.Content.TheVariants.{Description, Capabilities, List as Listed}

@@ -8,7 +8,7 @@ use Rattle.rs_record.specs.Bytes.{is_digit}
 pub use Rattle.rs_fixity.specs.Cut.{◌>>=◌, with_first}
 unfoldable pub use Rattle.rs_fixity.specs.Cut.{strip, cut}
 
--- what this reading gives, or what the other gives where this gives nothing
+-- the result of this reading, or that of the other reading where this one has no result
 infixr 4 ◌or_else◌
 abbrev pub ◌or_else◌ : {A : Type 0} → Option A → Option A → Option A
 None or_else b = b
@@ -19,7 +19,7 @@ abbrev pub is_empty : List ℕ → Bool
 is_empty [] = true
 is_empty (c ∷ text) = false
 
--- a value, where nothing is left after it
+-- a value, where no byte is left after it
 abbrev pub whole : {A : Type 0} → A → List ℕ → Option A
 whole x rest = if is_empty rest then Some x else None
 
@@ -42,22 +42,22 @@ onto_lines true c (Some lines) = Some ([] ∷ lines)
 onto_lines false c (Some []) = None
 onto_lines false c (Some (l ∷ lines)) = Some ((c ∷ l) ∷ lines)
 
--- the lines of a text: each, the last too, ends with a line feed (byte 10)
+-- the lines of a text: all of them, the last too, end with a line feed (byte 10)
 unfoldable pub lines_of : List ℕ → Option (List (List ℕ))
 lines_of [] = Some []
 lines_of (c ∷ text) = onto_lines (c == 10) c (lines_of text)
 
--- the character c, where the text goes on with the rest of its reference, and what follows
+-- the character c, where the text goes on with the rest of its reference, and the text after it
 abbrev pub reference_to : ℕ → List ℕ → List ℕ → Option (ℕ × List ℕ)
 reference_to c name text = strip name text >>= λ rest. Some (c, rest)
 
--- the character of a reference of which the `&` is read already, and what follows
+-- the character of a reference of which the `&` is read already, and the text after it
 abbrev pub reference : List ℕ → Option (ℕ × List ℕ)
 reference text =
     reference_to 38 (codes "amp;") text or_else reference_to 39 (codes "apos;") text or_else reference_to 34 (codes "quot;") text
     or_else reference_to 62 (codes "gt;") text or_else reference_to 60 (codes "lt;") text
 
--- one character: an `&` (byte 38) begins a reference, and none of `'`, `"`, `>` and `<` stands for itself
+-- one character: an `&` (byte 38) begins a reference, and `'`, `"`, `>` and `<` are written by references only
 abbrev pub character : ℕ → List ℕ → Option (ℕ × List ℕ)
 character c text =
     if c == 38 then reference text

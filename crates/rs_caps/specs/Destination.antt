@@ -1,4 +1,4 @@
--- What a destination makes of documents that it fetches one by one, amid commands, refusals and stops.
+-- The mirror that a destination makes of documents that it fetches one by one, amid commands, refusals and stops.
 use Rattle.std.specs.Prelude.{◌≡◌, ℕ, ◌≤◌, List, [], map, codes, Option, Some, is_some, IsTrue}
 use Rattle.std.specs.List.{AllByRecursion}
 use Rattle.rs_record.specs.declared.change.Change.{Change}
@@ -24,7 +24,7 @@ part_paths (ChangeList start until children) = []
 part_paths (ResourceListIndex at parts) = map (λ p. p.path) parts
 part_paths (ChangeListIndex start until parts) = map (λ p. p.path) parts
 
--- the answer at each path, where each is fetched after its own number of events
+-- the answer at a path, which is fetched after a number of events of its own
 abbrev pub fetched_at : Source → List Event → (List ℕ → ℕ) → List ℕ → Option (List ℕ)
 fetched_at s events when path = answer (state_at s events (when path)) path
 
@@ -70,25 +70,24 @@ pub record Mirrors (s : Source) (events : List Event) (when : List ℕ → ℕ) 
   pub high : n ≤ count_at s events last
   pub mirrored : mirror_of (map listed_entry listed) at changes ≡ catalogue s events n
 
--- Whatever commands, refusals and stops come between its fetches, a destination that follows both lists mirrors a
--- catalogue.
+-- With any commands, refusals and stops between its fetches, a destination that follows both lists mirrors a catalogue.
 abbrev pub DestinationMirrors : Type 0
 DestinationMirrors =
     (base : List ℕ) (limit moment : ℕ) (events : List Event) (when : List ℕ → ℕ) (done last : ℕ)
     → let s = start_of base limit moment in
     IsLawful s → AllByRecursion IsLawfulEvent events → IsFollowed s events when done last → Mirrors s events when last
 
--- A map is what was held at a point of a walk, from the fetch of the Change List's head to the fetch of the last of its
--- documents. Where the next event there is a group, the map may be what was held followed by the group's first changes.
--- `passed`: the point, and the number of changes that the map is made of; `mirrored`: it is what these make.
--- `held`: where the number is that of the point, it is what was held then.
+-- A map is the resources held at a point of a walk, from the fetch of the Change List's head to the fetch of the last
+-- of its documents. Where the next event there is a group, the map may be these resources followed by the group's first
+-- changes. `passed`: the point, and the number of changes that the map is made of; `mirrored`: the map is the result of
+-- these changes. `held`: where the number is that of the point, the map is the resources held then.
 pub record WasHeld (s : Source) (events : List Event) (when : List ℕ → ℕ) (last : ℕ) (mirror : Names Entry) : Type 0 where
   pub n : ℕ
   pub passed : IsPassed s events (when (codes "/changelist.xml")) last n
   pub mirrored : mirror ≡ catalogue s events n
   pub held : count_at s events passed.point ≡ n → mirror ≡ entries (state_at s events passed.point).held
 
--- What the destination gathers makes what was held: each name with its facts and moment.
+-- The gathered lists make the map of the resources held: all names with their facts and moments.
 abbrev pub MirrorWasHeld : Type 0
 MirrorWasHeld =
     (base : List ℕ) (limit moment : ℕ) (events : List Event) (when : List ℕ → ℕ) (done last : ℕ)

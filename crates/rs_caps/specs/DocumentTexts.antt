@@ -1,4 +1,4 @@
--- The text at every path: the Source Description and the Capability List beside the lists.
+-- The text at every path: of the Source Description, the Capability List and the lists.
 use Rattle.std.specs.Prelude.{ℕ, List, [], ◌∷◌, codes, Option, Some}
 use Rattle.std.specs.List.{concat}
 use Rattle.rs_lists.specs.declared.doc.Doc.{Doc}
@@ -6,7 +6,7 @@ use Rattle.rs_lists.specs.declared.doc.Doc.TheVariants.{Description, Capabilitie
 use Rattle.rs_lists.specs.Shown.{Shown}
 use Rattle.rs_lists.specs.Text.{document, link_line, list_text}
 
--- what the document says it is
+-- the capability that the document declares
 abbrev pub capability_md : List ℕ → List ℕ
 capability_md capability = concat (codes "<rs:md capability=\"" ∷ capability ∷ codes "\"/>" ∷ [])
 

@@ -1,4 +1,4 @@
--- What a reader gathers from the texts at the lists' paths.
+-- The lists that a reader gathers from the texts at their paths.
 use Rattle.std.specs.Prelude.{ℕ, List, [], ◌∷◌, ◌++◌, map, Option, Some, None, codes}
 use Rattle.rs_record.specs.declared.change.Change.{Change}
 use Rattle.rs_model.specs.declared.value.Entry.{Entry}
@@ -47,11 +47,11 @@ gathered_changes fetched (ChangeListIndex start until parts) = parts_at changes_
 gathered_changes fetched (ResourceList at children) = None
 gathered_changes fetched (ResourceListIndex at parts) = None
 
--- the moment of the Resource List and its resources, from the texts fetched at each path
+-- the moment of the Resource List and its resources, from the texts fetched at the paths
 abbrev pub gather_resources : (List ℕ → Option (List ℕ)) → Option (ℕ × List ListedResource)
 gather_resources fetched = fetched (codes "/resourcelist.xml") >>= λ text. reads text >>= λ d. gathered_resources fetched d
 
--- the start of the Change List and its changes, from the texts fetched at each path
+-- the start of the Change List and its changes, from the texts fetched at the paths
 abbrev pub gather_changes : (List ℕ → Option (List ℕ)) → Option (ℕ × List Change)
 gather_changes fetched = fetched (codes "/changelist.xml") >>= λ text. reads text >>= λ d. gathered_changes fetched d
 

@@ -1,4 +1,4 @@
--- What one line of a list or an index reads as.
+-- The reading of one line of a list or an index.
 use Rattle.std.specs.Prelude.{ℕ, Bool, true, false, ◌==◌, if◌then◌else◌, List, [], ◌∷◌, ◌++◌, codes, Option, Some, None}
 use Rattle.rs_time.specs.ReadMoment.{read_moment, same_bytes}
 use Rattle.rs_fixity.specs.ReadHash.{read_hash}
@@ -15,7 +15,7 @@ use Rattle.rs_caps.specs.Readings.{ListedResource, ResourceEntry, ChangeEntry}
 abbrev pub read_name : List ℕ → List ℕ → Option (List ℕ)
 read_name base text = unescape text >>= λ uri. strip (base ++ codes "/resource/") uri
 
--- the attributes of a body, and what follows
+-- the attributes of a body, and the text after them
 unfoldable pub read_facts : List ℕ → Option (Facts × List ℕ)
 read_facts text = do
   digests ← value_after (codes " hash=\"") 34 read_hash text
@@ -59,14 +59,14 @@ read_deleted base text = do
 abbrev pub read_change : List ℕ → List ℕ → Option Change
 read_change base text = read_bound base false text or_else read_bound base true text or_else read_deleted base text
 
--- the `until` of a closed part, and what follows
+-- the `until` of a closed part, and the text after it
 unfoldable pub read_end : List ℕ → Option (Option ℕ × List ℕ)
 read_end text = do
   until ← value_after (codes " until=\"") 34 read_moment text
   rest ← strip (codes "\"") until.1
   Some (Some until.0, rest)
 
--- the `until`, if there is one, and what follows
+-- the `until`, if there is one, and the text after it
 abbrev pub read_until : List ℕ → Option (Option ℕ × List ℕ)
 read_until text = read_end text or_else Some (None, text)
 

@@ -1,4 +1,4 @@
--- What the documents say to their reader.
+-- The content that a reader finds in the documents.
 use Rattle.std.specs.Prelude.{ℕ, List, Option}
 use Rattle.rs_record.specs.declared.facts.Facts.{Facts}
 use Rattle.rs_record.specs.declared.change.Change.{Change}
@@ -20,7 +20,7 @@ pub record ChangeEntry : Type 0 where
   pub start : ℕ
   pub until : Option ℕ
 
--- a list or an index: what its `rs:md` says, and its children in order
+-- a list or an index: the content of its `rs:md`, and its children in order
 pub data Document : Type 0 where
   ResourceList : (at : ℕ) → (children : List ListedResource) → Document
   ChangeList : (start : ℕ) → (until : Option ℕ) → (children : List Change) → Document

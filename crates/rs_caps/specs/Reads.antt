@@ -1,4 +1,4 @@
--- What a text reads as: a grammar on its lines, which does not use the definition of the text.
+-- The reading of a text: a grammar on its lines, which does not use the definition of the text.
 use Rattle.std.specs.Prelude.{ℕ, if◌then◌else◌, List, [], ◌∷◌, ◌++◌, codes, Option, Some, None}
 use Rattle.rs_time.specs.ReadMoment.{same_bytes}
 use Rattle.rs_caps.specs.Cut.{◌>>=◌, ◌or_else◌, lines_of}
@@ -6,7 +6,7 @@ use Rattle.rs_caps.specs.Readings.{Document}
 use Rattle.rs_caps.specs.Readings.Document.{ResourceList, ChangeList, ResourceListIndex, ChangeListIndex}
 use Rattle.rs_caps.specs.ReadLines.{read_up, read_resource_md, read_change_md, read_resource, read_change, read_resource_entry, read_change_entry}
 
--- what each line reads as, up to the line that closes the document, which is the last line
+-- the readings of the lines, up to the line that closes the document, which is the last line
 unfoldable pub read_children : {A : Type 0} → (List ℕ → Option A) → List ℕ → List (List ℕ) → Option (List A)
 read_children read end [] = None
 read_children read end (l ∷ []) = if same_bytes l end then Some [] else None
@@ -17,7 +17,7 @@ abbrev pub after_line : List ℕ → List (List ℕ) → Option (List (List ℕ)
 after_line l [] = None
 after_line l (m ∷ lines) = if same_bytes m l then Some lines else None
 
--- what the first line reads as, and the lines after it
+-- the reading of the first line, and the lines after it
 abbrev pub next_line : {A : Type 0} → (List ℕ → Option A) → List (List ℕ) → Option (A × List (List ℕ))
 next_line read [] = None
 next_line read (l ∷ lines) = read l >>= λ x. Some (x, lines)

@@ -1,4 +1,4 @@
--- The laws of what is served, as statements.
+-- The laws of the served documents, as statements.
 use Rattle.std.specs.Prelude.{◌≡◌, ℕ, ◌+◌, ◌<◌, ◌≤◌, List, ◌++◌, map, Some}
 use Rattle.std.specs.List.{AllByRecursion}
 use Rattle.rs_record.specs.declared.change.Change.{Change}
@@ -41,14 +41,14 @@ ResourcesAreGathered s = gather_resources (answer s) ≡ Some (s.at, map listed_
 abbrev pub ChangesAreGathered : Source → Type 0
 ChangesAreGathered s = gather_changes (answer s) ≡ Some (s.begin, s.changes)
 
--- The one mirrored with the other is what is held.
+-- The Resource List mirrored with the Change List gives the held resources.
 abbrev pub ListsMirror : Source → Type 0
 ListsMirror s =
     (at start : ℕ) (listed : List ListedResource) (changes : List Change)
     → gather_resources (answer s) ≡ Some (at, listed) → gather_changes (answer s) ≡ Some (start, changes)
     → mirror_of (map listed_entry listed) at changes ≡ entries s.held
 
--- Whatever commands come between, two answers at the path of one part of the Resource List are equal.
+-- With any commands in between, two answers at the path of one part of the Resource List are equal.
 abbrev pub ListedPartsStay : Type 0
 ListedPartsStay =
     (s : Source) (earlier later : List (Command × ℕ)) (path x y : List ℕ) (publication k : ℕ)
@@ -74,7 +74,7 @@ PartsAreBounded =
     (s : Source) (k : ℕ) → IsRegular s
     → AllByRecursion (IsChangeBetween (from_of (shown_of s) k) (from_of (shown_of s) (k + 1))) (part_at k s.limit s.changes)
 
--- No document says where the blocks of a body are: each is the text of the same view with empty extents.
+-- No document shows where the blocks of a body are: every document is the text of the same view with empty extents.
 abbrev pub BlocksAreNotShown : Type 0
 BlocksAreNotShown =
     (s : Shown) (doc : Doc) → document_text (record s { published = map record_of (map entry_of_record s.published) }) doc ≡ document_text s doc
@@ -91,6 +91,6 @@ pub record IsShownAlike (s t : Shown) : Type 0 where
   pub first : s.first ≡ t.first
   pub begin : s.begin ≡ t.begin
 
--- Such views have the same documents.
+-- These views have the same documents.
 abbrev pub AlikeViewsHaveOneText : Type 0
 AlikeViewsHaveOneText = (s t : Shown) (doc : Doc) → IsShownAlike s t → document_text s doc ≡ document_text t doc

@@ -1,4 +1,4 @@
--- What a view of a state shows.
+-- The values that a view of a state shows.
 use Rattle.rs_lists.specs.Shown.{Shown}
 use Rattle.rs_caps.specs.Shows.{shown_of}
 use Rattle.rs_caps.specs.declared.documents.state_view.StateView.{StateView}

@@ -1,4 +1,4 @@
-//! The documents of a source: the path of each, its text, and the answer at a path.
+//! The documents of a source: their paths, their texts, and the answer at a path.
 
 pub mod answering;
 pub mod document;

@@ -1,4 +1,4 @@
-//! The documents of a source: the path and the exact text of each, and the laws that the served documents say what the
+//! The documents of a source: their paths and exact texts, and the laws that the served documents give all that the
 //! source holds.
 #![tactic(auto)]
 

@@ -1,4 +1,4 @@
--- What a change of one record leaves of the records that are held.
+-- Held records stay held when one record changes.
 use Rattle.std.proofs.Common.{◌≡◌, ℕ, ◌+◌, ◌<◌, ◌≤◌, List, length, cond, refl, sym, ap, ◌∙◌, arith, Option, Some, None}
 use Rattle.std.specs.Prelude.{IsNone, is_none}
 use Rattle.std.proofs.lemmas.List.{length-map}
@@ -16,7 +16,7 @@ room_left (Some r) n room h = h
 abbrev entry : Record → List ℕ × Record
 entry r = (r.name, r)
 
--- the records with one bound
+-- the records with one record bound
 pub held-bind : (name : List ℕ) (r : Record) (old new : List Record) → AreHeld old → (IsNone (value_of name (named old)) → length old < 50000) → named new ≡ bind name r (named old) → AreHeld new
 held-bind name r old new h room is =
     let sizes : length new ≡ cond (is_none (value_of name (named old))) (length old + 1) (length old) =
@@ -26,7 +26,7 @@ held-bind name r old new h room is =
       room = rw sizes (room_left (value_of name (named old)) (length old) room h.room);
     }
 
--- the records without one
+-- the records without one record
 pub held-unbind : (name : List ℕ) (old new : List Record) → AreHeld old → named new ≡ unbind name (named old) → AreHeld new
 held-unbind name old new h is =
     let fewer = length-unbind name (named old) in

@@ -1,4 +1,4 @@
--- What stays of a catalogue whose pages change their places alone.
+-- A catalogue whose pages change only their places.
 use Rattle.std.proofs.Common.{◌≡◌, ℕ, List, [], ◌∷◌, map, sym, ◌∙◌, subst, inl, inr}
 use Rattle.std.specs.Prelude.{IsSome}
 use Rattle.rs_record.specs.declared.record.Record.{Record}
@@ -8,7 +8,7 @@ use Rattle.rs_pages.specs.Storing.{items_by_page}
 use Rattle.rs_catalogue.specs.Named.{named}
 use Rattle.rs_catalogue.specs.Catalogue.{StandsUnstored}
 
--- a name stands where it stood
+-- a name in an unstored page stays in an unstored page
 pub stands_again : (name : List ℕ) (old new : List (Page Record)) → items_by_page new ≡ items_by_page old
     → map (λ page. stored_ref page.place) new ≡ map (λ page. stored_ref page.place) old → StandsUnstored name old → StandsUnstored name new
 stands_again name [] new items refs h = absurd h

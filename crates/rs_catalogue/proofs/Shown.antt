@@ -1,4 +1,4 @@
--- What is shown of records is a map as the records are.
+-- The values shown for records form a map as the records do.
 use Rattle.std.proofs.Common.{◌≡◌, ℕ, List, [], ◌∷◌, refl, ap, Some, None}
 use Rattle.std.specs.Prelude.{option_map}
 use Rattle.std.specs.declared.cmp.Ordering.{Ordering}

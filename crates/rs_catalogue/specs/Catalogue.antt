@@ -19,16 +19,16 @@ pub record AreHeld (records : List Record) : Type 0 where
   pub ordered : IsTrue (is_ordered (named records))
   pub room : length records ≤ most_resources
 
--- What each catalogue keeps: each page has records, and the names strictly rise through all pages.
+-- The invariant of a catalogue: every page has records, and the names strictly rise through all pages.
 pub record IsCatalogue (pages : List (Page Record)) : Type 0 where
   pub some : All (λ page. 1 ≤ length page.items) pages
   pub held : AreHeld (records_of pages)
 
--- the name stands in a page that is not on the disk
+-- the name is in a page that is not on the disk
 abbrev pub StandsUnstored : List ℕ → List (Page Record) → Type 0
 StandsUnstored name pages = NameStandsUnstored (λ (r : Record). r.name) name pages
 
--- What pages on the disk have to be: pages of records, one for one, through which the names strictly rise.
+-- The references lead to pages on the disk with these records, page by page. The names strictly rise through all pages.
 pub record HoldsCatalogue (refs : List PageRef) (image : List ℕ) (pages : List (List Record)) : Type 0 where
   pub hold : ArePages record_format refs image pages
   pub held : AreHeld (flat_map (λ items. items) pages)

@@ -1,4 +1,4 @@
--- What follows from the definitions of catalogues alone.
+-- Consequences of the definitions of catalogues alone.
 use Rattle.std.specs.Prelude.{◌≡◌, ℕ, List, map, option_map, All}
 use Rattle.rs_record.specs.declared.record.Record.{Record}
 use Rattle.rs_model.specs.declared.value.Entry.{Entry}
@@ -13,16 +13,16 @@ use Rattle.rs_catalogue.specs.Catalogue.{IsCatalogue, HoldsCatalogue}
 abbrev pub CatalogueHeldOnce : Type 0
 CatalogueHeldOnce = HoldOnce HoldsCatalogue
 
--- What pages hold depends on their blocks alone.
+-- The catalogue that pages hold depends on their blocks alone.
 abbrev pub CatalogueStays : Type 0
 CatalogueStays = HoldByBlocks HoldsCatalogue
 
--- Where each page of a catalogue stands on the disk, the references to them hold its records: so they load as this catalogue.
+-- If all pages of a catalogue are on the disk, the references to them hold its records, so they load as this catalogue.
 abbrev pub StoredCatalogueIsHeld : Type 0
 StoredCatalogueIsHeld = (pages : List (Page Record)) (image : List ℕ) → IsCatalogue pages → All IsStored pages
     → All (Stands record_format image) pages → HoldsCatalogue (stored_refs pages) image (map (λ page. page.items) pages)
 
--- What is shown of each record is bound as the record is, ..
+-- The values shown for records are bound as the records are, ..
 abbrev pub ShownIsBound : Type 0
 ShownIsBound = (shown : Record → Entry) (name : List ℕ) (r : Record) (records : Names Record) → map_values shown (bind name r records) ≡ bind name (shown r) (map_values shown records)
 

@@ -3,7 +3,7 @@ use Rattle.std.specs.Prelude.{ℕ, List, map, IsSome}
 use Rattle.rs_record.specs.declared.record.Record.{Record}
 use Rattle.rs_model.specs.Names.{Names, value_of}
 
--- each name with its record
+-- the records, paired with their names
 abbrev pub named : List Record → Names Record
 named records = map (λ r. (r.name, r)) records
 

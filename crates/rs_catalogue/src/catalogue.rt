@@ -21,8 +21,8 @@ use rs_record::{Name, Record};
 use std::alloc::{AllocError, Global};
 use std::marker::Model;
 
-/// The records of the resources that are held, in the strictly ascending order of the bytes of
-/// their names: at most 50,000 of them, in pages. Contracts see the list of the pages.
+/// The records of the held resources, in the strictly ascending order of the bytes of their names: at most 50,000
+/// records, in pages. Contracts see the list of the pages.
 #[derive(Debug, Drop)]
 pub struct Catalogue {
     pub(crate) pages: Pages<Record>,
@@ -42,7 +42,7 @@ impl Model for Catalogue {
 }
 
 impl Catalogue {
-    /// A catalogue of no records, which has no pages.
+    /// Returns a catalogue of no records, which has no pages.
     pub fn empty(alloc: Global) -> Catalogue
         ensures { result ≡ [] }
     {
@@ -51,8 +51,8 @@ impl Catalogue {
         }
     }
 
-    /// The catalogue of these records, at most 50,000, whose names strictly ascend: in pages of 64, of
-    /// which the last has the rest. All of them are touched.
+    /// Returns the catalogue of these records, at most 50,000, whose names strictly ascend: in pages of 64, of which
+    /// the last has the rest. All of them are touched.
     ///
     /// # Errors
     ///
@@ -68,7 +68,7 @@ impl Catalogue {
         Ok(Catalogue { pages })
     }
 
-    /// How many records there are.
+    /// Returns the number of records.
     pub fn len(&self) -> usize
         ensures value { result ≡ length (records_of self.now) }
         ensures lawful { IsCatalogue self.now }
@@ -76,7 +76,7 @@ impl Catalogue {
         self.pages.len()
     }
 
-    /// Its pages: their number, their entries and their places are asked of them.
+    /// Returns its pages, to ask for their number, their entries and their places.
     pub fn as_pages(&self) -> &Pages<Record>
         ensures value { result.now ≡ self.now }
         ensures lawful { AreHeld (records_of self.now) }
@@ -84,8 +84,8 @@ impl Catalogue {
         &self.pages
     }
 
-    /// The record at place `i` in the order of the names, counted from 0. It takes as many steps as
-    /// the number of pages has bits.
+    /// Returns the record at place `i` in the order of the names, counted from 0. It takes as many steps as the number
+    /// of pages has bits.
     pub fn at(&self, i: usize) -> &Record
         requires { i < length (records_of self.now) }
         ensures { slice_get (records_of self.now) i ≡ Some result.now }
@@ -93,19 +93,19 @@ impl Catalogue {
         self.pages.at(i)
     }
 
-    /// The record of a name, if there is one.
+    /// Returns the record of a name, if there is one.
     pub fn get(&self, name: &Name) -> Option<&Record>
         ensures { option_copied result ≡ value_of name.now (named (records_of self.now)) }
     {
         self.pages.get(name)
     }
 
-    /// The catalogue with this record bound to its name; it replaces the record that had the name. This
-    /// catalogue stays.
+    /// Returns the catalogue with this record bound to its name; it replaces the record that had the name. This
+    /// catalogue stays as it is.
     ///
-    /// The record goes into the last page whose first name is not above its own, or else into the
-    /// first page. That page is touched: if it has more than 64 records, pages of 32 are cut from its
-    /// front until at most 64 records are left. All other pages stay the same pages.
+    /// The record goes into the last page whose first name is not above its own, or else into the first page. That page
+    /// is touched: if it has more than 64 records, pages of 32 are cut from its front until at most 64 records are
+    /// left. All other pages stay the same pages.
     ///
     /// # Errors
     ///
@@ -128,9 +128,9 @@ impl Catalogue {
         Ok(Catalogue { pages })
     }
 
-    /// The catalogue without the record of this name; the same catalogue if no record has it. This
-    /// catalogue stays. The page of the record is touched, and goes if it is left empty. Pages are
-    /// never joined, and all others stay the same pages.
+    /// Returns the catalogue without the record of this name, or the same catalogue if no record has it. This catalogue
+    /// stays as it is. The page of the record is touched, and is dropped if it is left empty. Pages are never joined,
+    /// and all other pages stay the same pages.
     ///
     /// # Errors
     ///
@@ -151,7 +151,7 @@ impl Catalogue {
         Ok(Catalogue { pages })
     }
 
-    /// A copy of the catalogue, in the same pages.
+    /// Returns a copy of the catalogue, in the same pages.
     ///
     /// # Errors
     ///
@@ -179,7 +179,7 @@ impl Catalogue {
         self.pages.fill(name, digests);
     }
 
-    /// The references to the pages that are on the disk, in their order.
+    /// Returns the references to the pages that are on the disk, in their order.
     ///
     /// # Errors
     ///

@@ -1,6 +1,6 @@
 //! Laws of catalogues, over their definitions alone.
 //!
-//! Each function here does nothing: its contract is the law, which the check proves.
+//! The functions here have no effect: their contracts are the laws, which the check proves.
 ghost use Rattle.rs_catalogue.specs.Laws.{CatalogueHeldOnce, CatalogueStays, StoredCatalogueIsHeld, ShownIsBound, ShownIsUnbound, ShownIsFound};
 
 use rs_page::laws::{pages_hold_once, pages_stay, stored_pages_stand};
@@ -13,7 +13,7 @@ pub fn catalogue_is_held_once()
     pages_hold_once::<Record>();
 }
 
-/// What pages hold depends on their blocks alone.
+/// The catalogue that pages hold depends on their blocks alone.
 pub fn catalogue_stays()
     ensures { CatalogueStays }
 {

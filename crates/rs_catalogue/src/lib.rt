@@ -1,11 +1,11 @@
-//! The records of the resources that are held, in the ascending order of their names, in pages.
+//! The records of the held resources, in the ascending order of their names, in pages.
 //!
-//! A [`Catalogue`] is a value that stays: binding or unbinding a name makes a new one, in which all
-//! pages but the one that was touched are the same. A touched page is given blocks by
-//! [`Catalogue::place_touched`], written by [`Catalogue::store_touched`], and read back by
-//! [`Catalogue::load`], which finds each list of references Damaged that holds no catalogue.
-//! [`laws`] states what follows from the definitions alone. Where a record goes, and how a touched
-//! page is cut, is the page rule of `rs_pages`.
+//! Binding or unbinding a name in a [`Catalogue`] makes a new one, in which all pages except the
+//! touched one are the same; the old catalogue stays. [`Catalogue::place_touched`] gives blocks to
+//! a touched page, [`Catalogue::store_touched`] writes it, and [`Catalogue::load`] reads it back.
+//! Loading answers Damaged if the references hold no catalogue. [`laws`] states the consequences of
+//! the definitions alone. The page rule of `rs_pages` determines where a record goes, and how a
+//! touched page is cut.
 #![tactic(auto)]
 
 mod catalogue;

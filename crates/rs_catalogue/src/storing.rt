@@ -20,12 +20,12 @@ use rs_record::Record;
 use std::alloc::Global;
 
 impl Catalogue {
-    /// Gives each touched page the lowest run of free blocks of its size, one page after the other.
-    /// It takes no memory.
+    /// Gives every touched page the lowest run of free blocks of its size, one page after the other. It takes no
+    /// memory.
     ///
     /// # Errors
     ///
-    /// [`Full`] where a page has no such run; nothing has changed then.
+    /// [`Full`] if no free run is long enough for a page. The catalogue and the used blocks are then unchanged.
     pub fn place_touched(&mut self, used: &mut Used) -> Result<(), Full>
         ensures ok { OnOk result
             (PlacesTouched record_format used.old self.old used.new self.new) }
@@ -39,15 +39,14 @@ impl Catalogue {
         self.pages.place_touched(used)
     }
 
-    /// Writes each page that was given blocks, as [`Pages::store_touched`] does.
+    /// Writes the pages that have blocks but are not written, as [`Pages::store_touched`] does.
     ///
-    /// No page is touched, and the extents of those that were given blocks lie on the disk and have
-    /// no block in common.
+    /// No page is touched. The extents of the pages to write lie on the disk and have no block in common.
     ///
     /// # Errors
     ///
-    /// Those of [`Pages::store_touched`]. After each of them the records are as they were, and each page
-    /// is as it was, or is written and stored.
+    /// The errors of [`Pages::store_touched`]. After an error the records are unchanged, and every page is unchanged,
+    /// or is written and stored.
     pub fn store_touched<D: Disk>(&mut self, alloc: Global, disk: &mut D) -> Result<(), StoreFault>
         requires placed { All (λ page. ¬ IsTouched page.place) self.old }
         requires room { AreOnDisk (placed_extents self.old) (D.state disk.old).size }
@@ -62,11 +61,11 @@ impl Catalogue {
         self.pages.store_touched(alloc, disk)
     }
 
-    /// Reads the catalogue that these references point to, whatever they say, by one device call a
-    /// page. The disk stays as it is.
+    /// Reads the catalogue that these references point to, with one device call per page. The references may have any
+    /// values. The disk stays as it is.
     ///
-    /// No memory is asked for a page before its extent was found to lie on the disk and to have
-    /// exactly the blocks of its length, nor for any after 50,000 records were passed.
+    /// It asks for no memory for a page before it has checked that the extent lies on the disk and has exactly the
+    /// blocks of the length, and for none once it has passed 50,000 records.
     ///
     /// # Errors
     ///
@@ -97,16 +96,15 @@ impl Catalogue {
         Ok(Catalogue { pages })
     }
 
-    /// Reads the catalogue that these references point to, as [`Catalogue::load`] does, beside one that
-    /// is held. A page that has the entry of a page on the disk of that one is that page, whose
-    /// records it shares: it is not read. Each other page takes one device call. The disk stays as
-    /// it is.
+    /// Reads the catalogue that these references point to, as [`Catalogue::load`] does, with the help of `beside`, a
+    /// held catalogue. If `beside` has a page on the disk with the same entry, that page and its records are shared,
+    /// and not read. Any other page takes one device call. The disk stays as it is.
     ///
     /// # Errors
     ///
     /// - [`LoadFault::Device`] where the device fails.
-    /// - [`LoadFault::Damaged`] where the disk holds no catalogue there, if the pages of the one that
-    ///   is held stand on it.
+    /// - [`LoadFault::Damaged`] if the disk holds no catalogue there, provided that it holds the stored pages of
+    ///   `beside`.
     /// - [`LoadFault::NoMemory`] where the memory is refused.
     pub fn load_beside<D: Disk>(
         alloc: Global,

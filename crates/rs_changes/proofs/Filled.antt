@@ -1,4 +1,4 @@
--- Changes of which the last one was filled.
+-- Changes, the last of which was filled.
 use Rattle.std.proofs.Common.{◌≡◌, ℕ, suc, List, [], ◌∷◌, ◌++◌, length, refl, ap, ◌∙◌, arith}
 use Rattle.std.specs.Prelude.{◌&&◌, nat_lt}
 use Rattle.rs_fixity.specs.declared.Digests.{Digests}

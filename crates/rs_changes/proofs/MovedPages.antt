@@ -1,10 +1,10 @@
--- What stays of a history whose pages change their places alone.
+-- A history whose pages change only their places.
 use Rattle.std.proofs.Common.{◌≡◌, List, [], ◌∷◌, map, ◌∙◌}
 use Rattle.rs_record.specs.declared.change.Change.{Change}
 use Rattle.rs_page.specs.Pages.{Page, stored_ref}
 use Rattle.rs_changes.specs.History.{EndsUnstored}
 
--- the last change stands where it stood
+-- a last change in an unstored page stays in an unstored page
 pub ends_again : (old new : List (Page Change)) → map (λ page. stored_ref page.place) new ≡ map (λ page. stored_ref page.place) old → EndsUnstored old → EndsUnstored new
 ends_again [] new refs h = absurd h
 ends_again (x ∷ old) [] refs h = cc

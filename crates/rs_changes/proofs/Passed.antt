@@ -1,4 +1,4 @@
--- How many changes are not after a moment, found by halves.
+-- The number of changes that are not after a moment, found by halves.
 use Rattle.std.proofs.Common.{◌≡◌, ℕ, zero, suc, ◌<◌, ◌≤◌, List, [], ◌∷◌, length, Some, refl, subst, arith}
 use Rattle.std.specs.Prelude.{IsTrue, nat_lt, nat_le, slice_get, if◌then◌else◌}
 use Rattle.std.specs.Cmp.{first_so, second_so}
@@ -31,7 +31,7 @@ rising_rest : (t : ℕ) (changes : List Change) → IsTrue (rises_from t changes
 rising_rest t [] h = refl
 rising_rest t (x ∷ changes) h = second_so (nat_lt t x.moment) (rises_from x.moment changes) h
 
--- each change is after the one before the first
+-- every change is after the moment before the first
 rises_to : (t : ℕ) (changes : List Change) (i : ℕ) (c : Change) → IsTrue (rises_from t changes) → slice_get changes i ≡ Some c → t < c.moment
 rises_to t [] i c h at = absurd cc
 rises_to t (x ∷ changes) zero c h at =

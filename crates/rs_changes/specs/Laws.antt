@@ -1,4 +1,4 @@
--- What follows from the definitions of histories alone.
+-- Consequences of the definitions of histories alone.
 use Rattle.std.specs.Prelude.{ℕ, List, map, All}
 use Rattle.rs_record.specs.declared.change.Change.{Change}
 use Rattle.rs_page.specs.Items.{change_format}
@@ -11,11 +11,11 @@ use Rattle.rs_changes.specs.History.{IsHistory, HoldsHistory}
 abbrev pub HistoryHeldOnce : Type 0
 HistoryHeldOnce = HoldOnce HoldsHistory
 
--- What pages hold depends on their blocks alone.
+-- The history that pages hold depends on their blocks alone.
 abbrev pub HistoryStays : Type 0
 HistoryStays = HoldByBlocks HoldsHistory
 
--- Where each page of a history stands on the disk, the references to them hold its changes: so they load as this history.
+-- If all pages of a history are on the disk, the references to them hold its changes, so they load as this history.
 abbrev pub StoredHistoryIsHeld : Type 0
 StoredHistoryIsHeld = (pages : List (Page Change)) (image : List ℕ) → IsHistory pages → All IsStored pages
     → All (Stands change_format image) pages → HoldsHistory (stored_refs pages) image (map (λ page. page.items) pages)

@@ -23,10 +23,9 @@ use std::alloc::{AllocError, Global};
 use std::marker::Model;
 use std::ops::Range;
 
-/// The changes that a source keeps, the earliest first: their moments strictly rise, and there are
-/// at most 50,000 of them, in pages. They are dealt into parts, and the first part that is kept has
-/// the number of parts that were dropped before it. Contracts see this number and the list of the
-/// pages.
+/// The changes that a source keeps, earliest first: their moments strictly rise, and there are at most 50,000 of them,
+/// in pages. They are divided into parts, and the number of the first kept part is the number of parts dropped before
+/// it. Contracts see this number and the list of the pages.
 #[derive(Debug, Drop)]
 pub struct History {
     pub(crate) first: u64,
@@ -44,7 +43,7 @@ impl Model for History {
 }
 
 impl History {
-    /// A history of no changes, which has no pages, and of which no part was dropped.
+    /// Returns a history of no changes, which has no pages and no dropped part.
     pub fn empty(alloc: Global) -> History
         ensures { result ≡ record { first = 0; pages = [] } }
     {
@@ -54,9 +53,9 @@ impl History {
         }
     }
 
-    /// The history of these changes, at most 50,000, whose moments strictly rise: in pages of 64, of
-    /// which the last has the rest. All of them are touched. The number of its first part is `first`,
-    /// at most 253,402,300,799,999.
+    /// Returns the history of these changes, at most 50,000, whose moments strictly rise: in pages of 64, of which the
+    /// last has the rest. All of them are touched. The number of its first part is `first`, at most
+    /// 253,402,300,799,999.
     ///
     /// # Errors
     ///
@@ -78,7 +77,7 @@ impl History {
         Ok(History { first, pages })
     }
 
-    /// How many changes there are.
+    /// Returns the number of changes.
     pub fn len(&self) -> usize
         ensures value { result ≡ length (changes_of self.now.pages) }
         ensures lawful { IsHistory self.now.pages }
@@ -86,7 +85,7 @@ impl History {
         self.pages.len()
     }
 
-    /// Its pages: their number, their entries and their places are asked of them.
+    /// Returns its pages, to ask for their number, their entries and their places.
     pub fn as_pages(&self) -> &Pages<Change>
         ensures value { result.now ≡ self.now.pages }
         ensures lawful { AreKept (changes_of self.now.pages) }
@@ -94,8 +93,7 @@ impl History {
         &self.pages
     }
 
-    /// The number of the first part of the changes that is kept, which is how many were dropped: at
-    /// most 253,402,300,799,999.
+    /// Returns the number of the first kept part, which is the number of dropped parts: at most 253,402,300,799,999.
     pub fn first(&self) -> u64
         ensures value { result ≡ self.now.first }
         ensures bound { self.now.first ≤ greatest }
@@ -103,8 +101,8 @@ impl History {
         self.first
     }
 
-    /// How many of the changes, from the earliest on, are not after this moment. It looks at no more
-    /// of them than their number has bits.
+    /// Returns the number of changes, from the earliest on, that are not after this moment. It reads at most as many
+    /// changes as their number has bits.
     pub fn count_up_to(&self, moment: Moment) -> usize
         ensures { result ≡ passed_by moment (changes_of self.now.pages) }
     {
@@ -120,8 +118,8 @@ impl History {
         low
     }
 
-    /// The change at place `i`, counted from 0 at the earliest. It takes as many steps as the number
-    /// of pages has bits.
+    /// Returns the change at place `i`, counted from 0 at the earliest. It takes as many steps as the number of pages
+    /// has bits.
     pub fn at(&self, i: usize) -> &Change
         requires { i < length (changes_of self.now.pages) }
         ensures { slice_get (changes_of self.now.pages) i ≡ Some result.now }
@@ -129,11 +127,11 @@ impl History {
         self.pages.at(i)
     }
 
-    /// The places of part `k`, counted from 0 at the first kept one, where the changes are dealt into
-    /// parts of `limit` each: from the one of its first change up to the one after its last change.
-    /// Only the last part may have fewer, and where there is no part `k` the range is empty.
+    /// Returns the places of part `k`, counted from 0 at the first kept part: from the place of its first change up to
+    /// the place after its last change. Parts have `limit` changes, and only the last part may have fewer. If there is
+    /// no part `k`, the range is empty.
     ///
-    /// A source has a limit from 2 to 4,000; any other has its parts too. It takes no memory.
+    /// A source has a limit from 2 to 4,000; changes have parts at any other limit too. It takes no memory.
     pub fn part(&self, k: u64, limit: u16) -> Range<usize>
         ensures start { result.start ≡ part_start (length (changes_of self.now.pages)) limit k }
         ensures end { result.end ≡ part_end (length (changes_of self.now.pages)) limit k }
@@ -144,9 +142,9 @@ impl History {
         start..end
     }
 
-    /// The history with this change at its end, in the last page where that has fewer than 64
-    /// changes, else in a new page. Its moment is after the last one's. This history stays, and all
-    /// other pages stay the same pages.
+    /// Returns the history with this change at its end, in the last page if that has fewer than 64 changes, else in a
+    /// new page. The moment of the change is after the last one. This history stays as it is, and all other pages stay
+    /// the same pages.
     ///
     /// # Errors
     ///
@@ -172,11 +170,11 @@ impl History {
         })
     }
 
-    /// The history without its first `count` parts of `limit` changes each, all of which it has. Its
-    /// first number is greater by as many, and at most 253,402,300,799,999. This history stays.
+    /// Returns the history without its first `count` parts of `limit` changes, all of which it has. Its first number is
+    /// greater by `count`, and at most 253,402,300,799,999. This history stays as it is.
     ///
-    /// The page in which the cut falls is touched: its other changes are cut into pages of 64, of which
-    /// the last has the rest. Pages before it go, and all after it stay the same pages.
+    /// The page in which the cut falls is touched: its other changes are cut into pages of 64, of which the last has
+    /// the rest. Pages before it are dropped, and all pages after it stay the same pages.
     ///
     /// # Errors
     ///
@@ -201,8 +199,8 @@ impl History {
         })
     }
 
-    /// The entries of the pages that [`History::drop_parts`] drops or touches: of those on the disk
-    /// that have a change of the first `count` parts of `limit` changes each.
+    /// Returns the entries of the pages on the disk that [`History::drop_parts`] drops or touches: the pages that have
+    /// a change of the first `count` parts, with `limit` changes per part.
     ///
     /// # Errors
     ///
@@ -221,7 +219,7 @@ impl History {
         self.pages.front_entries(alloc, dropped)
     }
 
-    /// A copy of the history, in the same pages.
+    /// Returns a copy of the history, in the same pages.
     ///
     /// # Errors
     ///
@@ -236,8 +234,8 @@ impl History {
         })
     }
 
-    /// Sets the digests of the last change; a deletion, which has none, stays as it is. The page of
-    /// the change is not stored, as after [`History::with`] appended it. It takes no memory.
+    /// Sets the digests of the last change; a deletion, which has no digests, stays as it is. The page of the change is
+    /// not stored, as after [`History::with`] appended it. It takes no memory.
     pub fn fill_last(&mut self, digests: Digests)
         requires { EndsUnstored self.old.pages }
         ensures filled { (before : List Change) (last : Change)
@@ -253,7 +251,7 @@ impl History {
         self.pages.fill_last(digests);
     }
 
-    /// The references to the pages that are on the disk, in their order.
+    /// Returns the references to the pages that are on the disk, in their order.
     ///
     /// # Errors
     ///

@@ -1,6 +1,6 @@
 //! Laws of histories, over their definitions alone.
 //!
-//! Each function here does nothing: its contract is the law, which the check proves.
+//! The functions here have no effect: their contracts are the laws, which the check proves.
 ghost use Rattle.rs_changes.specs.Laws.{HistoryHeldOnce, HistoryStays, StoredHistoryIsHeld};
 
 use rs_page::laws::{pages_hold_once, pages_stay, stored_pages_stand};
@@ -13,7 +13,7 @@ pub fn history_is_held_once()
     pages_hold_once::<Change>();
 }
 
-/// What pages hold depends on their blocks alone.
+/// The history that pages hold depends on their blocks alone.
 pub fn history_stays()
     ensures { HistoryStays }
 {

@@ -21,12 +21,12 @@ use rs_record::Change;
 use std::alloc::Global;
 
 impl History {
-    /// Gives each touched page the lowest run of free blocks of its size, one page after the other.
-    /// It takes no memory.
+    /// Gives every touched page the lowest run of free blocks of its size, one page after the other. It takes no
+    /// memory.
     ///
     /// # Errors
     ///
-    /// [`Full`] where a page has no such run; nothing has changed then.
+    /// [`Full`] if no free run is long enough for a page. The history and the used blocks are then unchanged.
     pub fn place_touched(&mut self, used: &mut Used) -> Result<(), Full>
         ensures ok { OnOk result
             (PlacesTouched change_format used.old self.old.pages used.new self.new.pages) }
@@ -39,15 +39,14 @@ impl History {
         self.pages.place_touched(used)
     }
 
-    /// Writes each page that was given blocks, as [`Pages::store_touched`] does.
+    /// Writes the pages that have blocks but are not written, as [`Pages::store_touched`] does.
     ///
-    /// No page is touched, and the extents of those that were given blocks lie on the disk and have
-    /// no block in common.
+    /// No page is touched. The extents of the pages to write lie on the disk and have no block in common.
     ///
     /// # Errors
     ///
-    /// Those of [`Pages::store_touched`]. After each of them the changes are as they were, and each page
-    /// is as it was, or is written and stored.
+    /// The errors of [`Pages::store_touched`]. After an error the changes are unchanged, and every page is unchanged,
+    /// or is written and stored.
     pub fn store_touched<D: Disk>(&mut self, alloc: Global, disk: &mut D) -> Result<(), StoreFault>
         requires placed { All (λ page. ¬ IsTouched page.place) self.old.pages }
         requires room { AreOnDisk (placed_extents self.old.pages) (D.state disk.old).size }
@@ -63,9 +62,8 @@ impl History {
         self.pages.store_touched(alloc, disk)
     }
 
-    /// Reads the history that these references point to, whatever they say, by one device call a
-    /// page. Its first part has the number `first`, at most 253,402,300,799,999. The disk stays as it
-    /// is.
+    /// Reads the history that these references point to, with one device call per page. The references may have any
+    /// values. Its first part has the number `first`, at most 253,402,300,799,999. The disk stays as it is.
     ///
     /// It asks for no memory for a page before it has checked that the extent lies on the disk and
     /// has exactly the blocks of the length, and for none once it has passed 50,000 changes.
@@ -103,7 +101,7 @@ impl History {
     }
 }
 
-/// Whether the moments strictly rise through all pages.
+/// Returns whether the moments strictly rise through all pages.
 fn is_rising(changes: &Pages<Change>) -> bool
     ensures { IsTrue result ↔ IsTrue (rising (items_of changes.now)) }
 {

@@ -1,4 +1,4 @@
--- The blocks of the slots in an image, and what a change within one leaves.
+-- The blocks of the slots in an image, and the effect of a change within one slot.
 use Rattle.std.proofs.Common.{◌≡◌, inl, inr, ℕ, ◌+◌, ◌≤◌, List, [], ◌∷◌, ◌++◌, length, take, drop, get_or, refl, sym, ◌∙◌, ap, subst, arith, length-drop}
 use Rattle.std.proofs.lemmas.List.{length-take-le, take-take, drop-take, drop-drop, drop_at, get_or-take, get_or-drop}
 use Rattle.rs_disk.specs.Medium.{over}
@@ -24,7 +24,7 @@ length-block image s room = length-take-le 512 (drop (offset s) image) (omega (a
 pub front_blocks : (one two : List ℕ) → take 1024 one ≡ take 1024 two → (s : Slot) → block one s ≡ block two s
 front_blocks one two same s = front_part 1024 (offset s) 512 one two (fits_slot s) same
 
--- A change within one slot keeps the other, and all behind the slots.
+-- A change within one slot keeps the other slot and all bytes after the slots.
 pub record Beside (s : Slot) (one two : List ℕ) : Type 0 where
   pub kept : block one (other s) ≡ block two (other s)
   pub behind : SameBehind one two
@@ -51,15 +51,15 @@ gate_at image s =
 pub behind_gate : (image : List ℕ) (s : Slot) → drop 1 (block image s) ≡ take 511 (drop (offset s + 1) image)
 behind_gate image s = drop-take 1 511 (drop (offset s) image) ∙ ap (λ (l : List ℕ). take 511 l) (drop-drop 1 (offset s) image)
 
--- a change of the gate alone keeps the bytes behind it
+-- a change of the gate alone keeps the rest of its slot
 pub tail_kept : (s : Slot) (old new : List ℕ) → Torn (offset s) 1 old new → drop 1 (block new s) ≡ drop 1 (block old s)
 tail_kept s old new torn = behind_gate new s ∙ torn_part (offset s) 1 (offset s + 1) 511 old new torn (inr (omega arith)) ∙ sym (behind_gate old s)
 
--- a change behind the gate keeps it
+-- a change of the bytes after the gate keeps the gate
 pub gate_kept : (s : Slot) (n : ℕ) (old new : List ℕ) → Torn (offset s + 1) n old new → gate (block new s) ≡ gate (block old s)
 gate_kept s n old new torn = gate_at new s ∙ torn_byte (offset s + 1) n (offset s) old new torn (inl (omega arith)) ∙ sym (gate_at old s)
 
--- what is put there
+-- a write of a gate puts its byte there
 pub gate_put : (old : List ℕ) (s : Slot) (byte : ℕ) → 1024 ≤ length old → gate (block (over old (offset s) (byte ∷ [])) s) ≡ byte
 gate_put old s byte room = gate_at (over old (offset s) (byte ∷ [])) s ∙ over_byte old (offset s) byte (omega (arith, fits_slot s))
 
@@ -75,7 +75,7 @@ same_block (a ∷ one) (b ∷ two) long short gates rest = λ i. gates i ∷ res
 same_block [] two long short gates rest = absurd (omega (arith, long))
 same_block (a ∷ one) [] long short gates rest = absurd (omega (arith, short))
 
--- A write of a gate over a write of the bytes behind it is one write of both,
+-- A write of a gate over a write of the bytes after it is one write of both,
 pub over_behind : (old : List ℕ) (at byte : ℕ) (bytes : List ℕ) → at + 1 + length bytes ≤ length old → over (over old (at + 1) bytes) at (byte ∷ []) ≡ over old at (byte ∷ bytes)
 over_behind old at byte bytes fits =
     let mid : List ℕ = over old (at + 1) bytes in

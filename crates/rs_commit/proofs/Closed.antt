@@ -17,7 +17,7 @@ use Rattle.rs_commit.proofs.Payloads.{tells, length-payload, length-slot_bytes, 
 use Rattle.rs_commit.proofs.Phases.{behind_on}
 use Rattle.rs_commit.proofs.Ready.{rest_ready}
 
--- two slots that say nothing hold no root
+-- two slots with the content Closed hold no root
 none_open : (image : List ℕ) → content (block image First) ≡ Closed → content (block image Second) ≡ Closed → current image ≡ None
 unfolding current
 none_open image one two = λ i. pick (one i) (two i)
@@ -26,7 +26,7 @@ none_open image one two = λ i. pick (one i) (two i)
 pub shut_seen : (m : Medium) → AreShut m → current m.seen ≡ None
 shut_seen m shut = none_open m.seen (closed_gate (block m.seen First) shut.first) (closed_gate (block m.seen Second) shut.second)
 
--- by each image,
+-- in every image,
 pub shut_none : (m : Medium) (size : ℕ) → IsMedium size m → AreShut m → (image : List ℕ) → IsImage m image → current image ≡ None
 shut_none m size is shut image left =
     current_stays image m.seen (settled_front m size 1024 is (omega (arith, shut.room, is.image.size, is.settled)) shut.settled image left) ∙ shut_seen m shut
@@ -40,7 +40,7 @@ shut_stays old new same marks shut = record {
   settled = λ i lt. marks i lt ∙ shut.settled i lt;
 }
 
--- what closing both gates leaves
+-- both gates are closed after the two writes
 pub gates_closed : (bytes : List ℕ) → 1024 ≤ length bytes → (new : Medium) → new ≡ resting (with_closed_gates bytes) → AreShut new
 gates_closed bytes room new are =
     let one : List ℕ = over bytes (offset First) (0 ∷ []) in
@@ -56,7 +56,7 @@ gates_closed bytes room new are =
     } in
     subst AreShut (sym are) now
 
--- what stands behind the gate of a slot that was made
+-- the bytes after the gate of a slot that was made
 abbrev pub rest_of : List ℕ → List ℕ
 rest_of payload = drop 1 (slot_bytes 1 payload)
 
@@ -74,7 +74,7 @@ length-rest payload fits =
     let same : length (slot_bytes 1 payload) ≡ length (1 ∷ rest_of payload) = ap length (slot_split payload) in
     omega (arith, all, same)
 
--- The first slot gets a root, between slots that are closed: first what stands behind its gate,
+-- The first slot gets a root while both slots are closed: first the bytes after its gate,
 module _ (entry : Medium) (size : ℕ) (is : IsMedium size entry) (root : Root) (lawful : IsLawfulRoot root) (room : 1024 ≤ length entry.seen) where
   behind : List ℕ
   behind = rest_of (payload_of root)
@@ -155,7 +155,7 @@ first_written root lawful old mid new room staged opened =
     let size : length (rest_of (payload_of root)) ≡ 511 = length-rest (payload_of root) (omega (arith, length-payload root lawful)) in
     opened ∙ ap (λ (m : Medium). resting (over m.seen 0 (1 ∷ []))) staged ∙ ap resting (over_behind old.seen 0 1 (rest_of (payload_of root)) (omega (arith, size, room)) ∙ ap (λ (l : List ℕ). over old.seen 0 l) (sym (slot_split (payload_of root))))
 
--- The runs: a write behind the closed gate, and one of the gate.
+-- The runs: a write of the bytes after the closed gate, and a write of the gate.
 module _ (old : DiskState) (is : IsMedium old.size old.now) (root : Root) (lawful : IsLawfulRoot root) (room : 1024 ≤ length old.now.seen) (shut : AreShut old.now) where
   pub stage_leaves : (mid : DiskState) → Leaves old mid (λ _. TornFrom old.now 1 511) → Leaves old mid (λ _. NoneOrRoot old.now root)
   stage_leaves mid torn = weaker old mid (λ _. TornFrom old.now 1 511) (λ _. NoneOrRoot old.now root) (λ m image left. first_staging old.now old.size is root lawful room shut image left) torn

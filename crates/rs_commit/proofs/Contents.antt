@@ -1,4 +1,4 @@
--- What a slot says, and how the slots of an image stand by it.
+-- The content of a slot, and the state of the slots of an image that follows from it.
 use Rattle.std.proofs.Common.{true≢false, ◌≡◌, ℕ, ◌<◌, Bool, true, false, ◌&&◌, nat_lt, nat_eq, if◌then◌else◌, List, length, take, Some, None, refl, sym, ◌∙◌, ap, subst, arith}
 use Rattle.std.proofs.lemmas.Bool.{and_parts, and_from}
 use Rattle.std.proofs.lemmas.Bool.Decides.{nat_tests}
@@ -27,7 +27,7 @@ never false b off = refl
 pub not_open : (byte : ℕ) → byte ≡ 0 → byte ≡ 1 → ⊥
 not_open byte zero one = let no : 0 ≡ 1 = sym zero ∙ one in absurd (omega (arith, no))
 
--- a slot whose gate isn't 1 says nothing
+-- the content of a slot whose gate isn't 1 is Closed
 pub closed : (bytes : List ℕ) → (gate bytes ≡ 1 → ⊥) → content bytes ≡ Closed
 unfolding content
 closed bytes shut =
@@ -65,14 +65,14 @@ gate_of_open bytes root is =
     let gate_on : nat_eq (gate bytes) 1 ≡ true = (and_parts (nat_eq (length bytes) 512) (nat_eq (gate bytes) 1) on).1 in
     grind (arith, nat_tests)
 
--- and that of a whole one that says nothing isn't
+-- and a whole slot with this content has another gate than 1
 pub gate_of_closed : (bytes : List ℕ) → length bytes ≡ 512 → content bytes ≡ Closed → gate bytes ≡ 1 → ⊥
 unfolding content
 gate_of_closed bytes long is one =
     let off : is_open bytes ≡ false = closed_from (is_open bytes) (is_known (version bytes)) (root_in bytes) is in
     true≢false (sym (is_on bytes long one) ∙ off)
 
--- one slot holds a root, and the other one says nothing
+-- one slot holds a root, and the content of the other slot is Closed
 pub one_open : (image : List ℕ) (s : Slot) (root : Root) → content (block image s) ≡ Open root → content (block image (other s)) ≡ Closed
     → current image ≡ Some (record { slot = s; root = root; spare_open = false })
 unfolding current
@@ -92,7 +92,7 @@ two_open image Second root spare here there greater =
     ∙ (λ i. if below spare.generation root.generation greater i then Some (record { slot = First; root = spare; spare_open = true })
     else (if above spare.generation root.generation greater i then Some (record { slot = Second; root = root; spare_open = true }) else None))
 
--- What the slots say where they stand like this.
+-- The contents of the slots in this state.
 pub record Says (slots : Standing) (says : Slot → SlotContent) : Type 0 where
   pub here : says slots.slot ≡ Open slots.root
   pub told : slots.spare_open ≡ true → (root : Root) × (says (other slots.slot) ≡ Open root)
@@ -127,7 +127,7 @@ pub says : (image : List ℕ) (slots : Standing) → current image ≡ Some slot
 unfolding current
 says image slots is = says_from (λ s. content (block image s)) (content (block image First)) (content (block image Second)) slots refl refl is
 
--- how the slots stand depends on the first 1,024 bytes alone
+-- the state of the slots depends on the first 1,024 bytes alone
 pub current_stays : (one two : List ℕ) → take 1024 one ≡ take 1024 two → current one ≡ current two
 unfolding current
 current_stays one two same = λ i. pick (content (front_blocks one two same First i)) (content (front_blocks one two same Second i))
@@ -153,14 +153,14 @@ unfolding content
 unknown bytes long one differs =
     λ i. if is_on bytes long one i then (if differs i then Open (root_in bytes) else Unknown) else Closed
 
--- a block that the disk doesn't have says nothing
+-- the content of a block that the disk doesn't have whole is Closed
 pub missing : (bytes : List ℕ) → length bytes < 512 → content bytes ≡ Closed
 unfolding content
 missing bytes short =
     let size : nat_eq (length bytes) 512 ≡ false = grind (arith, nat_tests) in
     ap (λ (b : Bool). if b && nat_eq (gate bytes) 1 then (if is_known (version bytes) then Open (root_in bytes) else Unknown) else Closed) size
 
--- the slots of an image stand by what they say
+-- the state of the slots of an image follows from their contents
 pub current_by : (image : List ℕ) (first second : SlotContent) → first ≡ content (block image First) → second ≡ content (block image Second) → current image ≡ pick first second
 unfolding current
 current_by image first second one two = λ i. pick (sym one i) (sym two i)

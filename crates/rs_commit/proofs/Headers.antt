@@ -1,4 +1,4 @@
--- What the first 54 bytes of a whole block say.
+-- The content of the first 54 bytes of a whole block.
 use Rattle.std.proofs.Common.{◌≡◌, ℕ, ◌<◌, true, false, List, length, take, get_or, refl, sym, ◌∙◌, ap, arith}
 use Rattle.std.specs.Int.{from_be_bytes, w32, w64}
 use Rattle.std.proofs.lemmas.List.{get_or-take}
@@ -8,7 +8,7 @@ use Rattle.rs_commit.specs.Slots.{field, version, root_in, is_known, content}
 use Rattle.rs_commit.proofs.Contents.{closed, opened, unknown}
 use Rattle.rs_commit.proofs.Payloads.{first_bytes}
 
--- a root is read from bytes where each of its fields is
+-- bytes that have all fields of a root at their places read as this root
 pub told : (root : Root) (bytes : List ℕ) → root.version ≡ version bytes → root.generation ≡ from_be_bytes w64 (field bytes 2 8)
     → root.directory.first ≡ from_be_bytes w32 (field bytes 10 4) → root.directory.blocks ≡ from_be_bytes w32 (field bytes 14 4)
     → root.length ≡ from_be_bytes w32 (field bytes 18 4) → root.sha256 ≡ field bytes 22 32 → root ≡ root_in bytes

@@ -1,4 +1,4 @@
--- The bytes of a root behind a gate, and the slots as they are made.
+-- The bytes of a root, which follow a gate, and the slots as they are made.
 use Rattle.std.proofs.Common.{◌≡◌, ℕ, ◌+◌, ◌-◌, ◌≤◌, List, [], ◌∷◌, ◌++◌, length, take, drop, replicate, get_or, Some, refl, sym, ◌∙◌, ap, subst, arith, length-append, append_assoc}
 use Rattle.std.proofs.lemmas.List.{append-nil, take_all, take_at, drop_at, take-take, drop-take, drop-drop, get_or-take, get_or-drop, length-replicate, drop-replicate}
 use Rattle.std.proofs.lemmas.Nat.{from_be_bytes-to_be_bytes_4, from_be_bytes-to_be_bytes_8}
@@ -13,7 +13,7 @@ use Rattle.rs_commit.specs.Commit.{behind_slots}
 use Rattle.rs_commit.specs.Format.{slot_bytes, formatted, fresh}
 use Rattle.rs_commit.proofs.Contents.{opened, closed_gate, one_open}
 
--- A field put behind those that stand already.
+-- A field put after the fields that are already there.
 grown : (old new front bytes : List ℕ) (at : ℕ) → take at old ≡ front → length front ≡ at → at + length bytes ≤ length old → new ≡ over old at bytes → take (at + length bytes) new ≡ front ++ bytes
 grown old new front bytes at stands long fits are =
     let rest : List ℕ = drop (at + length bytes) old in
@@ -21,7 +21,7 @@ grown old new front bytes at stands long fits are =
     let shape : new ≡ (front ++ bytes) ++ rest = are ∙ ap (λ (l : List ℕ). l ++ (bytes ++ rest)) stands ∙ sym (append_assoc front bytes rest) in
     ap (λ (l : List ℕ). take (at + length bytes) l) shape ∙ take_at (front ++ bytes) rest (at + length bytes) size
 
--- The fields of a root, put one behind the other.
+-- The fields of a root, put one after the other.
 pub spelled : (root : Root) (b1 b2 b3 b4 b5 b6 : List ℕ) → IsLawfulRoot root → length b1 ≡ 53 → length b6 ≡ 53 → take 1 b1 ≡ root.version ∷ [] → b2 ≡ over b1 1 (to_be_bytes w64 root.generation)
     → b3 ≡ over b2 9 (to_be_bytes w32 root.directory.first) → b4 ≡ over b3 13 (to_be_bytes w32 root.directory.blocks) → b5 ≡ over b4 17 (to_be_bytes w32 root.length)
     → b6 ≡ over b5 21 root.sha256 → b6 ≡ payload_of root
@@ -48,13 +48,13 @@ pub length-payload : (root : Root) → IsLawfulRoot root → length (payload_of 
 unfolding payload_of
 length-payload root lawful = omega (arith, length-append root.sha256 [], lawful.digest)
 
--- a part of the bytes behind a gate is a part of the block
+-- a part of the bytes after a gate is a part of the block
 part_behind : (bytes : List ℕ) (k n m : ℕ) → n ≤ m → take n (drop k (take (k + m) (drop 1 bytes))) ≡ take n (drop (1 + k) bytes)
 part_behind bytes k n m le =
     ap (λ (l : List ℕ). take n l) (drop-take k m (drop 1 bytes)) ∙ take-take n m (drop k (drop 1 bytes)) le ∙ ap (λ (l : List ℕ). take n l) (drop-drop k 1 bytes)
 
 module _ (bytes : List ℕ) (root : Root) (stands : take 53 (drop 1 bytes) ≡ payload_of root) where
-  -- a field, by its place behind the gate
+  -- a field, by its place among the bytes after the gate
   told : (k n m : ℕ) → k + m ≡ 53 → n ≤ m → field bytes (1 + k) n ≡ take n (drop k (payload_of root))
   told k n m all le = sym (part_behind bytes k n m le) ∙ ap (λ (l : ℕ). take n (drop k (take l (drop 1 bytes)))) all ∙ ap (λ (l : List ℕ). take n (drop k l)) stands
 
@@ -72,11 +72,11 @@ module _ (bytes : List ℕ) (root : Root) (stands : take 53 (drop 1 bytes) ≡ p
       let s : field bytes 22 32 ≡ root.sha256 = told 21 32 32 refl (omega arith) ∙ take_at root.sha256 [] 32 lawful.digest in
       λ i. record { version = version_told i; generation = g i; directory = record { first = f i; blocks = b i }; length = n i; sha256 = s i }
 
-  -- behind an open gate they hold the root
+  -- where they follow an open gate, they hold the root
   pub tells : IsLawfulRoot root → length bytes ≡ 512 → gate bytes ≡ 1 → content bytes ≡ Open root
   tells lawful long one = opened bytes root long one (ap is_known version_told ∙ lawful.version) (root_told lawful)
 
--- what is written of a root reads as it
+-- the bytes written for a root read as this root
 pub payloads_read : (root : Root) (byte : ℕ) (rest : List ℕ) → IsLawfulRoot root → root_in (byte ∷ (payload_of root ++ rest)) ≡ root
 payloads_read root byte rest lawful = root_told (byte ∷ (payload_of root ++ rest)) root (take_at (payload_of root) rest 53 (length-payload root lawful)) lawful
 
@@ -97,7 +97,7 @@ pub length-slot_bytes : (byte : ℕ) (payload : List ℕ) → length payload ≤
 unfolding slot_bytes
 length-slot_bytes byte payload fits = omega (arith, length-append payload (replicate (511 - length payload) 0), length-replicate {A = ℕ} (511 - length payload) 0)
 
--- zeros with a payload behind the first are a closed slot
+-- zeros with a payload after the first zero are a closed slot
 pub closed_made : (payload : List ℕ) → length payload ≤ 511 → over (replicate 512 0) 1 payload ≡ slot_bytes 0 payload
 unfolding slot_bytes
 closed_made payload fits =
@@ -113,7 +113,7 @@ pub payload_behind : (byte : ℕ) (payload : List ℕ) → length payload ≡ 53
 unfolding slot_bytes
 payload_behind byte payload long = take_at payload (replicate (511 - length payload) 0) 53 long
 
--- slots that were made stand as made, whatever lies behind them
+-- slots that were made have the state as made, for any bytes after them
 pub formatted_stands : (root : Root) (rest : List ℕ) → IsLawfulRoot root → current (formatted root ++ rest) ≡ Some (fresh root)
 formatted_stands root rest lawful = one_open image First root here there
   where
@@ -146,7 +146,7 @@ formatted_stands root rest lawful = one_open image First root here there
     there : content (block image Second) ≡ Closed
     there = ap content second ∙ closed_gate two (gate_before 0 (written_version ∷ []))
 
--- What formatting writes: one block, the other, and then the gate of the first.
+-- Formatting writes one block, the other, and then the gate of the first.
 pub made : (root : Root) (old one two three : List ℕ) → IsLawfulRoot root → 1024 ≤ length old → one ≡ over old 0 (slot_bytes 0 (payload_of root)) → two ≡ over one 512 (slot_bytes 0 (written_version ∷ []))
     → three ≡ over two 0 (1 ∷ []) → three ≡ formatted root ++ behind_slots old
 unfolding slot_bytes

@@ -1,4 +1,4 @@
--- What a crash leaves in each phase of a commit.
+-- The images of a crash in every phase of a commit.
 use Rattle.std.proofs.Common.{◌≡◌, inl, inr, ℕ, ◌+◌, ◌<◌, ◌≤◌, true, false, List, [], ◌∷◌, length, take, drop, Some, refl, sym, ◌∙◌, ap, subst, arith}
 use Rattle.std.proofs.lemmas.Bool.{cases_eq}
 use Rattle.rs_disk.specs.Medium.{Medium, IsImage, IsMedium, over, resting}
@@ -29,7 +29,7 @@ pub record Shut (entry : Medium) (slot : Slot) (root : Root) (m : Medium) : Type
   pub outside : (image : List ℕ) → IsImage m image → OutsideOf entry image
   pub behind : SameBehind m.seen entry.seen
 
--- The same, with all settled, and behind the closed gate stands the new root.
+-- The same, with all settled, and with the new root in the bytes after the closed gate.
 pub record Staged (entry : Medium) (slot : Slot) (root new : Root) (m : Medium) : Type 0 where
   pub room : 1024 ≤ length m.seen
   pub only : (image : List ℕ) → IsImage m image → image ≡ m.seen
@@ -48,7 +48,7 @@ module _ (slots : Standing) (entry : Medium) (size : ℕ) (is : IsMedium size en
   entry_says : Says slots (λ s. content (block entry.seen s))
   entry_says = says entry.seen slots ready.current
 
-  -- an old root with all behind the slots as in an image at entry
+  -- an old root, and the bytes after the slots as in an image at entry
   old_left : (new : Root) (image : List ℕ) → content (block image here) ≡ Open slots.root → content (block image spare) ≡ Closed → OutsideOf entry image → OldOrNew entry slots.root new image
   old_left new image tell shut out = inl ((record { slot = here; root = slots.root; spare_open = false }, one_open image here slots.root tell shut, refl), out)
 
@@ -110,7 +110,7 @@ module _ (slots : Standing) (entry : Medium) (size : ℕ) (is : IsMedium size en
         behind = kept.behind;
       }
 
-  -- within the write of the new root behind the closed gate
+  -- within the write of the new root to the bytes after the closed gate
   pub staging : (m : Medium) → IsMedium size m → Shut entry here slots.root m → (new : Root) (image : List ℕ) → TornFrom m (offset spare + 1) 53 image → OldOrNew entry slots.root new image
   staging m sound shut new image (from, left, torn) =
       let kept = beside spare (offset spare + 1) 53 from image (omega arith) (omega arith) torn in
@@ -120,7 +120,7 @@ module _ (slots : Standing) (entry : Medium) (size : ℕ) (is : IsMedium size en
       let out = shut.outside from left in
       old_left new image tell (closed (block image spare) (λ one. shut.shut (sym gates ∙ one))) (out.0, out.1, behind_on image from out.0 kept.behind out.2)
 
-  -- it stands there
+  -- the root is there
   pub staged_now : (m : Medium) → Shut entry here slots.root m → (new : Root) → IsLawfulRoot new → (next : Medium) → next ≡ resting (over m.seen (offset spare + 1) (payload_of new)) → Staged entry here slots.root new next
   staged_now m before new lawful next are = subst (λ (k : Medium). Staged entry here slots.root new k) (sym are) now
     where

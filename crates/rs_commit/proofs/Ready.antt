@@ -35,11 +35,11 @@ ready_stays slots old new same marks ready = record {
   settled = λ i lt. marks i lt ∙ ready.settled i lt;
 }
 
--- where all is settled, they are ready as they stand
+-- where all is settled, the slots are ready in their state
 pub rest_ready : (slots : Standing) (bytes : List ℕ) → 1024 ≤ length bytes → current bytes ≡ Some slots → IsReady slots (resting bytes)
 rest_ready slots bytes room is = record { room = room; current = is; settled = λ i lt. resting_off bytes i }
 
--- after a slot beside this one was opened with a newer root
+-- after the slot other than this one was opened with a newer root
 pub newer_stands : (slots : Standing) (bytes : List ℕ) (root : Root) → 1024 ≤ length bytes → current bytes ≡ Some slots → IsLawfulRoot root → slots.root.generation < root.generation
     → current (with_root bytes (other slots.slot) root) ≡ Some (record { slot = other slots.slot; root = root; spare_open = true })
 newer_stands slots bytes root room is lawful greater =

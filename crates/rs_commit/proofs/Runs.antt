@@ -21,7 +21,7 @@ use Rattle.rs_commit.proofs.Phases.{Shut, behind_on, at_entry, closing, shut_alr
 well : ¬ (false ≡ true)
 well told = true≢false (sym told)
 
--- what a read gives after a write is torn in its range, whatever the write answers
+-- after a write, with any answer, a read gives bytes that are torn in the range of the write
 write_tears : {T E : Type 0} (old new : DiskState) (at : ℕ) (bytes : List ℕ) (result : Result T E) → at + length bytes ≤ length old.now.seen
     → OnOk result (Writes at bytes old new) → OnErr result (Tears at (length bytes) old new) → Torn at (length bytes) old.now.seen new.now.seen
 write_tears old new at bytes (Ok x) fits ok err = subst (λ (m : Medium). Torn at (length bytes) old.now.seen m.seen) (sym ok.now) (over_torn old.now.seen at bytes fits)
@@ -40,7 +40,7 @@ within_one {old = old} {new = new} at bytes result is fits counts ok err keeps =
   leaves = write_leaves old new at bytes result counts is fits ok err;
 }
 
--- and so is one that a run follows which writes nothing.
+-- and so is one that is followed by a run without writes.
 pub within_then : {A : Type 0} {old mid new : DiskState} {at n : ℕ} → WritesWithin at n (false ≡ true) old mid → WritesNothing A mid new → new.honest ≡ mid.honest → WritesWithin at n A old new
 within_then {old = old} {mid = mid} {new = new} {at = at} {n = n} one two keeps = record {
   writes = writing_then old mid new well one.writes (record { runs = two.runs; keeps = keeps; stops = two.stops });
@@ -60,14 +60,14 @@ slots_within {old = old} {new = new} {at = at} {n = n} run fits = record {
     behind : (one two : List ℕ) → Torn at n one two → SameBehind two one
     behind one two torn = record { size = torn.size; bytes = back_part (at + n) 1024 two one fits torn.after }
 
--- so does one that writes the gate of a slot, or what stands behind it,
+-- so does one that writes the gate of a slot, or the bytes after it,
 pub gate_slots : {A : Type 0} {old new : DiskState} (s : Slot) → WritesWithin (offset s) 1 A old new → WritesSlots A old new
 gate_slots s run = slots_within run (omega (arith, fits_slot s))
 
 pub payload_slots : {A : Type 0} {old new : DiskState} (s : Slot) → WritesWithin (offset s + 1) 53 A old new → WritesSlots A old new
 payload_slots s run = slots_within run (omega (arith, fits_slot s))
 
--- so does a single write there, whatever it answers,
+-- so does a single write there, with any answer,
 pub slots_written : {E : Type 0} {old new : DiskState} (at : ℕ) (bytes : List ℕ) (result : Result (Unit {0}) E) → IsMedium old.size old.now → 1024 ≤ old.size → at + length bytes ≤ 1024
     → CountsCall old new result → OnOk result (Writes at bytes old new) → OnErr result (Tears at (length bytes) old new) → new.honest ≡ old.honest → WritesSlots (IsErr result) old new
 slots_written at bytes result is room low counts ok err keeps =
@@ -132,7 +132,7 @@ module _ (slots : Standing) (old : DiskState) (is : IsMedium old.size old.now) (
             now true was closed nothing = shut_now slots old.now old.size is ready mid.now (subst (λ (s : Slot). mid.now ≡ resting (over old.now.seen (offset s) (0 ∷ []))) same closed)
             now false was closed nothing = subst (λ (d : DiskState). Shut old.now slots.slot slots.root d.now) (sym nothing) (shut_already slots old.now old.size is ready was)
 
-        -- then the new root is written behind the closed gate
+        -- then the new root is written to the bytes after the closed gate
         module _ (sound : IsMedium mid.size mid.now) (size : mid.size ≡ old.size) (staging_leaves : Leaves mid next (λ _. TornFrom mid.now (offset spare + 1) 53)) where
           pub staged_leaves : Leaves old next Outcome
           staged_leaves =
@@ -145,7 +145,7 @@ module _ (slots : Standing) (old : DiskState) (is : IsMedium old.size old.now) (
               let staged = staged_now slots old.now old.size is ready mid.now shut new lawful next.now (subst (λ (s : Slot). next.now ≡ resting (over mid.now.seen (offset s + 1) (payload_of new))) same written) in
               step next last offset 1 staged_leaves (opening slots old.now old.size is ready next.now new staged lawful greater) torn
 
--- what is left at the end: the slot is open and holds the root
+-- at the end the slot is open and holds the root
 pub all_written : (slot : Slot) (root : Root) → IsLawfulRoot root → (was_open : Bool) (old mid next last : DiskState) → 1024 ≤ length old.now.seen
     → OnTrue was_open (mid.now ≡ resting (over old.now.seen (offset slot) (0 ∷ []))) → OnFalse was_open (mid ≡ old)
     → next.now ≡ resting (over mid.now.seen (offset slot + 1) (payload_of root)) → last.now ≡ resting (over next.now.seen (offset slot) (1 ∷ []))

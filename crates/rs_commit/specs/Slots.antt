@@ -54,23 +54,23 @@ root_in bytes = record {
 abbrev pub is_open : List ℕ → Bool
 is_open bytes = nat_eq (length bytes) block_size && nat_eq (gate bytes) 1
 
--- what a slot says: nothing where it isn't open, and only versions 1 and 2 are known
+-- the content of a slot: Closed where it isn't open; only versions 1 and 2 are known
 unfoldable pub content : List ℕ → SlotContent
 content bytes = if is_open bytes then (if is_known (version bytes) then Open (root_in bytes) else Unknown) else Closed
 
--- How the slots stand: which one holds the root, the root, and whether the other one, the spare, is open.
+-- The state of the slots: the slot that holds the root, the root, and whether the other slot, the spare, is open.
 pub record Standing : Type 0 where
   pub slot : Slot
   pub root : Root
   pub spare_open : Bool
 
--- the slot of the greater generation; there is none where they are equal
+-- the slot of the greater generation; no slot where they are equal
 abbrev pub newer : Root → Root → Option Standing
 newer first second =
     if nat_lt second.generation first.generation then Some (record { slot = First; root = first; spare_open = true })
     else (if nat_lt first.generation second.generation then Some (record { slot = Second; root = second; spare_open = true }) else None)
 
--- The rule: the open slot holds the root, of two open ones the newer. There is none where no slot is open, where an
+-- The rule: the open slot holds the root, of two open ones the newer. There is no root where no slot is open, where an
 -- open one has an unknown version, and where both are open with equal generations.
 abbrev pub pick : SlotContent → SlotContent → Option Standing
 pick (Open first) Closed = Some (record { slot = First; root = first; spare_open = false })
@@ -78,7 +78,7 @@ pick Closed (Open second) = Some (record { slot = Second; root = second; spare_o
 pick (Open first) (Open second) = newer first second
 pick first second = None
 
--- how the slots of a whole image stand
+-- the state of the slots of a whole image
 unfoldable pub current : List ℕ → Option Standing
 current image = pick (content (block image First)) (content (block image Second))
 

@@ -14,25 +14,26 @@ use crate::slot::{CLOSED, OPEN, Slot};
 use crate::{Root, Slots};
 use rs_disk::{Disk, Fault};
 
-/// Closes both slots of a disk, whatever they hold, and settles them: until a root is put there, the
-/// disk opens to none. Nothing else changes. It makes three device calls, where none fails.
+/// Closes both slots of a disk, with any content, and settles them: until a root is put there, the
+/// disk opens to none. All other bytes stay. It makes three device calls, where none fails.
 ///
 /// The disk has blocks 0 and 1.
 ///
 /// # Errors
-/// [`Fault`] where a device call failed. The gates may then hold anything; elsewhere all is as it was.
+/// [`Fault`] where a device call failed. The gates may then hold anything; all other bytes stay.
 pub fn close_slots<D: Disk>(disk: &mut D) -> Result<(), Fault>
     requires { 1024 ≤ (D.state disk.old).size }
 
-    // Behind the slots a read gives what it gave, and each image at any moment is as one at entry.
+    // A read gives the bytes after the slots as before, and every image at any moment has them as
+    // one at entry.
     ensures runs { WritesSlots (IsErr result) (D.state disk.old) (D.state disk.new) }
     ensures calls { MakesCalls 3 (IsErr result) (D.state disk.old) (D.state disk.new) }
 
-    // Whatever the result, each image at any moment is as one at entry, but for the two gates.
+    // With any result, every image at any moment is as one at entry, except for the two gates.
     ensures gates { Leaves (D.state disk.old) (D.state disk.new)
         (λ _. IsAsBefore (D.state disk.old).now) }
 
-    // After Ok both are closed, and nothing is unsettled.
+    // After Ok both are closed, and all bytes are settled.
     ensures shut { OnOk result (AreShut (D.state disk.new).now) }
     ensures written { OnOk result ((D.state disk.new).now
         ≡ resting (with_closed_gates (D.state disk.old).now.seen)) }
@@ -42,9 +43,9 @@ pub fn close_slots<D: Disk>(disk: &mut D) -> Result<(), Fault>
 }
 
 /// Puts a root into the first slot of a disk whose slots are both closed, as [`close_slots`] leaves
-/// them: settles its bytes behind the closed gate, with all that was written before, and then opens
-/// the gate. Stopped at any moment, each image opens to no root or to this one. It makes four device
-/// calls, where none fails.
+/// them: settles the bytes that follow the closed gate, with all that was written before, and then
+/// opens the gate. Stopped at any moment, every image opens to no root or to this one. It makes
+/// four device calls, where none fails.
 ///
 /// The disk has blocks 0 and 1, and the root has the version that is written,
 /// [`VERSION`](crate::VERSION).
@@ -62,7 +63,7 @@ pub fn open_first<D: Disk>(disk: &mut D, root: &Root) -> Result<Slots, Fault>
         → Leaves (D.state disk.old) (D.state disk.new)
         (λ _. NoneOrRoot (D.state disk.old).now root.now) }
 
-    // After Ok it opens to this one, and nothing is unsettled.
+    // After Ok it opens to this one, and all bytes are settled.
     ensures made { IfOk result
         (λ slots. HoldsFirst root.now slots (D.state disk.old).now (D.state disk.new).now) }
 {
@@ -71,7 +72,7 @@ pub fn open_first<D: Disk>(disk: &mut D, root: &Root) -> Result<Slots, Fault>
     Ok(Slots::fresh(*root))
 }
 
-/// Writes a root and the zeros behind it into the first slot, behind its gate.
+/// Writes a root and zeros to the bytes of the first slot that follow its gate, and syncs.
 fn stage_first<D: Disk>(disk: &mut D, root: &Root) -> Result<(), Fault>
     requires size { 1024 ≤ (D.state disk.old).size }
     requires version { root.now.version ≡ written_version }

@@ -1,8 +1,8 @@
-//! Why slots were not opened, or a root was not replaced.
+//! The causes for which slots are not opened, or a root is not replaced.
 use rs_disk::Fault;
 use thiserror::Error;
 
-/// Why slots were not opened.
+/// The cause for which slots are not opened.
 #[derive(Clone, Copy, Debug, PartialEq, Eq, Error)]
 pub enum SlotFault {
     /// No slot is open, an open one has an unknown version, or both are open with equal
@@ -25,7 +25,7 @@ impl From<Fault> for SlotFault {
     }
 }
 
-/// Why a root was not replaced.
+/// The cause for which a root is not replaced.
 #[derive(Clone, Copy, Debug, PartialEq, Eq, Error)]
 pub enum CommitFault {
     /// The generation of the root has its last value.

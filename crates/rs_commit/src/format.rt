@@ -19,17 +19,18 @@ use rs_extent::BLOCK_SIZE;
 /// device calls.
 ///
 /// # Errors
-/// [`Fault`] where a device call failed. Blocks 0 and 1 may then hold anything; behind them a read
-/// gives what it gave before.
+/// [`Fault`] where a device call failed. Blocks 0 and 1 may then hold anything; a read gives the
+/// bytes after them as before.
 pub fn format_slots<D: Disk>(disk: &mut D, root: &Root) -> Result<Slots, Fault>
     requires size { 1024 ≤ (D.state disk.old).size }
     requires version { root.now.version ≡ written_version }
 
-    // Behind the slots a read gives what it gave, and each image at any moment is as one at entry.
+    // A read gives the bytes after the slots as before, and every image at any moment has them as
+    // one at entry.
     ensures runs { WritesSlots (IsErr result) (D.state disk.old) (D.state disk.new) }
     ensures calls { CallsAtMost 5 (D.state disk.old) (D.state disk.new) }
 
-    // After Ok the first slot holds the root, and nothing is unsettled.
+    // After Ok the first slot holds the root, and all bytes are settled.
     ensures made { IfOk result
         (λ slots. AreMade root.now slots (D.state disk.old).now (D.state disk.new).now) }
 {
@@ -39,7 +40,7 @@ pub fn format_slots<D: Disk>(disk: &mut D, root: &Root) -> Result<Slots, Fault>
     Ok(Slots::fresh(*root))
 }
 
-/// The block of a slot: a closed gate, these bytes, and zeros.
+/// Returns the block of a slot: a closed gate, these bytes, and zeros.
 pub(crate) fn closed_slot(payload: &[u8]) -> [u8; BLOCK_SIZE]
     requires { length payload.now ≤ 511 }
     ensures { result ≡ slot_bytes 0 payload.now }

@@ -1,10 +1,10 @@
-//! The two root slots of a disk. The root changes in one step, at whatever moment a crash comes.
+//! The two root slots of a disk. A crash at any moment leaves the old root or the new one.
 //!
 //! Blocks 0 and 1 of a disk are its root slots. The open slot of the greater generation holds the
-//! [`Root`], which says where the directory lies; the other slot is the spare. [`Slots::commit`]
-//! puts the next root into the spare, and orders its writes and syncs so that each image of a crash
-//! opens to the old root or to the new one. [`format_slots`] makes the slots,
-//! [`open_slots`] reads them, and [`laws`] states what follows from their definition alone.
+//! [`Root`], which names the place of the directory; the other slot is the spare. [`Slots::commit`]
+//! puts the next root into the spare, and orders its writes and syncs so that every image of a
+//! crash opens to the old root or to the new one. [`format_slots`] makes the slots, [`open_slots`]
+//! reads them, and [`laws`] states the consequences of their definition alone.
 #![tactic(auto)]
 
 mod copying;

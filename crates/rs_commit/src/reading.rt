@@ -13,8 +13,8 @@ use rs_extent::BLOCK_SIZE;
 
 /// Reads the slots of a disk, and their root.
 ///
-/// It changes nothing, and makes at most two device calls. A slot is a whole block: a disk of
-/// less than 512 bytes has no slot, and one of less than 1,024 bytes no second one.
+/// It leaves the disk as it is, and makes at most two device calls. A slot is a whole block: a disk
+/// of less than 512 bytes has no slot, and one of less than 1,024 bytes no second one.
 ///
 /// # Errors
 /// - [`SlotFault::NotASource`] where no slot is open, where an open one has an unknown version, and
@@ -64,7 +64,7 @@ fn read_slot<D: Disk>(disk: &mut D, slot: Slot) -> Result<SlotContent, Fault>
     Ok(content(&bytes))
 }
 
-/// What the first 54 bytes of a slot say; the others are never read.
+/// Returns the content of a slot by its first 54 bytes; the others are never read.
 fn content(bytes: &[u8; 54]) -> SlotContent
     ensures { (block : List ℕ) → length block ≡ block_size → bytes.now ≡ take 54 block
         → result ≡ content_of block }

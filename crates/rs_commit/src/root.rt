@@ -9,20 +9,20 @@ use rs_extent::Extent;
 /// The version of the format that formatting and every commit write. Versions 1 and 2 are known.
 pub const VERSION: u8 = 2;
 
-/// Whether this version of the format is known.
+/// Returns whether this version of the format is known.
 pub(crate) fn is_known(version: u8) -> bool
     ensures { result ≡ known version }
 {
     1 <= version && version <= VERSION
 }
 
-/// What an open slot holds: the number of its commit, and where the directory lies.
+/// The content of an open slot: the number of its commit, and the place of the directory.
 #[derive(Clone, Copy, Debug, PartialEq, Eq)]
 pub struct Root {
     /// The version of the format, 1 or 2, by which its directory is read.
     pub version: u8,
-    /// One more than the generation of the root before it. Of two open slots, the one with the
-    /// greater generation holds the root.
+    /// The number of the commit, one more than that of the root before it. If both slots are
+    /// open, the greater generation is the current root.
     pub generation: u64,
     /// The blocks of the directory.
     pub directory: Extent,
@@ -32,7 +32,7 @@ pub struct Root {
     pub sha256: [u8; 32],
 }
 
-/// Bytes 1 to 53 of a slot that holds this root.
+/// Returns bytes 1 to 53 of a slot that holds this root.
 pub(crate) fn payload(root: Root) -> [u8; 53]
     requires { IsTrue (known root.version) }
     ensures bytes { result ≡ payload_of root }
@@ -56,7 +56,7 @@ pub(crate) fn put(bytes: &mut [u8], at: usize, field: &[u8])
     bytes[at..at + field.len()].copy_from_slice(field);
 }
 
-/// The root in the first 54 bytes of a slot. Its numbers are big endian.
+/// Returns the root in the first 54 bytes of a slot. Its numbers are big endian.
 pub(crate) fn root_in(bytes: &[u8; 54]) -> Root
     ensures version { result.version ≡ version_of bytes.now }
     ensures generation { result.generation ≡ from_be_bytes w64 (field_of bytes.now 2 8) }
@@ -77,7 +77,7 @@ pub(crate) fn root_in(bytes: &[u8; 54]) -> Root
     }
 }
 
-/// The `N` bytes from `at` on.
+/// Returns the `N` bytes from `at` on.
 fn field<const N: usize>(bytes: &[u8], at: usize) -> [u8; N]
     requires { at + N ≤ length bytes.now }
     ensures { result ≡ field_of bytes.now at N }

@@ -1,4 +1,4 @@
-//! One of the two slots, and what it says.
+//! One of the two slots, and its content.
 ghost use Rattle.std.specs.Prelude.{◌≡◌};
 ghost use Rattle.rs_commit.specs.Slots.{offset as offset_of, other as other_of};
 
@@ -19,7 +19,7 @@ pub(crate) enum Slot {
 }
 
 impl Slot {
-    /// The other slot.
+    /// Returns the other slot.
     pub(crate) fn other(self) -> Slot
         ensures { result ≡ other_of self }
     {
@@ -29,7 +29,7 @@ impl Slot {
         }
     }
 
-    /// Where the slot begins, in bytes.
+    /// Returns the offset of the slot, in bytes.
     pub(crate) fn offset(self) -> u64
         ensures { result ≡ offset_of self }
     {
@@ -40,10 +40,10 @@ impl Slot {
     }
 }
 
-/// What a slot says.
+/// The content of a slot.
 #[derive(Clone, Copy)]
 pub(crate) enum SlotContent {
-    /// Nothing: its gate is closed, or the disk has no such block.
+    /// No root: its gate is closed, or the disk has no such block.
     Closed,
     /// It is open, and its version is not known.
     Unknown,

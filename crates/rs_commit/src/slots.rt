@@ -37,14 +37,14 @@ impl Model for Slots {
 }
 
 impl Slots {
-    /// The root.
+    /// Returns the root.
     pub fn root(&self) -> Root
         ensures { result ≡ self.now.root }
     {
         self.root
     }
 
-    /// The slots as they are made: the first one holds the root, and the spare is closed.
+    /// Returns the slots as they are made: the first one holds the root, and the spare is closed.
     pub(crate) fn fresh(root: Root) -> Slots
         ensures { result ≡ fresh root }
     {
@@ -55,7 +55,7 @@ impl Slots {
         }
     }
 
-    /// The slots that say this, or `None` where they hold no root.
+    /// Returns the slots with these contents, or `None` where they hold no root.
     pub(crate) fn of(first: SlotContent, second: SlotContent) -> Option<Slots>
         ensures { result ≡ pick first second }
     {
@@ -75,7 +75,7 @@ impl Slots {
         }
     }
 
-    /// The slots where both are open.
+    /// Returns the slots where both are open, or `None` where the generations are equal.
     fn newer(first: Root, second: Root) -> Option<Slots>
         ensures { result ≡ newer_of first second }
     {
@@ -91,16 +91,17 @@ impl Slots {
         })
     }
 
-    /// Replaces the root by one of the next generation, in one step: stopped at any moment, each
+    /// Replaces the root by one of the next generation, in one step: stopped at any moment, every
     /// image opens to the old root or to the new one. The new root has the version
-    /// [`VERSION`](crate::VERSION), whatever version the old one has.
+    /// [`VERSION`](crate::VERSION), for any version of the old one.
     ///
     /// The disk has blocks 0 and 1. The promise holds where the slots are as a read gives them and
     /// both blocks are settled (`IsReady`): after [`open_slots`](crate::open_slots) on a synced
-    /// disk, and after each successful commit. It makes at most six device calls.
+    /// disk, and after every successful commit. It makes at most six device calls.
     ///
     /// # Errors
-    /// - [`CommitFault::Exhausted`] exactly where the generation has its last value. Nothing changes.
+    /// - [`CommitFault::Exhausted`] exactly where the generation has its last value. The disk and the slots stay as
+    ///   they are then.
     /// - [`CommitFault::Device`] where a device call failed. Sync the disk and open the slots again
     ///   before the next commit.
     pub fn commit<D: Disk>(
@@ -112,7 +113,7 @@ impl Slots {
     ) -> Result<(), CommitFault>
         requires { 1024 ≤ (D.state disk.old).size }
 
-        // On every device, whatever the slots are: nothing behind them is written.
+        // On every device, and for any state of the slots: no byte after them is written.
         ensures runs { WritesSlots (IsErrOf result CommitFault.Device) (D.state disk.old)
             (D.state disk.new) }
         ensures calls { CallsAtMost 6 (D.state disk.old) (D.state disk.new) }
@@ -122,12 +123,12 @@ impl Slots {
             → Leaves (D.state disk.old) (D.state disk.new) (λ _. OldOrNew (D.state disk.old).now
             self.old.root (next self.old.root directory length sha256.now)) }
 
-        // After Ok it opens to the new one, nothing is unsettled, and another commit may follow.
+        // After Ok it opens to the new one, all bytes are settled, and another commit may follow.
         ensures committed { OnOk result
             (Committed (next self.old.root directory length sha256.now) self.old self.new
             (D.state disk.old).now (D.state disk.new).now) }
 
-        // Where no generation is left, nothing changes.
+        // Where no generation is left, the disk and the slots stay as they are.
         ensures exhausted { IsErrOf result CommitFault.Exhausted
             ↔ (2 ^ 64 ≤ self.old.root.generation + 1) }
         ensures untouched { IsErrOf result CommitFault.Exhausted
@@ -190,7 +191,7 @@ fn close_gate<D: Disk>(disk: &mut D, slot: Slot, is_open: bool) -> Result<(), Fa
     Ok(())
 }
 
-/// Writes a root into a slot, behind its gate.
+/// Writes a root to the bytes of a slot that follow its gate.
 fn write_behind<D: Disk>(disk: &mut D, slot: Slot, root: Root) -> Result<(), Fault>
     requires size { 1024 ≤ (D.state disk.old).size }
     requires lawful { IsLawfulRoot root }

@@ -1,4 +1,4 @@
--- What copying answers, by what the writing left.
+-- The answer of copying, by the result of the writing.
 use Rattle.std.proofs.Common.{◌≡◌, inl, inr, ◌<◌, ℕ, Result, Ok, Err, refl, sym, subst}
 use Rattle.rs_commit.specs.declared.root.Root.{Root}
 use Rattle.rs_commit.specs.Commit.{IsReady}

@@ -38,7 +38,7 @@ pub not_yet : (old new : DiskState) (P : List ℕ → Type 0) (Q : ℕ → List 
 not_yet old new P Q left short =
     record { later = left.later; before = left.before; each = λ m image from until at late. absurd (omega (arith, until, late, short)) }
 
--- What a copy leaves that ended in a fault.
+-- The effect of a copy that ended in a fault.
 pub ends_badly : {S : Type 0} {c : Contents} {l l' : Layout} {old new : Disks} (result : Result Standing CopyFault) (fault : CopyFault) → IsErrAnd result (λ y. y ≡ fault)
     → RunsCopying (IsErrOf {T = S} (Err fault) Device) old new → CallsAtMost (calls_for (records_of c.catalogue)) old.from new.from → IsOfWriting fault
     → (IsErrOf {T = S} (Err fault) Damaged → IsTrue new.from.honest → ¬ All (HasItsBody old.from.now.seen) (records_of c.catalogue))
@@ -63,7 +63,7 @@ ends_badly {S} (Err y) fault handed runs once of damaged any settled =
       settled = settled;
     }
 
--- What stands behind the slots of the second disk.
+-- The content of the second disk after the slots.
 module _ (c : Contents) (l : Layout) (size size' : ℕ) (laid : IsLaidOut size c l.contents l.directory l.used) (behind : IsBehindRoot size' c)
     (seen : List ℕ) (long : length seen ≡ size) (stands : CopyStands l.contents l.directory seen) where
   whole_here : IsWhole (length seen) (copied_root l.directory (all_stored l.contents)) (all_stored l.contents)
@@ -71,7 +71,7 @@ module _ (c : Contents) (l : Layout) (size size' : ℕ) (laid : IsLaidOut size c
       subst (λ (n : ℕ). IsWhole n (copied_root l.directory (all_stored l.contents)) (all_stored l.contents)) (sym long)
       (whole_copied size c l.contents l.directory l.used laid size' behind.root behind.whole stands.listed.long)
 
-  -- once the root is in the first slot, each image tells the copied state
+  -- once the root is in the first slot, it determines the copied state in every image
   pub told_there : (s : Source) (m : Medium) (new image : List ℕ) → Tells (copied_root l.directory (all_stored l.contents)) (all_stored l.contents) seen s
       → m ≡ resting new → SameBehind m.seen seen → IsImage m image → Tells (copied_root l.directory (all_stored l.contents)) (all_stored l.contents) image s
   told_there s m new image tells made same at =
@@ -80,7 +80,7 @@ module _ (c : Contents) (l : Layout) (size size' : ℕ) (laid : IsLaidOut size c
       subst (λ (l' : List ℕ). Tells (copied_root l.directory (all_stored l.contents)) (all_stored l.contents) l' s) (sym is)
       (tells_behind (copied_root l.directory (all_stored l.contents)) (all_stored l.contents) seen m.seen s (turned m.seen seen same) tells)
 
-  -- each body has its SHA-256 there
+  -- every body has its SHA-256 there
   pub intact_there : (new : List ℕ) → SameBehind new seen → All (HasItsBody seen) (records_of l.contents.catalogue) → All (HasItsBody new) (records_of (all_stored l.contents).catalogue)
   intact_there new same intact =
       let has = room size c l.contents l.directory l.used laid in
@@ -97,7 +97,7 @@ module _ (c : Contents) (l : Layout) (size size' : ℕ) (laid : IsLaidOut size c
       subst (λ (k : ℕ). MemoryIsSound (rooted k (copied_root l.directory (all_stored l.contents)) (all_stored l.contents)) l.used) (sym is)
       (sound_copied size c l.contents l.directory l.used laid size' behind.root behind.whole room stands.listed.long stands.listed.listable)
 
--- What holds of a copy once everything but its root is written.
+-- The facts about a copy once everything except its root is written.
 pub record Reached (c : Contents) (l : Layout) (old new : Disks) : Type 0 where
   pub runs : RunsCopying ⊥ old new
   pub long : length new.to.now.seen ≡ old.to.size

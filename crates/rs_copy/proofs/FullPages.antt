@@ -35,7 +35,7 @@ pub full_items : {T : Type 0} (items : List T) → items_of (full_pages items) �
 full_items [] = refl
 full_items (x ∷ xs) = pieces_items (length (x ∷ xs)) 64 (x ∷ xs)
 
--- None of them has a place.
+-- No page has a place.
 touched_unplaced : {T : Type 0} (pieces : List (List T)) → placed_extents (map touched pieces) ≡ []
 touched_unplaced [] = refl
 touched_unplaced (piece ∷ pieces) = touched_unplaced pieces
@@ -57,7 +57,7 @@ pub full_extents : {T : Type 0} (format : ItemFormat T) (used used' : List Bool)
     → extents_of (stored_refs (stored format ys)) ≡ placed_extents ys
 full_extents format used used' items ys places = placed_extents_are format used used' (cut_full items) ys places
 
--- .. each has blocks, ..
+-- .. all have blocks, ..
 abbrev pub HasBlocks : PageRef → Type 0
 HasBlocks ref = 1 ≤ ref.extent.blocks
 
@@ -75,7 +75,7 @@ pub full_blocks : {T : Type 0} (format : ItemFormat T) (used used' : List Bool) 
     → All HasBlocks (stored_refs (stored format ys))
 full_blocks format used used' items ys places = placed_blocks format used used' (cut_full items) ys places
 
--- .. and none of them is on the disk before.
+-- .. and no page is on the disk before.
 placed_stand : {T : Type 0} (format : ItemFormat T) (image : List ℕ) (used used' : List Bool) (pieces : List (List T)) (ys : List (Page T))
     → Places format used (map touched pieces) used' ys → All (Stands format image) ys
 placed_stand format image used used' [] [] places = All-nil (Stands format image)
@@ -89,7 +89,7 @@ pub full_stand : {T : Type 0} (format : ItemFormat T) (image : List ℕ) (used u
     → Places format used (full_pages items) used' ys → All (Stands format image) ys
 full_stand format image used used' items ys places = placed_stand format image used used' (cut_full items) ys places
 
--- Pages that have blocks are not shared with pages that have none of them.
+-- A page that has blocks is not shared with pages that have none of these blocks.
 alone : (ref : PageRef) (others : List PageRef) → HasBlocks ref → AreDisjoint (within ref.extent) (in_some (extents_of others))
     → list_any (same_page ref) others ≡ false
 alone ref others some apart =

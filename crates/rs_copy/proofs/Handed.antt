@@ -3,7 +3,7 @@ use Rattle.std.proofs.Common.{◌≡◌, Result, Ok, Err, sym, ◌∙◌, subst}
 use Rattle.std.specs.Prelude.{OnOk, OnErr, IfOk, IfErr, IsErrOf}
 use Rattle.std.specs.Result.{IsErrAnd}
 
--- what was handed on is this fault
+-- the fault that was handed on is this fault
 pub handed_on : {T E : Type 0} (r : Result T E) (e fault : E) → IsErrAnd r (λ y. y ≡ e) → IsErrOf r fault → e ≡ fault
 handed_on (Ok x) e fault handed is = absurd handed
 handed_on (Err y) e fault handed is = let same : y ≡ fault = cc in sym handed ∙ same
@@ -26,7 +26,7 @@ pub no_err : {T E : Type 0} (P : E → Type 0) (r : Result T E) (fault : E) → 
 no_err P (Ok x) fault others none is = absurd cc
 no_err P (Err e) fault others none is = let same : e ≡ fault = cc in none (subst P same others)
 
--- what follows from a fact of success is one
+-- a consequence of a fact of success is a fact of success
 pub on_ok : {T E : Type 0} {P Q : Type 0} (r : Result T E) → (P → Q) → OnOk r P → OnOk r Q
 on_ok (Ok x) f p = f p
 on_ok (Err e) f p = tt
@@ -43,7 +43,7 @@ pub both_ok : {T E : Type 0} {P R : T → Type 0} {Q : Type 0} (r : Result T E) 
 both_ok (Ok x) f p q = f x p q
 both_ok (Err e) f p q = tt
 
--- what holds either way
+-- a fact that holds in both cases is a fact of success
 pub either_way : {T E P : Type 0} (r : Result T E) → P → OnOk r P
 either_way (Ok x) p = p
 either_way (Err e) p = tt

@@ -24,7 +24,7 @@ use Rattle.rs_copy.proofs.FullPages.{full_items, full_unplaced}
 use Rattle.rs_copy.proofs.Records.{IsSizedRecord}
 use Rattle.rs_copy.proofs.Taking.{all_taken, given, taken_sized}
 
--- the pages of each list are among those of all
+-- the pages of every list are among those of all lists
 pub among_first : (c : Contents) → IsSubset (in_some (placed_extents c.catalogue)) (in_some (pages_in c))
 among_first c b is =
     some_front (placed_extents c.catalogue ++ placed_extents c.history.pages) (placed_extents c.published) b (some_front (placed_extents c.catalogue) (placed_extents c.history.pages) b is)
@@ -36,7 +36,7 @@ among_second c b is =
 pub among_last : (c : Contents) → IsSubset (in_some (placed_extents c.published)) (in_some (pages_in c))
 among_last c b is = some_behind (placed_extents c.catalogue ++ placed_extents c.history.pages) (placed_extents c.published) b is
 
--- .. and pages and bodies among all that is written
+-- .. and pages and bodies are among the written extents
 pub pages_among : (c : Contents) (directory : Extent) → IsSubset (in_some (pages_in c)) (in_some (written_in c directory))
 pages_among c directory b is = some_rest directory (pages_in c ++ bodies_of (records_of c.catalogue)) b (some_front (pages_in c) (bodies_of (records_of c.catalogue)) b is)
 
@@ -60,7 +60,7 @@ module _ (size : ℕ) (c placed : Contents) (directory : Extent) (used : List Bo
   abbrev all_places : List Extent
   all_places = written_in placed directory
 
-  -- the lists hold what those of a copy hold
+  -- the lists have the items of a copy's lists
   records_are : records_of placed.catalogue ≡ with_extents (records_of c.catalogue) laid.bodies
   records_are =
       places_items record_format laid.after_bodies laid.lists.after_catalogue (copied_lists c laid.bodies).catalogue placed.catalogue laid.lists.catalogue
@@ -87,7 +87,7 @@ module _ (size : ℕ) (c placed : Contents) (directory : Extent) (used : List Bo
   pub records_sized : All IsSizedRecord (records_of placed.catalogue)
   records_sized = subst (All IsSizedRecord) (sym records_are) were_given.2
 
-  -- each part takes blocks
+  -- every part takes blocks
   bodies_taken : AreTaken laid.start laid.after_bodies (bodies_of (records_of placed.catalogue))
   bodies_taken =
       subst (λ (es : List Extent). AreTaken laid.start laid.after_bodies es)
@@ -111,7 +111,7 @@ module _ (size : ℕ) (c placed : Contents) (directory : Extent) (used : List Bo
       (taken_before laid.start laid.after_bodies laid.lists.after_published (pages_in placed) (bodies_of (records_of placed.catalogue)) bodies_taken pages_taken)
       (taken_lowest laid.lists.after_published used (blocks_of (directory_bytes_of (copied_lists c laid.bodies))) directory laid.lists.last)
 
-  -- so all of it lies behind the slots on the disk
+  -- so all parts lie on the disk after the slots
   not_slots : (b : ℕ) → in_some all_places b ≡ true → is_slot b ≡ false
   not_slots b is =
       let lt : b < blocks_of_disk size = omega (arith, taken.inside b is, laid.slots_alone.blocks) in
@@ -123,7 +123,7 @@ module _ (size : ℕ) (c placed : Contents) (directory : Extent) (used : List Bo
   on_disk : (b : ℕ) → in_some all_places b ≡ true → 512 * b + 512 ≤ size
   on_disk b is = block_fits size b (inside b is).1
 
-  -- the directory is as long as it was taken for
+  -- the directory has the length for which it took blocks
   long_as : directory_bytes_of placed ≡ directory_bytes_of (copied_lists c laid.bodies)
   long_as =
       let lists = copied_lists c laid.bodies in

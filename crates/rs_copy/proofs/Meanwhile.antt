@@ -1,4 +1,4 @@
--- What each image of the second disk tells while a source is copied to it.
+-- The images of the second disk while a source is copied to it.
 use Rattle.std.proofs.Common.{◌≡◌, ◌⊎◌, inl, inr, ℕ, ◌+◌, ◌*◌, ◌/◌, ◌%◌, ◌<◌, ◌≤◌, true, false, nat_lt, List, take, get_or, None, sym, ◌∙◌, subst, arith, length-take}
 use Rattle.std.proofs.lemmas.Bool.Decides.{nat_tests}
 use Rattle.std.proofs.lemmas.List.{ext_get_or, get_or-take}
@@ -20,7 +20,7 @@ use Rattle.rs_copy.specs.Copying.{is_slot}
 is_low : (b : ℕ) → b < 2 → nat_lt b 2 ≡ true
 is_low b lt = grind (arith, nat_tests)
 
--- blocks 0 and 1 stay where what is written is behind them
+-- blocks 0 and 1 stay if all written blocks lie after them
 same_front : {X : Type 0} (old new : List X) (d : X) → ((b i : ℕ) → is_slot b ≡ true → i < 512 → get_or new (512 * b + i) d ≡ get_or old (512 * b + i) d) → (i : ℕ) → i < 1024
     → get_or new i d ≡ get_or old i d
 same_front old new d same i lt =
@@ -36,20 +36,20 @@ front_kept old new keeps = ext_get_or 0 (take 1024 new) (take 1024 old)
 pub turned : (one two : List ℕ) → SameBehind one two → SameBehind two one
 turned one two same = record { size = sym same.size; bytes = sym same.bytes }
 
--- an image tells no root, or the state, or is as before but for the gates
+-- an image has no root, or represents the state, or is as before except for the gates
 abbrev pub MayTell : Source → DiskState → List ℕ → Type 0
 MayTell s old image = NoneOrState s image ⊎ IsAsBefore old.now image
 
--- from the third call on an image tells no root, or the state
+-- from the third call on an image has no root, or represents the state
 abbrev pub OnceShut : Source → DiskState → ℕ → List ℕ → Type 0
 OnceShut s old m image = old.calls + 3 ≤ m → NoneOrState s image
 
--- What each image from `old` to `new` tells, where the slots were shut in between.
+-- The content of every image from `old` to `new`, if the slots were shut in between.
 pub record TellsMeanwhile (s : Source) (old new : DiskState) : Type 0 where
   pub any : Leaves old new (λ _. MayTell s old)
   pub none : Leaves old new (OnceShut s old)
 
--- From the moment that the slots are closed each image tells no root, until a root is put there.
+-- From the moment when the slots are closed no image has a root, until a root is put there.
 module _ (none : ShutTellsNone) (old one two : DiskState) (is : IsMedium one.size one.now) (shut : AreShut one.now)
     (closing : Leaves old one (λ _. IsAsBefore old.now)) (calls : one.calls ≡ old.calls + 3) (writing : WritesOutside is_slot one two) where
   none_meanwhile : (image : List ℕ) → KeptFrom is_slot one.now image → current image ≡ None
@@ -71,7 +71,7 @@ module _ (none : ShutTellsNone) (old one two : DiskState) (is : IsMedium one.siz
   shut_still stays =
       stays one.now two.now (front_kept one.now.seen two.now.seen writing.seen) (same_front one.now.unsettled two.now.unsettled false writing.marks.same) shut
 
--- From then on each image tells no root, or represents the state that the root tells.
+-- From then on every image has no root, or represents the state that the root determines.
 pub opened : {old two new : DiskState} (s : Source) (root : Root) (c : Contents) → TellsMeanwhile s old two → Leaves two new (λ _. NoneOrRoot two.now root) → Tells root c two.now.seen s
     → TellsMeanwhile s old new
 opened {old} {two} {new} s root c so_far opening tells = record {

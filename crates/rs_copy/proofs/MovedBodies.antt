@@ -27,7 +27,7 @@ use Rattle.rs_copy.specs.Copies.{Disks, HasItsBody, calls_for}
 use Rattle.rs_copy.specs.Copying.{CopiesBodies, HasPlace}
 use Rattle.rs_copy.proofs.Handed.{handed_err}
 
--- Bodies stay where their blocks hold what they held.
+-- Bodies stay if the content of their blocks stays.
 pub bodies_stay : (kept : ℕ → Bool) (size : ℕ) (rs : List Record) (old new : List ℕ) → All (HasPlace size) rs → ((b : ℕ) → in_some (bodies_of rs) b ≡ true → kept b ≡ true) → Keeps kept old new
     → (map (held_in new) rs ≡ map (held_in old) rs) × (All (HasItsBody old) rs → All (HasItsBody new) rs)
 bodies_stay kept size [] old new places all keeps = (refl, λ intact. All-nil (HasItsBody new))
@@ -52,7 +52,7 @@ at_place rs i r at =
 pub take_one_more : (rs : List Record) (i : ℕ) (r : Record) → slice_get rs i ≡ Some r → take (i + 1) rs ≡ take i rs ++ r ∷ []
 take_one_more rs i r at = take_more rs i r (slice_get_within rs i r at) ∙ ap (λ (x : Record). take i rs ++ x ∷ []) (get_or_from_slice_get rs i r r at)
 
--- one body more, read once
+-- one more body, read once
 pub read_once_more : (rs : List Record) (i : ℕ) (r : Record) → slice_get rs i ≡ Some r → (old mid new : DiskState) → CallsAtMost (calls_for (take i rs)) old mid
     → CallsAtMost ((r.length + 16383) / 16384) mid new → CallsAtMost (calls_for (take (i + 1) rs)) old new
 read_once_more rs i r at old mid new before one =
@@ -60,7 +60,7 @@ read_once_more rs i r at old mid new before one =
     let more : calls_for (take (i + 1) rs) ≡ calls_for (take i rs) + calls r = ap calls_for (take_one_more rs i r at) ∙ sum_by_push calls (take i rs) r in
     omega (arith, more, before, one)
 
--- the first bodies, of all
+-- the first bodies, among all bodies
 pub read_among : (rs : List Record) (i : ℕ) (old new : DiskState) → CallsAtMost (calls_for (take i rs)) old new → CallsAtMost (calls_for rs) old new
 read_among rs i old new once =
     let few : calls_for (take i rs) ≤ calls_for rs = sum_by-take-le (λ x. (x.length + 16383) / 16384) rs i in
@@ -72,13 +72,13 @@ around rs i r at = ap bodies_of (at_place rs i r at) ∙ map-append (λ (x : Rec
 pub each_of : (P : Record → Type 0) (rs : List Record) (i : ℕ) (r : Record) → slice_get rs i ≡ Some r → All P rs → P r
 each_of P rs i r at all = subst P (get_or_from_slice_get rs i r r at) (All-get_or P rs i r (slice_get_within rs i r at) all)
 
--- What ends in a fault copied no bodies.
+-- A result that is a fault copied no bodies.
 pub ends_bodies : {S T : Type 0} {rs moved : List Record} {old new : Disks} (r : Result T CopyFault) (e : CopyFault) → IsErrAnd r (λ y. y ≡ e)
     → (IsErrOf {T = S} (Err e) Damaged → IsTrue new.from.honest → ¬ All (HasItsBody old.from.now.seen) rs) → CopiesBodies rs moved old new r
 ends_bodies (Ok x) e handed damaged = absurd handed
 ends_bodies {S} (Err y) e handed damaged = record { copied = tt; intact = tt; damaged = λ is. damaged (handed_err {S = S} (Err y) e Damaged handed is) }
 
--- The blocks of a body are among those of all, and beside those of the bodies before it.
+-- The blocks of a body are among those of all bodies, and outside those of the bodies before it.
 pub body_among : (rs : List Record) (i : ℕ) (r : Record) → slice_get rs i ≡ Some r → IsSubset (in_some (r.extent ∷ [])) (in_some (bodies_of rs))
 body_among rs i r at b is =
     let rest = bodies_of (drop (i + 1) rs) in

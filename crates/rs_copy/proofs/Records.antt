@@ -55,7 +55,7 @@ held_moved rs moved all held =
       room = omega (arith, AllZip-long IsMoved rs moved all, held.room);
     }
 
--- but for their blocks their entries are the same
+-- their entries are the same; only the blocks differ
 pub entries_moved : (rs moved : List Record) → AllZip IsMoved rs moved → map entry_of moved ≡ map entry_of rs
 entries_moved [] [] all = refl
 entries_moved [] (m ∷ moved) all = absurd all
@@ -63,7 +63,7 @@ entries_moved (r ∷ rs) [] all = absurd all
 entries_moved (r ∷ rs) (m ∷ moved) all =
     ap₂ (λ (e : List ℕ × Entry) (es : List (List ℕ × Entry)). e ∷ es) (ap entry_of all.0) (entries_moved rs moved all.1)
 
--- they are sound where their extents are of their sizes
+-- they are sound if their extents are of their sizes
 abbrev pub IsSizedRecord : Record → Type 0
 IsSizedRecord r = IsSized r.extent r.length
 

@@ -1,4 +1,4 @@
--- A disk that has a layout had room: there is one lowest run of a length, so where each part took its run, each had one.
+-- A disk that has a layout had room: a length has only one lowest run, so every part that took its run had one.
 use Rattle.std.proofs.Common.{◌≡◌, inl, inr, ◌<◌, ℕ, zero, suc, Bool, true, List, [], ◌∷◌, ◌++◌, map, refl, sym, ◌∙◌, ap₂, subst, arith, append_assoc}
 use Rattle.std.proofs.lemmas.Bool.{cases_lt}
 use Rattle.std.proofs.lemmas.List.{ext_get_or}
@@ -24,7 +24,7 @@ use Rattle.rs_copy.specs.Laying.{as_published, with_extents, copied_lists, recor
 abbrev pub directory_needed : Contents → List ℕ
 directory_needed c = blocks_of (directory_bytes_of c) ∷ []
 
--- The lowest run of a length is one.
+-- A length has only one lowest run.
 not_lower : (used : List Bool) (n : ℕ) (e f : Extent) → IsLowest used n e → IsLowest used n f → e.first < f.first → ⊥
 not_lower used n e f a b lower = b.lowest e.first lower (λ i from until. a.is_free i from (omega (arith, until, a.blocks)))
 
@@ -41,7 +41,7 @@ first_once : (used one other : List Bool) (n : ℕ) (e f : Extent) → Takes use
 first_once used one other zero e f a b = a.nowhere refl ∙ sym (b.nowhere refl)
 first_once used one other (suc n) e f a b = lowest_once used (suc n) e f (a.lowest (omega arith)) (b.lowest (omega arith))
 
--- So what takes it takes one extent, and leaves one set.
+-- So taking it gives only one extent, and leaves only one set of used blocks.
 extent_once : (used one other : List Bool) (n : ℕ) (e f : Extent) → Takes used n e one → Takes used n f other → e ≡ f
 extent_once used one other n e f a b =
     let first : e.first ≡ f.first = first_once used one other n e f a b in
@@ -54,7 +54,7 @@ set_once used one other n e f a b =
     (subst (λ (x : Extent). AreTaken used one (x ∷ [])) (extent_once used one other n e f a b) (taken_lowest used one n e a))
     (taken_lowest used other n f b)
 
--- The same of runs that are taken in turn.
+-- The same for runs that are taken in turn.
 each_once : (used one other : List Bool) (ns : List ℕ) (es fs : List Extent) → TakesEach used ns es one → TakesEach used ns fs other → (es ≡ fs) × (one ≡ other)
 each_once used one other [] [] [] a b = (refl, a ∙ sym b)
 each_once used one other [] [] (f ∷ fs) a b = absurd b
@@ -67,11 +67,11 @@ each_once used one other (n ∷ ns) (e ∷ es) (f ∷ fs) a b =
     let rest = each_once a.0 one other ns es fs a.2 (subst (λ (u : List Bool). TakesEach u ns fs other) sets b.2) in
     (ap₂ (λ (x : Extent) (l : List Extent). x ∷ l) same rest.0, rest.1)
 
--- What took a run had one.
+-- A part that took a run had one.
 had_run : (used after : List Bool) (n : ℕ) (e : Extent) → Takes used n e after → HasNoRun used n → ⊥
 had_run used after n e takes none = none.1 e.first (λ b from until. (takes.lowest none.0).is_free b from (omega (arith, until, takes.blocks)))
 
--- Where there is no room from one thing on, and it took its run, there is none from the next one on.
+-- If there is no room from one part on, and that part took its run, there is no room from the next part on.
 room_behind : (used after : List Bool) (n : ℕ) (e : Extent) (rest : List ℕ) → Takes used n e after → HasNoRoom used (n ∷ rest) → HasNoRoom after rest
 room_behind used after n e rest takes none = elim none [
   | inl here ↦ absurd (had_run used after n e takes here)
@@ -99,13 +99,13 @@ pages_behind format used used' (piece ∷ pieces) (y ∷ ys) rest places none =
     (room_behind used places.0 (blocks_needed format piece) places.1.1.extent (pages_needed format (map touched pieces) ++ rest)
     (page_takes format used places.0 piece y places.1) none)
 
--- what is needed, list for list
+-- the needed numbers of blocks, list for list
 pub needed_in_turn : (c : Contents) → copy_needed c ≡ pages_needed record_format c.catalogue ++ (pages_needed change_format c.history.pages ++ (pages_needed record_format c.published ++ directory_needed c))
 needed_in_turn c =
     append_assoc (pages_needed record_format c.catalogue ++ pages_needed change_format c.history.pages) (pages_needed record_format c.published) (directory_needed c)
     ∙ append_assoc (pages_needed record_format c.catalogue) (pages_needed change_format c.history.pages) (pages_needed record_format c.published ++ directory_needed c)
 
--- The lists and their directory took theirs.
+-- The lists and their directory took their runs.
 lists_had_room : (used after : List Bool) (c placed : Contents) (bodies : List Extent) (directory : Extent)
     → ArePlacedInTurn used (copied_lists c bodies) placed directory after → HasNoRoom used (copy_needed (copied_lists c bodies)) → ⊥
 lists_had_room used after c placed bodies directory t none =
@@ -124,7 +124,7 @@ lists_had_room used after c placed bodies directory t none =
     pages_behind record_format t.after_history t.after_published (cut_full (map (as_published held) (records_of c.published))) placed.published d t.published two in
     room_behind t.after_published after (blocks_of (directory_bytes_of lists)) directory [] t.last three
 
--- Of a size there is one set with the slots used alone.
+-- A size has only one set in which only the slots are used.
 slots_once : (size : ℕ) (one other : List Bool) → HasSlotsAlone size one → HasSlotsAlone size other → one ≡ other
 slots_once size one other a b =
     ext_get_or true one other (a.blocks ∙ sym b.blocks)

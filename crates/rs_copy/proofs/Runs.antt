@@ -1,4 +1,4 @@
--- Runs of calls of both disks of a copy: of one disk alone, one after another, and with another answer.
+-- Runs of calls of both disks of a copy: of one disk, one after another, and with another answer.
 use Rattle.std.proofs.Common.{◌≡◌, inl, inr, ◌≤◌, List, Result, Err, refl, ◌∙◌, arith}
 use Rattle.std.specs.Prelude.{IsErrOf}
 use Rattle.std.specs.Result.{IsErrAnd}
@@ -27,7 +27,7 @@ copying_as to from run = record {
   stops = run.stops;
 }
 
--- behind a run without a failed call
+-- after a run without a failed call
 stops_behind : (old mid new : DiskState) → mid.faults ≡ old.faults → mid.faults ≤ new.faults → StopsAtFault old mid → StopsAtFault mid new → StopsAtFault old new
 stops_behind old mid new same up one two =
     let no_further : GoesNoFurther old mid new = λ rose. absurd (omega (arith, rose, same)) in
@@ -67,7 +67,7 @@ copying_write from old new run = record {
   stops = record { from = (reading_none {A = ⊥} from (λ none. none)).stops; to = run.stops; one = λ rose. absurd (omega (arith, rose)) };
 }
 
--- The same where the second disk is written in some extents alone.
+-- The same for runs that write only some extents of the second disk.
 pub copies_as : {A B : Type 0} {xs : List Extent} {old new : Disks} → (A → B) → (B → A) → CopiesOnly xs A old new → CopiesOnly xs B old new
 copies_as to from run = record { runs = copying_as to from run.runs; outside = run.outside }
 

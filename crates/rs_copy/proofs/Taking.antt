@@ -37,7 +37,7 @@ all_taken old new (n ∷ ns) (e ∷ es) taken = taken_both old taken.0 new (e �
 pub taken_sized : (old new : List Bool) (n : ℕ) (e : Extent) → Takes old (blocks_of n) e new → IsSized e n
 taken_sized old new n e taken = (taken.blocks, λ none. taken.nowhere (omega (arith, none)))
 
--- The bodies of records that took blocks: the records are the same but for their extents, which are of their sizes.
+-- The bodies of records that took blocks: the records are the same except for their extents, which are of their sizes.
 pub given : (old new : List Bool) (rs : List Record) (es : List Extent) → TakesEach old (records_needed rs) es new
     → (bodies_of (with_extents rs es) ≡ es) × AllZip IsMoved rs (with_extents rs es) × All IsSizedRecord (with_extents rs es)
 given old new [] [] taken = (refl, tt, All-nil IsSizedRecord)

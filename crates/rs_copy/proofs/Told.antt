@@ -1,4 +1,4 @@
--- The pages and the directory of a copy tell the copied state.
+-- The pages and the directory of a copy determine the copied state.
 use Rattle.std.proofs.Common.{◌≡◌, ℕ, Bool, List, [], ◌∷◌, length, map, refl, sym, ◌∙◌, ap, subst}
 use Rattle.std.specs.Prelude.{All}
 use Rattle.rs_disk.specs.Medium.{DiskState}
@@ -27,7 +27,7 @@ use Rattle.rs_copy.proofs.Laid.{among_first, among_second, among_last, changes_a
 use Rattle.rs_copy.proofs.MovedBodies.{bodies_stay}
 use Rattle.rs_copy.proofs.Records.{entries_moved, published_moved}
 
--- Bodies, then pages, then the directory: all of them stand at the end.
+-- Bodies, then pages, then the directory: all of them are on the disk at the end.
 module _ {A B : Type 0} (size : ℕ) (c : Contents) (directory : Extent) (room : HasRoom size c directory) (one two three : DiskState)
     (pages : WritesOnly (pages_in c) A one two) (last : WritesOnly (directory ∷ []) B two three) where
   bodies_kept : Keeps (in_some (bodies_of (records_of c.catalogue))) one.now.seen three.now.seen

@@ -1,4 +1,4 @@
--- What the root of a copy reaches keeps all rules, and its blocks are the used ones.
+-- Everything that the root of a copy reaches follows all rules, and its blocks are the used blocks.
 use Rattle.std.proofs.Common.{◌≡◌, ◌≤◌, ◌||◌, ℕ, Bool, true, false, max, nat_lt, List, ◌∷◌, ◌++◌, length, map, refl, sym, ◌∙◌, ap, subst, arith}
 use Rattle.std.specs.Prelude.{All, MatchOption}
 use Rattle.std.proofs.lemmas.Bool.{or_right}
@@ -27,7 +27,7 @@ use Rattle.rs_copy.proofs.FullPages.{full_extents, full_blocks, none_shared}
 use Rattle.rs_copy.proofs.Laid.{block_fits, places_among, changes_are, listed_are, records_moved, records_sized, taken, inside, room}
 use Rattle.rs_copy.proofs.Records.{published_moved, sized_among, sized_published, sound_moved}
 
--- the moments stay in order where the header and the changes stay
+-- the moments stay in order if the header and the changes stay
 moments_stay : (c c' : Contents) (h : Header) → c.header ≡ h → changes_of c'.history.pages ≡ changes_of c.history.pages → AreMoments c.header c → AreMoments h c'
 moments_stay c c' h header changes moments =
     subst (λ (x : Header). AreMoments x c') header
@@ -46,7 +46,7 @@ kept_as true false used start here there is = there refl ∙ is
 kept_as false false used start here there is = there refl ∙ is
 
 module _ (size : ℕ) (c placed : Contents) (directory : Extent) (used : List Bool) (laid : IsLaidOut size c placed directory used) where
-  -- where the pages are
+  -- the places of the pages
   catalogue_at : extents_of (stored_refs (stored record_format placed.catalogue)) ≡ placed_extents placed.catalogue
   catalogue_at = full_extents record_format laid.after_bodies laid.lists.after_catalogue (with_extents (records_of c.catalogue) laid.bodies) placed.catalogue laid.lists.catalogue
 
@@ -58,7 +58,7 @@ module _ (size : ℕ) (c placed : Contents) (directory : Extent) (used : List Bo
       full_extents record_format laid.lists.after_history laid.lists.after_published
       (map (as_published (with_extents (records_of c.catalogue) laid.bodies)) (records_of c.published)) placed.published laid.lists.published
 
-  -- none of them is shared
+  -- no two pages share a block
   apart_pages : AreApart (pages_in placed)
   apart_pages = apart_front (pages_in placed) (bodies_of (records_of placed.catalogue)) (taken size c placed directory used laid).apart.1
 
@@ -74,7 +74,7 @@ module _ (size : ℕ) (c placed : Contents) (directory : Extent) (used : List Bo
       (subst (λ (es : List Extent). AreDisjoint (in_some es) (in_some (extents_of (stored_refs (stored record_format placed.catalogue))))) (sym published_at)
       (subst (λ (es : List Extent). AreDisjoint (in_some last) (in_some es)) (sym catalogue_at) beside))
 
-  -- so the root reaches what was laid out
+  -- so the root reaches exactly the extents of the layout
   reach_is : reach (copied_root directory (all_stored placed)) (all_stored placed) ≡ written_in placed directory
   reach_is =
       let published : extents_of (unshared (stored_refs (stored record_format placed.published)) (stored_refs (stored record_format placed.catalogue))) ≡ placed_extents placed.published =
@@ -139,8 +139,8 @@ module _ (size : ℕ) (c placed : Contents) (directory : Extent) (used : List Bo
   sound_copied size' root whole room long listable =
       record { rooted = record { room = room; whole = whole_copied size' root whole long; listable = listable }; used = used_copied }
 
--- The records behind any root have their places.
--- what a root reaches before the bodies
+-- The records of any root have their places.
+-- the extents that a root reaches before the bodies
 abbrev lists_reached : Root → Contents → List Extent
 lists_reached root c =
     root.directory ∷ extents_of (stored_refs c.catalogue) ++ extents_of (stored_refs c.history.pages)

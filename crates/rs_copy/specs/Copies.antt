@@ -1,4 +1,4 @@
--- What a copy of a source is, and what it leaves of both disks.
+-- A copy of a source, and the effect of copying on both disks.
 use Rattle.std.specs.Prelude.{◌≡◌, ◌⊎◌, ◌↔◌, ◌<◌, ◌≤◌, ◌+◌, ◌/◌, ℕ, List, All, None, Result, IfOk, IsErrOf, IsTrue, sum_by}
 use Rattle.rs_disk.specs.Medium.{DiskState, IsImage}
 use Rattle.rs_disk.specs.Leaves.{Leaves}
@@ -28,12 +28,12 @@ HasItsBody image r = (digests (part r.extent r.length image)).sha256 ≡ r.diges
 abbrev pub calls_to_read : ℕ → ℕ
 calls_to_read n = (n + 16383) / 16384
 
--- the calls that read the bodies of these records once each
+-- the calls that read every body of these records once
 abbrev pub calls_for : List Record → ℕ
 calls_for rs = sum_by (λ r. calls_to_read r.length) rs
 
--- A copy stands on a disk: its root has generation 1 and the version that is written, the slots can be changed, memory is sound,
--- and each body has its SHA-256.
+-- A copy on a disk: its root has generation 1 and the version that is written, the slots can be changed, memory is
+-- sound, and every body has its SHA-256.
 pub record StandsCopied (disk : DiskState) (copied : Copied) : Type 0 where
   pub slots : copied.slots ≡ fresh copied.slots.root
   pub generation : copied.slots.root.generation ≡ 1
@@ -48,33 +48,37 @@ pub record LiesCopied (size : ℕ) (c : Contents) (copied : Copied) : Type 0 whe
   pub laid_out : IsLaidOut size c placed copied.slots.root.directory copied.used
   pub contents : copied.contents ≡ all_stored placed
 
--- The two disks of a copy at one moment: the one that it is made from, and the one that it is written to.
+-- The two disks of a copy at one moment: the disk that is read, and the disk that is written.
 pub record Disks : Type 0 where
   pub from : DiskState
   pub to : DiskState
 
--- A run of calls of both disks makes no call of a disk behind a failed one of that disk, and of the calls of both at most one failed.
+-- In a run of calls of both disks, no call of a disk follows a failed call of that disk, and at most one call of both
+-- fails.
 pub record StopsCopying (old new : Disks) : Type 0 where
   pub from : StopsAtFault old.from new.from
   pub to : StopsAtFault old.to new.to
   pub one : old.from.faults < new.from.faults → new.to.faults ≡ old.to.faults
 
--- an image tells no root, or represents the state
+-- an image has no root, or represents the state
 abbrev pub NoneOrState : Source → List ℕ → Type 0
 NoneOrState s image = (current image ≡ None) ⊎ StandsFor image s
 
--- What copying a root's source does to both disks, from the moment `old` to the moment `new`.
--- `rests`, `once`: it only reads the first disk, and each body at most once, also a damaged one; `advances`: the second keeps its size, and its counts do not fall.
--- `too_small`, `full`: the causes of these; `untouched`: they come before a call of either disk.
--- `room`: Device and Damaged come only where the second disk has room for the whole copy.
--- `failed`, `sound`: Device comes only where a call of one of them failed, and any other answer only where none did.
--- `stops`: it makes no call behind a failed one of the same disk, and at most one call fails.
+-- The effect of copying a root's source on both disks, from the moment `old` to the moment `new`.
+-- `rests`, `once`: it only reads the first disk, and every body at most once, also a damaged one; `advances`: the
+-- second disk keeps its size, and its counts do not fall.
+-- `too_small`, `full`: the causes of these answers; `untouched`: they come before a call of either disk.
+-- `room`: Device and Damaged come only if the second disk has room for the whole copy.
+-- `failed`, `sound`: Device comes only if a call of one of the disks failed, and any other answer only if no call
+-- failed.
+-- `stops`: no call of a disk follows a failed call of that disk, and at most one call fails.
 -- `damaged`: a body lacks its recorded SHA-256, if the first disk has followed the model.
--- `copied`, `lies`: what Ok leaves; `holds`: then each image of the second disk tells the state that the first one told.
--- `any_moment`: at any moment each image of the second disk tells no root, or represents that state, or is as before the copy, but for
--- the gates of its slots.
--- `settled`: if the second disk had more than three calls, or none failed, then from its third call on each image of it tells no root,
--- or represents that state.
+-- `copied`, `lies`: the copy that Ok leaves; `holds`: then the copied root determines, in every image of the second
+-- disk, the state that the old root determined on the first disk.
+-- `any_moment`: at any moment every image of the second disk has no root, or represents that state, or is as before the
+-- copy except for the gates of its slots.
+-- `settled`: if the second disk had more than three calls, or no failed call, then from its third call on every image
+-- of it has no root, or represents that state.
 pub record Copies (root : Rooted) (old new : Disks) (result : Result Copied CopyFault) : Type 0 where
   pub rests : Rests old.from new.from
   pub once : CallsAtMost (calls_for (records_of root.contents.catalogue)) old.from new.from

@@ -1,4 +1,5 @@
--- The words of the contracts within rs_copy: what each step of a copy leaves, and what stands on the disk after it.
+-- The definitions for the contracts within rs_copy: the effect of every step of a copy, and the content of the disk
+-- after it.
 use Rattle.std.specs.Prelude.{◌≡◌, ◌⊎◌, ◌<◌, ◌≤◌, ◌+◌, ◌*◌, ◌++◌, ℕ, Bool, [], nat_lt, ◌∷◌, List, length, map, All, Result, IfErr, IfOk, OnOk, IsErrOf, IsTrue}
 use Rattle.rs_disk.specs.Medium.{IsImage}
 use Rattle.rs_disk.specs.Leaves.{Leaves}
@@ -62,14 +63,14 @@ IsOfListing Device = Unit {0}
 IsOfListing Damaged = ⊥
 IsOfListing NoMemory = Unit {0}
 
--- no page waits to be written to blocks of its own
+-- no page has blocks of its own and waits to be written
 pub record AreAllUnplaced (c : Contents) : Type 0 where
   pub catalogue : placed_extents c.catalogue ≡ []
   pub history : placed_extents c.history.pages ≡ []
   pub published : placed_extents c.published ≡ []
 
--- A run of calls of both disks of a copy reads the first one and writes the second. The answer blames a device exactly where a call
--- of one of them failed. It makes no call behind a failed one of the same disk, and at most one fails.
+-- A run of calls of both disks of a copy reads the first disk and writes the second. The answer blames a device exactly
+-- if a call of one of them failed. No call of a disk follows a failed call of that disk, and at most one call fails.
 pub record RunsCopying (blames : Type 0) (old new : Disks) : Type 0 where
   pub rests : Rests old.from new.from
   pub advances : Advances old.to new.to
@@ -77,15 +78,15 @@ pub record RunsCopying (blames : Type 0) (old new : Disks) : Type 0 where
   pub sound : ¬ blames → (new.from.faults ≡ old.from.faults) × (new.to.faults ≡ old.to.faults)
   pub stops : StopsCopying old new
 
--- Such a run writes these extents of the second disk alone: each set of blocks beside them stays.
+-- A run of this kind that writes only these extents of the second disk: every set of blocks outside them stays.
 pub record CopiesOnly (extents : List Extent) (blames : Type 0) (old new : Disks) : Type 0 where
   pub runs : RunsCopying blames old new
   pub outside : (kept : ℕ → Bool) → AreBeside kept extents → WritesOutside kept old.to new.to
 
--- The bodies of these records are copied to the extents of `moved` on the second disk, or a fault is answered.
+-- The bodies of these records are copied to the extents of `moved` on the second disk, or the answer is a fault.
 -- `copied`: they are the bodies that the first disk holds, if it has followed the model.
--- `intact`: each has its SHA-256, whatever the first disk gave.
--- `damaged`: Damaged comes only where a body on the first disk lacks its SHA-256, if that disk has followed the model.
+-- `intact`: every copied body has its SHA-256, whatever bytes the first disk gave.
+-- `damaged`: Damaged comes only if a body on the first disk lacks its SHA-256, if that disk has followed the model.
 pub record CopiesBodies {T : Type 0} (rs moved : List Record) (old new : Disks) (result : Result T CopyFault) : Type 0 where
   pub copied : OnOk result (IsTrue new.from.honest → map (held_in new.to.now.seen) moved ≡ map (held_in old.from.now.seen) rs)
   pub intact : OnOk result (All (HasItsBody new.to.now.seen) moved)
@@ -104,13 +105,13 @@ pub record HasPlace (size : ℕ) (r : Record) : Type 0 where
 abbrev pub pages_in : Contents → List Extent
 pages_in c = placed_extents c.catalogue ++ placed_extents c.history.pages ++ placed_extents c.published
 
--- each page has a place
+-- every page has a place
 pub record AreUntouched (c : Contents) : Type 0 where
   pub catalogue : All (λ page. ¬ IsTouched page.place) c.catalogue
   pub history : All (λ page. ¬ IsTouched page.place) c.history.pages
   pub published : All (λ page. ¬ IsTouched page.place) c.published
 
--- each page that was given blocks stands in them
+-- every page that was given blocks is written in them
 pub record ArePagesWritten (image : List ℕ) (c : Contents) : Type 0 where
   pub catalogue : All (IsWritten record_format image) c.catalogue
   pub history : All (IsWritten change_format image) c.history.pages
@@ -127,19 +128,19 @@ copied_root directory c =
       sha256 = (digests (listing written_format c)).sha256;
     }
 
--- The directory of these lists stands in this extent, and a directory can name such lists.
+-- This extent has the directory of these lists, and a directory can name these lists.
 pub record IsListed (directory : Extent) (c : Contents) (image : List ℕ) : Type 0 where
   pub lists : AreLists c
   pub listable : AreListable written_format c
   pub long : length (listing written_format c) ≡ directory_bytes_of c
   pub reads : part directory (length (listing written_format c)) image ≡ listing written_format c
 
--- the extents that a copy writes behind the slots, in the order in which a root reaches them
+-- the extents that a copy writes after the slots, in the order in which a root reaches them
 abbrev pub written_in : Contents → Extent → List Extent
 written_in c directory = directory ∷ pages_in c ++ bodies_of (records_of c.catalogue)
 
--- A disk of this many bytes has room for a copy: the extents lie behind the slots, no two with a block in common, each page has its
--- place, and the directory has exactly its blocks.
+-- A disk of this many bytes has room for a copy: the extents lie after the slots, no two have a block in common, every
+-- page has its place, and the directory has exactly its blocks.
 pub record HasRoom (size : ℕ) (c : Contents) (directory : Extent) : Type 0 where
   pub bodies : All (HasPlace size) (records_of c.catalogue)
   pub on_disk : AreOnDisk (written_in c directory) size
@@ -148,12 +149,13 @@ pub record HasRoom (size : ℕ) (c : Contents) (directory : Extent) : Type 0 whe
   pub untouched : AreUntouched c
   pub sized : IsSized directory (directory_bytes_of c)
 
--- The pages and the directory of a copy's lists stand in an image.
+-- An image has the pages and the directory of a copy's lists.
 pub record CopyStands (c : Contents) (directory : Extent) (image : List ℕ) : Type 0 where
   pub pages : ArePagesWritten image c
   pub listed : IsListed directory (all_stored c) image
 
--- Everything but the root is written as it was laid out: `made` is the root that names it, and the layout has the stored lists.
+-- Everything except the root is written as it was laid out: `made` is the root that names it, and the layout has the
+-- stored lists.
 pub record IsWrittenBehind (l l' : Layout) (made : Root) (image : List ℕ) : Type 0 where
   pub root : made ≡ copied_root l.directory (all_stored l.contents)
   pub layout : l' ≡ record l { contents = all_stored l.contents }
@@ -164,10 +166,12 @@ pub record IsBehindRoot (size : ℕ) (c : Contents) : Type 0 where
   pub root : Root
   pub whole : IsWhole size root c
 
--- What writing a copy of these lists as it was laid out leaves.
--- `runs`, `once`, `others`, `damaged`: what it does to both disks, that it reads each body once, and which faults it answers.
--- `slots` to `intact`: what Ok leaves: the root leads to the stored lists, memory is sound, and each body has its SHA-256.
--- `holds`, `any_moment`, `settled`: what each image of the second disk tells of the state of the old lists, in the end and meanwhile.
+-- The effect of writing a copy of these lists as it was laid out.
+-- `runs`, `once`, `others`, `damaged`: the effect on both disks, that every body is read at most once, and the possible
+-- faults.
+-- `slots` to `intact`: after Ok the root leads to the stored lists, memory is sound, and every body has its SHA-256.
+-- `holds`, `any_moment`, `settled`: how every image of the second disk relates to the state of the old lists, at the
+-- end and meanwhile.
 pub record WritesCopy (c : Contents) (l l' : Layout) (old new : Disks) (result : Result Standing CopyFault) : Type 0 where
   pub runs : RunsCopying (IsErrOf result Device) old new
   pub once : CallsAtMost (calls_for (records_of c.catalogue)) old.from new.from

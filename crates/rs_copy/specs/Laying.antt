@@ -1,4 +1,4 @@
--- How a copy is laid out: each part in turn takes the lowest run of free blocks of its size.
+-- The layout of a copy: every part in turn takes the lowest run of free blocks of its size.
 use Rattle.std.specs.Prelude.{◌≡◌, ◌⊎◌, ◌<◌, ◌&&◌, ℕ, Bool, nat_eq, nat_lt, if◌then◌else◌, List, [], ◌∷◌, ◌++◌, length, map, Option, Some, None}
 use Rattle.rs_extent.specs.declared.Extent.{Extent}
 use Rattle.rs_extent.specs.Blocks.{is_used}
@@ -23,12 +23,12 @@ with_extents [] extents = []
 with_extents (r ∷ records) [] = r ∷ records
 with_extents (r ∷ records) (extent ∷ extents) = record r { extent = extent } ∷ with_extents records extents
 
--- the same record, but perhaps for its extent
+-- the same record, except perhaps for its extent
 abbrev pub IsMoved : Record → Record → Type 0
 IsMoved r moved = moved ≡ record r { extent = moved.extent }
 
--- the extent of a published record beside the held record of its name: that one's extent, if moment and length agree; else block 0
--- and the number of blocks for its own length
+-- the extent of a published record, given the held record of its name: the held record's extent, if moment and length
+-- agree; else block 0 and the number of blocks for its own length
 abbrev pub extent_beside : Option Record → Record → Extent
 extent_beside None r = record { first = 0; blocks = blocks_of r.length }
 extent_beside (Some held) r =
@@ -42,7 +42,8 @@ extent_published held r = extent_beside (value_of r.name (named held)) r
 abbrev pub as_published : List Record → Record → Record
 as_published held r = record r { extent = extent_published held r }
 
--- The lists of a copy whose bodies stand in these extents. Each has its own pages of 64 items, which have no places yet.
+-- The lists of a copy whose bodies lie in these extents. Every list has its own pages of 64 items, which have no places
+-- yet.
 abbrev pub copied_lists : Contents → List Extent → Contents
 copied_lists c bodies =
     let held = with_extents (records_of c.catalogue) bodies in
@@ -53,12 +54,12 @@ copied_lists c bodies =
       published = full_pages (map (as_published held) (records_of c.published));
     }
 
--- how many blocks each body of these records needs
+-- the number of blocks that each body of these records needs
 abbrev pub records_needed : List Record → List ℕ
 records_needed records = map (λ r. blocks_of r.length) records
 
--- how many blocks each page of a copy's lists needs, and then the directory, in the order in which they take them: catalogue,
--- changes, publication, directory
+-- the number of blocks that each page of a copy's lists needs, and then the directory, in the order in which they take
+-- them: catalogue, changes, publication, directory
 abbrev pub copy_needed : Contents → List ℕ
 copy_needed c =
     pages_needed record_format c.catalogue
@@ -66,13 +67,13 @@ copy_needed c =
     ++ pages_needed record_format c.published
     ++ blocks_of (directory_bytes_of c) ∷ []
 
--- Of a disk of this many bytes only the blocks of the slots are used.
+-- On a disk of this many bytes only the blocks of the slots are used.
 pub record HasSlotsAlone (size : ℕ) (used : List Bool) : Type 0 where
   pub blocks : length used ≡ blocks_of_disk size
   pub slots : (b : ℕ) → b < blocks_of_disk size → is_used used b ≡ nat_lt b 2
 
--- The pages of these lists took blocks in turn, those of the catalogue, of the history and of the publication, and then the
--- directory did. Nothing else of the lists changed.
+-- The pages of these lists took blocks in turn (catalogue, history, publication), and then the directory did. The rest
+-- of the lists stays.
 pub record ArePlacedInTurn (used : List Bool) (c placed : Contents) (directory : Extent) (after : List Bool) : Type 0 where
   pub after_catalogue : List Bool
   pub after_history : List Bool
@@ -84,8 +85,8 @@ pub record ArePlacedInTurn (used : List Bool) (c placed : Contents) (directory :
   pub published : Places record_format after_history c.published after_published placed.published
   pub last : Takes after_published (blocks_of (directory_bytes_of c)) directory after
 
--- A copy of these lists is laid out on a disk of this many bytes: behind the slots the bodies took blocks in the order of their
--- names, and then the lists of the copy and their directory did.
+-- A copy of these lists is laid out on a disk of this many bytes: after the slots the bodies took blocks in the order
+-- of their names, and then the lists of the copy and their directory did.
 pub record IsLaidOut (size : ℕ) (c placed : Contents) (directory : Extent) (used : List Bool) : Type 0 where
   pub start : List Bool
   pub after_bodies : List Bool
@@ -94,8 +95,8 @@ pub record IsLaidOut (size : ℕ) (c placed : Contents) (directory : Extent) (us
   pub held : TakesEach start (records_needed (records_of c.catalogue)) bodies after_bodies
   pub lists : ArePlacedInTurn after_bodies (copied_lists c bodies) placed directory used
 
--- A disk of this many bytes lacks room for a copy of these lists: where each part in turn takes the lowest run of its size behind
--- the slots, a body, a page or the directory finds none.
+-- A disk of this many bytes lacks room for a copy of these lists: if every part in turn takes the lowest run of its
+-- size after the slots, a body, a page or the directory finds no run.
 pub record LacksCopyRoom (size : ℕ) (c : Contents) : Type 0 where
   pub start : List Bool
   pub slots_alone : HasSlotsAlone size start
@@ -103,7 +104,7 @@ pub record LacksCopyRoom (size : ℕ) (c : Contents) : Type 0 where
       ⊎ ((used : List Bool) × (bodies : List Extent) × TakesEach start (records_needed (records_of c.catalogue)) bodies used
       × HasNoRoom used (copy_needed (copied_lists c bodies)))
 
--- the lists after each page that was given blocks is stored
+-- the lists after every page that was given blocks is stored
 abbrev pub all_stored : Contents → Contents
 all_stored c =
     record {

@@ -24,8 +24,8 @@ use rs_record::Record;
 // The bytes of a piece of a body: 32 blocks. The last piece may be shorter.
 const PIECE_SIZE: usize = 16_384;
 
-/// Copies the body of each record of one catalogue to the extent of the same record of another one,
-/// in the order of their names.
+/// Copies the body of every record of one catalogue to the extent of the same record of another catalogue, in the order
+/// of their names.
 ///
 /// # Errors
 ///
@@ -56,7 +56,7 @@ pub(crate) fn copy_bodies<D: Disk, E: Disk>(
     Ok(())
 }
 
-/// Copies the body of a record to the front of an extent, and checks its SHA-256.
+/// Copies the body of a record to the start of an extent, and checks its SHA-256.
 fn copy_body<D: Disk, E: Disk>(
     from: &mut D,
     held: &Record,
@@ -82,8 +82,8 @@ fn copy_body<D: Disk, E: Disk>(
     }
 }
 
-/// Copies the body of a record to the front of an extent, in pieces of at most 16,384 bytes, and
-/// returns the SHA-256 of its copy.
+/// Copies the body of a record to the start of an extent, in pieces of at most 16,384 bytes, and returns the SHA-256 of
+/// its copy.
 fn copy_pieces<D: Disk, E: Disk>(
     from: &mut D,
     held: &Record,

@@ -21,20 +21,20 @@ const SMALLEST_DISK: u64 = 8192;
 pub struct Copied {
     /// The slots. The first one holds the root.
     pub slots: Slots,
-    /// The lists behind the root. All their pages are stored.
+    /// The lists of the root. All their pages are stored.
     pub contents: Contents,
     /// The blocks that the root reaches.
     pub used: Used,
 }
 
-/// Copies the source of a root to the disk `to`. The copy has the same state, generation 1 and the
-/// version that is written. Bodies pass through a buffer of 16,384 bytes, so memory grows with the
-/// lists alone. The disk `from` is only read.
+/// Copies the source of a root to the disk `to`. The copy has the same state, generation 1 and the version that is
+/// written. Bodies pass through a buffer of 16,384 bytes, so memory grows only with the lists. The disk `from` is only
+/// read.
 ///
 /// # Errors
 ///
-/// See [`CopyFault`]. `TooSmall` and `Full` leave both disks as they were. `Device` and `Damaged`
-/// come only if `to` has room.
+/// See [`CopyFault`]. `TooSmall` and `Full` leave both disks as they were. `Device` and `Damaged` come only if `to` has
+/// room.
 pub fn copy_source<D: Disk, E: Disk>(
     alloc: Global,
     from: &mut D,

@@ -1,4 +1,4 @@
-//! Why a source is not copied.
+//! The faults of a copy.
 
 ghost use Rattle.std.specs.Prelude.{◌≡◌};
 
@@ -7,8 +7,8 @@ use rs_page::{Full, StoreFault};
 use std::alloc::AllocError;
 use thiserror::Error;
 
-/// Why a source is not copied. `TooSmall` comes first and `Full` second, both before a call of
-/// either disk. `Device` and `Damaged` come as the copy meets them. `NoMemory` may come at any point.
+/// The cause of a failed copy. `TooSmall` comes first and `Full` second, both before a call of either disk. `Device`
+/// and `Damaged` come as the copy meets them. `NoMemory` may come at any point.
 #[derive(Clone, Copy, Debug, PartialEq, Eq, Error)]
 pub enum CopyFault {
     /// The new disk has fewer than 16 blocks of 512 bytes.

@@ -1,4 +1,4 @@
-//! Where a copy goes.
+//! The layout of a copy.
 
 ghost use Rattle.std.specs.Prelude.{◌≡◌, ◌≤◌, IfOk, IfErr, IsErrOf};
 ghost use Rattle.rs_image.specs.Reach.{blocks_of_disk};
@@ -16,10 +16,10 @@ use std::alloc::Global;
 // The most blocks that a source uses of its disk.
 const MOST_BLOCKS: u64 = 8_388_608;
 
-/// Where everything that a copy writes goes.
+/// The place of everything that a copy writes.
 #[derive(Drop)]
 pub(crate) struct Layout {
-    /// The lists of the copy. Its records have the new extents, and each page has a place.
+    /// The lists of the copy. Its records have the new extents, and every page has a place.
     pub contents: Contents,
     /// The blocks of the directory.
     pub directory: Extent,
@@ -27,9 +27,9 @@ pub(crate) struct Layout {
     pub used: Used,
 }
 
-/// Lays out a copy of these lists on a disk of `size` bytes. Each part takes the lowest run of free
-/// blocks of its size, in this order: the bodies by their names, the pages of the catalogue, of the
-/// changes and of the publication, the directory.
+/// Lays out a copy of these lists on a disk of `size` bytes. Every part takes the lowest run of free blocks of its
+/// size, in this order: the bodies by their names, the pages of the catalogue, of the changes and of the publication,
+/// the directory.
 ///
 /// # Errors
 ///
@@ -53,7 +53,7 @@ pub(crate) fn lay_out(alloc: Global, size: u64, old: &Contents) -> Result<Layout
     })
 }
 
-/// How many blocks a source uses of a disk of `size` bytes: the whole ones, at most 8,388,608.
+/// Returns the number of whole blocks that a source uses of a disk of `size` bytes, at most 8,388,608.
 fn block_count(size: u64) -> u32
     ensures { result ≡ blocks_of_disk size }
 {

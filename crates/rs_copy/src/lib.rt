@@ -1,9 +1,8 @@
 //! Copying a source to another disk.
 //!
-//! [`copy_source`] writes a source of the same state to another disk: the bodies in the order of
-//! their names, the pages of the lists, the directory, and last the root. Its first sync removes
-//! what that disk held. From then on each image of the disk tells no root, or represents the copied
-//! state.
+//! [`copy_source`] writes a source of the same state to another disk: the bodies in the order of their names, the pages
+//! of the lists, the directory, and last the root. Its first sync removes the old content of that disk. From then on
+//! every image of the disk has no root, or represents the copied state.
 #![tactic(auto)]
 
 mod bodies;

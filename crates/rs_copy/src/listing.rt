@@ -17,9 +17,9 @@ use rs_image::Contents;
 use rs_record::{Change, Record};
 use std::alloc::{AllocError, Global};
 
-/// The lists of a copy that holds these records. Each list has its own pages of 64 items, which have
-/// no places yet. A published record with the name, the moment and the length of a held one takes
-/// the extent of that one. Any other takes block 0 and the number of blocks for its length.
+/// Returns the lists of a copy that holds these records. Every list has its own pages of 64 items, which have no places
+/// yet. A published record with the name, the moment and the length of a held record takes the extent of that record.
+/// Any other published record takes block 0 and the number of blocks for its length.
 ///
 /// # Errors
 ///
@@ -45,7 +45,7 @@ pub(crate) fn copied_lists(
     })
 }
 
-/// The published records with their extents in a copy that holds these records.
+/// Returns the published records with their extents in a copy that holds these records.
 fn published_records(
     alloc: Global,
     published: &Catalogue,
@@ -64,7 +64,7 @@ fn published_records(
     Ok(records)
 }
 
-/// The extent of a published record in a copy that holds these records.
+/// Returns the extent of a published record in a copy that holds these records.
 fn extent_published(held: &Catalogue, item: &Record) -> Extent
     ensures { result ≡ extent_of (records_of held.now) item.now }
 {
@@ -77,7 +77,7 @@ fn extent_published(held: &Catalogue, item: &Record) -> Extent
     }
 }
 
-/// The changes that are kept, the earliest first.
+/// Returns the kept changes, the earliest first.
 fn kept_changes(alloc: Global, history: &History) -> Result<Vec<Change>, AllocError>
     ensures changes { IfOk result (λ changes. changes.items ≡ changes_of history.now.pages) }
     ensures lawful { IfOk result (λ changes. AreKept changes.items) }
@@ -89,7 +89,7 @@ fn kept_changes(alloc: Global, history: &History) -> Result<Vec<Change>, AllocEr
     Ok(changes)
 }
 
-/// A copy of the header.
+/// Returns a copy of the header.
 fn same_header(alloc: Global, old: &Header) -> Result<Header, AllocError>
     ensures { IfOk result (λ header. header ≡ old.now) }
 {

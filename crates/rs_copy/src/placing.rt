@@ -20,8 +20,8 @@ use rs_page::Full;
 use rs_record::Record;
 use std::alloc::{AllocError, Global};
 
-/// The records of a catalogue with new extents. Each body takes the lowest run of free blocks of its
-/// size, in the order of the names.
+/// Returns the records of a catalogue with new extents. Every body takes the lowest run of free blocks of its size, in
+/// the order of the names.
 ///
 /// # Errors
 ///
@@ -48,7 +48,7 @@ pub(crate) fn place_bodies(
     Ok(held)
 }
 
-/// Puts a record behind the others.
+/// Appends a record.
 fn add(records: &mut Vec<Record>, new: Record) -> Result<(), AllocError>
     ensures { OnOk result (records.new.items ≡ records.old.items ++ new ∷ []) }
 {
@@ -56,7 +56,7 @@ fn add(records: &mut Vec<Record>, new: Record) -> Result<(), AllocError>
     Ok(())
 }
 
-/// The record, with the lowest run of free blocks for its body.
+/// Returns the record with the lowest run of free blocks for its body.
 fn placed(alloc: Global, old: &Record, used: &mut Used) -> Result<Record, CopyFault>
     ensures same { IfOk result (IsMoved old.now) }
     ensures found { IfOk result
@@ -70,8 +70,8 @@ fn placed(alloc: Global, old: &Record, used: &mut Used) -> Result<Record, CopyFa
     Ok(new)
 }
 
-/// Places the touched pages of these lists, and then the directory. Each takes the lowest run of free
-/// blocks of its size, in this order: catalogue, changes, publication, directory.
+/// Places the touched pages of these lists, and then the directory. Every page and the directory take the lowest run of
+/// free blocks of their size, in this order: catalogue, changes, publication, directory.
 ///
 /// # Errors
 ///
@@ -104,7 +104,7 @@ fn take_lowest(used: &mut Used, length: u32) -> Result<Extent, Full>
     Ok(extent)
 }
 
-// The blocks of a body of no bytes.
+// The blocks of an empty body.
 const NOWHERE: Extent = Extent {
     first: 0,
     blocks: 0,

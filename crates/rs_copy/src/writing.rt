@@ -56,8 +56,8 @@ pub(crate) fn write_copy<D: Disk, E: Disk>(
     Ok(open_first(to, &root)?)
 }
 
-/// Writes what lies behind the slots: the bodies, the pages and the directory. Returns the root that
-/// names the directory.
+/// Writes everything after the slots: the bodies, the pages and the directory. Returns the root that names the
+/// directory.
 fn write_behind<D: Disk, E: Disk>(
     alloc: Global,
     from: &mut D,
@@ -88,7 +88,7 @@ fn write_behind<D: Disk, E: Disk>(
     write_directory(alloc, to, layout.directory, &layout.contents)
 }
 
-/// Writes each page that was given blocks.
+/// Writes every page that was given blocks.
 fn write_pages<E: Disk>(
     alloc: Global,
     to: &mut E,

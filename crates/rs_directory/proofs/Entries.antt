@@ -39,7 +39,7 @@ no_bytes : (xs : List ℕ) → length xs ≡ 0 → xs ≡ []
 no_bytes [] e = refl
 no_bytes (x ∷ xs) e = absurd (omega arith)
 
--- from bytes for n entries, n were read, where fewer bytes are left than an entry has
+-- from bytes for n entries, n were read, if fewer bytes are left than an entry has
 pub all_read : (refs : List PageRef) (n : ℕ) (bytes rest : List ℕ) → All IsLawfulRef refs → bytes ≡ flat_map ref_bytes refs ++ rest → length rest < 44
     → length bytes ≡ 44 * n → (length refs ≡ n) × (bytes ≡ flat_map ref_bytes refs)
 all_read refs n bytes rest lawful found fewer size =
@@ -54,7 +54,7 @@ same_counts catalogue changes published n e f g =
     let made : ℕ → ℕ → ℕ → PageCounts = λ x y z. record { catalogue = x; changes = y; published = z } in
     ap₂ (λ x y. made x y (length published)) e f ∙ ap (made n.catalogue n.changes) g
 
--- three lists of entries, each read from its own part of the bytes
+-- three lists of entries, read from their own parts of the bytes
 pub three_read : (n : PageCounts) (bytes front after mid last : List ℕ) (a b c : List PageRef) (r s t : List ℕ) → AreLawfulCounts n → length bytes ≡ 44 * pages_of n
     → front ≡ take (44 * n.catalogue) bytes → after ≡ drop (44 * n.catalogue) bytes → mid ≡ take (44 * n.changes) after → last ≡ drop (44 * n.changes) after
     → All IsLawfulRef a → front ≡ flat_map ref_bytes a ++ r → length r < 44 → All IsLawfulRef b → mid ≡ flat_map ref_bytes b ++ s → length s < 44

@@ -1,4 +1,4 @@
--- A header that is read is what was written, and what was written is read.
+-- A header that is read was written, and a header that was written is read.
 use Rattle.std.proofs.Common.{◌≡◌, ℕ, ◌^◌, ◌<◌, List, [], ◌∷◌, ◌++◌, Option, Some, refl, ap, ◌∙◌}
 use Rattle.std.specs.List.{concat}
 use Rattle.std.specs.Int.{w16, w64, to_be_bytes}
@@ -13,7 +13,7 @@ use Rattle.rs_directory.specs.Reading.{limit_at, history_at, header_at}
 use Rattle.rs_directory.proofs.Limits.{limit}
 use Rattle.rs_directory.proofs.History.{IsHistory, told, history}
 
--- what a header of a version keeps beside its base
+-- the law of all fields of a header of a version but its base
 pub record HasLawfulNumbers (version : ℕ) (h : Header) : Type 0 where
   pub limit : IsLimit h.limit
   pub start : IsMoment h.start
@@ -24,12 +24,12 @@ pub record HasLawfulNumbers (version : ℕ) (h : Header) : Type 0 where
   pub begin : IsMoment h.begin
   pub untold : version ≡ 1 → HasAllHistory h
 
--- what every version has
+-- the fields that every version has
 abbrev front_bytes : ℕ → List ℕ → ℕ → ℕ → ℕ → ℕ → List (List ℕ)
 front_bytes items base start last number at =
     to_be_bytes w16 items ∷ counted_text base ∷ to_be_bytes w64 start ∷ to_be_bytes w64 last ∷ to_be_bytes w64 number ∷ to_be_bytes w64 at ∷ []
 
--- and the header with what comes after it
+-- and the header with the bytes after it
 abbrev whole : ℕ → ℕ → List ℕ → ℕ → ℕ → ℕ → ℕ → List ℕ → Option (Header × List ℕ)
 whole version items base start last number at rest =
     history_at version start rest >>= λ history. Some (
@@ -37,7 +37,7 @@ whole version items base start last number at rest =
       history.1,
     )
 
--- What was read of it in a header.
+-- These front fields were read in a header.
 record HasFront (version : ℕ) (bytes : List ℕ) (x : Header × List ℕ) : Type 0 where
   items : ℕ
   base : List ℕ

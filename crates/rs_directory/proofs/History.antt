@@ -1,4 +1,4 @@
--- What version 2 adds to a header: what is read is what was written, and what was written is read.
+-- The fields that version 2 adds to a header: fields that are read were written, and fields that were written are read.
 use Rattle.std.proofs.Common.{◌≡◌, ℕ, ◌^◌, ◌<◌, Bool, true, false, true≢false, eqb, List, [], ◌∷◌, ◌++◌, Option, Some, refl, sym, ◌∙◌, ap, eq-eqb, arith}
 use Rattle.std.specs.Prelude.{if◌then◌else◌}
 use Rattle.std.specs.List.{concat}
@@ -9,7 +9,7 @@ use Rattle.rs_record.specs.Reading.{◌>>=◌, number_in, moment_in}
 use Rattle.rs_directory.proofs.FromBelow.{AreBytes, Takes, IsFormat, bind_some, takes_as, one_more, concat-onto, number_8, moment}
 use Rattle.rs_directory.specs.Reading.{history_at}
 
--- the first kept part and the begin of the history, where the header has them
+-- the first kept part and the begin of the history, if the header has them
 abbrev pub told_if : Bool → ℕ × ℕ → List ℕ
 told_if untold x = if untold then [] else concat (to_be_bytes w64 x.0 ∷ to_be_bytes w64 x.1 ∷ [])
 
@@ -17,7 +17,7 @@ told_if untold x = if untold then [] else concat (to_be_bytes w64 x.0 ∷ to_be_
 abbrev pub told : ℕ → ℕ × ℕ → List ℕ
 told version x = told_if (eqb version 1) x
 
--- what both keep
+-- the law of both fields
 pub record IsHistory (version start : ℕ) (x : ℕ × ℕ) : Type 0 where
   pub first : x.0 < 2 ^ 64
   pub begin : IsMoment x.1

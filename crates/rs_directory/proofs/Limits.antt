@@ -1,4 +1,4 @@
--- An item limit that is read is what was written, and what was written is read.
+-- An item limit that is read was written, and an item limit that was written is read.
 use Rattle.std.proofs.Common.{◌≡◌, ℕ, ◌≤◌, leb, true, List, ◌++◌, Some, refl, ap, subst, ◌∙◌, arith}
 use Rattle.std.specs.Prelude.{◌&&◌}
 use Rattle.std.specs.Int.{w16, to_be_bytes}

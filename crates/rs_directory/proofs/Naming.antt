@@ -15,7 +15,7 @@ use Rattle.rs_directory.proofs.OneDirectory.{directory_parts}
 abbrev pub others : Bool → ℕ
 others untold = if untold then 47 else 63
 
--- the length of what version 2 adds
+-- the length of the fields that version 2 adds
 length-history : (version : ℕ) (h : Header) → length (history_bytes version h) + 47 ≡ others (nat_eq version 1)
 length-history version h = by_cases (nat_eq version 1) refl
   where
@@ -31,7 +31,7 @@ length-header version h = simp length-append (omega (arith, length-history versi
 pub base_at : (version : ℕ) (bytes : List ℕ) (pages : List PageRef) (names : Names version bytes pages) → get_or bytes 2 0 ≡ length names.header.base
 base_at version bytes pages names = ap (λ (l : List ℕ). get_or l 2 0) names.directory.spelled
 
--- what stands before the entries
+-- the bytes before the entries
 abbrev front : ℕ → Header → List PageRef → List PageRef → List PageRef → List ℕ
 front version h catalogue changes published = header_bytes version h ++ counts_bytes (counts_of catalogue changes published)
 
@@ -56,7 +56,7 @@ front_length version bytes pages names =
       length-append (header_bytes version names.header) (counts_bytes (counts_of names.catalogue names.changes names.published)),
     )
 
--- so the entries come behind it.
+-- so the entries follow it.
 pub entries_behind : (version : ℕ) (bytes : List ℕ) (pages : List PageRef) → Names version bytes pages → drop (others (nat_eq version 1) + get_or bytes 2 0) bytes ≡ flat_map ref_bytes pages
 entries_behind version bytes pages names =
     ap (drop (others (nat_eq version 1) + get_or bytes 2 0)) (in_parts version bytes pages names)

@@ -1,4 +1,4 @@
--- Bytes are the directory of one header and of one list of entries of each kind.
+-- Bytes are the directory of one header and of one list of entries per kind.
 use Rattle.std.proofs.Common.{◌≡◌, ℕ, ◌+◌, ◌*◌, Bool, true, false, cond, eqb, List, [], ◌++◌, length, flat_map, Some, None, refl, sym, ◌∙◌, ap, ap₂, subst, eq-eqb, arith}
 use Rattle.std.specs.Prelude.{All, IsTrue}
 use Rattle.std.proofs.lemmas.Bool.{eqb-true}
@@ -16,7 +16,7 @@ use Rattle.rs_directory.proofs.Headers.{HasLawfulNumbers, header}
 use Rattle.rs_directory.proofs.PartLaws.{AreLawfulCounts, counts_bytes, counts}
 use Rattle.rs_directory.proofs.Entries.{all_read, some_entries, same_counts, same_refs}
 
--- what follows a header
+-- the bytes after a header
 abbrev pub after_header : List PageRef → List PageRef → List PageRef → List ℕ
 after_header catalogue changes published = counts_bytes (counts_of catalogue changes published) ++ all_entries catalogue changes published
 
@@ -99,7 +99,7 @@ entries_read catalogue changes published of_a of_b of_c =
     let exact : eqb (length e) (44 * pages_of n) ≡ true = eq-eqb _ _ (length-all_entries catalogue changes published of_a of_b of_c) in
     rw (counts.again n e (record { catalogue = of_a.count; changes = of_b.count; published = of_c.count }), exact) refl
 
--- what was read after a header
+-- these counts were read after a header, and the rest has exactly the length of their entries
 pub record HasEntries (bytes : List ℕ) (x : PageCounts × List ℕ) : Type 0 where
   pub takes : Takes counts_bytes AreLawfulCounts bytes x
   pub size : length x.1 ≡ 44 * pages_of x.0
@@ -111,7 +111,7 @@ entries_takes bytes x fits e =
     let g = guard_some (eqb (length a.0.1) (44 * pages_of a.0.0)) a.0 x a.2 in
     subst (HasEntries bytes) g.1 (record { takes = counts.takes bytes a.0 fits a.1; size = eqb-true _ _ g.0 })
 
--- Bytes are a directory of a version of at most one header and of at most one list of entries of each kind.
+-- Bytes are a directory of a version of at most one header and of at most one list of entries per kind.
 pub one_directory : DirectoryReadsOnce
 one_directory version h h' catalogue catalogue' changes changes' published published' of of' same =
     let bytes = directory_bytes version h catalogue changes published in
@@ -166,7 +166,7 @@ some_lists n bytes fits lawful size =
       };
     }
 
--- ---- what a refusal says
+-- ---- the meaning of a refusal
 
 none_is : {A : Type 0} (x : A) → None ≡ Some x → ⊥
 none_is x e = absurd cc
@@ -189,7 +189,7 @@ module _ (version : ℕ) (bytes : List ℕ) (fits : AreBytes bytes) where
       let same : (h, rest) ≡ (h', after_header catalogue changes published) = some_is _ _ (sym e ∙ header_read version bytes h' catalogue changes published is.lawful.of_header is.spelled) in
       false_is (sym f ∙ ap (λ x. is_base x.0.base) same ∙ is.lawful.of_header.base)
 
-  -- what was read is a directory, where its base is lawful
+  -- the bytes are a directory of the values read from them, if the base is lawful
   pub is_directory : (h : Header) (rest : List ℕ) (n : PageCounts) (entries : List ℕ) (catalogue changes published : List PageRef)
       → header_at version bytes ≡ Some (h, rest) → entries_at rest ≡ Some (n, entries) → IsTrue (is_base h.base)
       → AreListsOf n entries catalogue changes published → IsDirectory version bytes h catalogue changes published
@@ -202,7 +202,7 @@ module _ (version : ℕ) (bytes : List ℕ) (fits : AreBytes bytes) where
             ∙ sym (directory_parts version h catalogue changes published);
       }
 
-  -- where the parts were read and the base is lawful, the bytes are some lawful directory
+  -- if the parts were read and the base is lawful, the bytes are some lawful directory
   pub not_none : (h : Header) (rest : List ℕ) (n : PageCounts) (entries : List ℕ) → header_at version bytes ≡ Some (h, rest) → entries_at rest ≡ Some (n, entries)
       → IsTrue (is_base h.base) → IsNoDirectory version bytes → ⊥
   not_none h rest n entries e f base none =
@@ -217,7 +217,7 @@ module _ (version : ℕ) (bytes : List ℕ) (fits : AreBytes bytes) where
       → length entries ≡ 44 * pages_of n
   size_read h rest n entries e f = (entries_takes rest (n, entries) ((header version).takes bytes (h, rest) fits e).rest f).size
 
-  -- where the parts were read, only a bad base is left
+  -- if the parts were read, only a bad base is left
   pub bad_base : (h : Header) (rest : List ℕ) (n : PageCounts) (entries : List ℕ) → header_at version bytes ≡ Some (h, rest) → entries_at rest ≡ Some (n, entries)
       → IsNoDirectory version bytes → is_base h.base ≡ false
   bad_base h rest n entries e f none = by_cases (is_base h.base) refl

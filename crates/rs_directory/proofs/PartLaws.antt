@@ -1,4 +1,4 @@
--- What is read is what was written, and what was written is read: numbers of pages and entries.
+-- A value that is read was written, and a value that was written is read: numbers of pages and entries.
 use Rattle.std.proofs.Common.{◌≡◌, ℕ, ◌^◌, ◌<◌, List, [], ◌∷◌, ◌++◌, length, Some, None, refl, ap, ◌∙◌}
 use Rattle.std.specs.List.{concat}
 use Rattle.std.specs.Int.{w32, to_be_bytes}
@@ -15,7 +15,7 @@ use Rattle.rs_directory.specs.Reading.{counts_at, page_entry_at}
 abbrev pub counts_bytes : PageCounts → List ℕ
 counts_bytes n = concat (to_be_bytes w32 n.catalogue ∷ to_be_bytes w32 n.changes ∷ to_be_bytes w32 n.published ∷ [])
 
--- each has 32 bits
+-- all counts have 32 bits
 pub record AreLawfulCounts (n : PageCounts) : Type 0 where
   pub catalogue : n.catalogue < 2 ^ 32
   pub changes : n.changes < 2 ^ 32
@@ -99,7 +99,7 @@ ref_again r rest lawful =
 pub ref : IsFormat page_entry_at ref_bytes IsLawfulRef
 ref = record { takes = ref_takes; again = ref_again }
 
--- where no entry stands in front, there are too few bytes for one
+-- if no entry is in front, there are too few bytes for one
 pub ref_none : (bytes : List ℕ) → AreBytes bytes → page_entry_at bytes ≡ None → length bytes < 44
 unfolding page_entry_at
 ref_none bytes fits e =

@@ -1,4 +1,4 @@
--- Appending piece by piece, and how long the parts of a directory are.
+-- Appending piece by piece, and the lengths of the parts of a directory.
 use Rattle.std.proofs.Common.{◌≡◌, ℕ, ◌+◌, ◌*◌, List, [], ◌∷◌, ◌++◌, length, flat_map, All, append_assoc, arith, refl}
 use Rattle.std.specs.List.{concat}
 use Rattle.std.specs.Int.{w16, w32, w64, to_be_bytes}

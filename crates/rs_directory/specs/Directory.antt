@@ -1,4 +1,4 @@
--- The directory of a source: what a root points to, and its bytes on the disk.
+-- The directory of a source, to which its root points, and its bytes on the disk.
 use Rattle.std.specs.Prelude.{◌≡◌, ◌<◌, ◌≤◌, ◌+◌, ◌*◌, ◌^◌, ℕ, nat_eq, if◌then◌else◌, List, [], ◌∷◌, ◌++◌, length, flat_map, All, IsTrue}
 use Rattle.std.specs.List.{concat}
 use Rattle.std.specs.Int.{w16, w32, w64, to_be_bytes}
@@ -8,13 +8,13 @@ use Rattle.rs_record.specs.Format.{counted_text}
 use Rattle.rs_page.specs.declared.place.PageRef.{PageRef}
 use Rattle.rs_directory.specs.declared.header.Header.{Header}
 
--- what version 2 adds to version 1: the number of the first kept part of the Change List, and the moment at which the
--- kept history begins, in 8 bytes each
+-- the fields that version 2 adds to version 1: the number of the first kept part of the Change List, and the moment at
+-- which the kept history begins, in 8 bytes each
 abbrev pub history_bytes : ℕ → Header → List ℕ
 history_bytes version h = if nat_eq version 1 then [] else concat (to_be_bytes w64 h.first ∷ to_be_bytes w64 h.begin ∷ [])
 
 -- limit in 2 bytes; the base, after its length in one; start, last, publication number and its moment in 8 bytes each;
--- then what version 2 adds. Each number is big endian.
+-- then the fields that version 2 adds. All numbers are big endian.
 abbrev pub header_bytes : ℕ → Header → List ℕ
 header_bytes version h =
     concat
@@ -31,7 +31,7 @@ abbrev pub count_bytes : List PageRef → List ℕ
 count_bytes refs = to_be_bytes w32 (length refs)
 
 -- A directory of a version: its header; the numbers of catalogue pages, change pages and published pages; then an entry
--- for each page, in this order. Nothing follows.
+-- for every page, in this order. No byte follows.
 abbrev pub directory_bytes : ℕ → Header → List PageRef → List PageRef → List PageRef → List ℕ
 directory_bytes version h catalogue changes published =
     concat
@@ -51,8 +51,8 @@ pub record HasAllHistory (h : Header) : Type 0 where
   pub first : h.first ≡ 0
   pub begin : h.begin ≡ h.start
 
--- what every header of a version keeps: a lawful base, a limit from 2 to 4,000, moments that exist, numbers of 64 bits;
--- and in version 1, that no part was dropped
+-- every header of a version has a lawful base, a limit from 2 to 4,000, moments that exist, and numbers of 64 bits; and
+-- in version 1 no part was dropped
 pub record IsLawfulHeader (version : ℕ) (h : Header) : Type 0 where
   pub base : IsTrue (is_base h.base)
   pub low : 2 ≤ h.limit
@@ -65,7 +65,7 @@ pub record IsLawfulHeader (version : ℕ) (h : Header) : Type 0 where
   pub begin : IsMoment h.begin
   pub untold : version ≡ 1 → HasAllHistory h
 
--- what every page entry keeps: numbers of 32 bits, a digest of 32 bytes
+-- every page entry has numbers of 32 bits and a digest of 32 bytes
 pub record IsLawfulRef (r : PageRef) : Type 0 where
   pub first : r.extent.first < 2 ^ 32
   pub blocks : r.extent.blocks < 2 ^ 32

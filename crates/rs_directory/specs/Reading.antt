@@ -1,5 +1,5 @@
--- Words of the readers' own contracts: each reads a part of a directory from the front of bytes, and gives a value and
--- the bytes after it, or nothing. Directory has what the public reader promises.
+-- Words of the readers' own contracts: a reader reads a part of a directory from the front of bytes, and gives a value
+-- and the bytes after it, or no value. Directory states the promises of the public reader.
 use Rattle.std.specs.Prelude.{◌≡◌, ℕ, ◌+◌, ◌*◌, ◌==◌, nat_eq, List, ◌++◌, length, flat_map, Option, Some, None, if◌then◌else◌}
 use Rattle.std.specs.Int.{w16, w32, w64}
 use Rattle.rs_record.specs.Reading.{◌>>=◌, piece_at, number_in, counted_at, moment_in}

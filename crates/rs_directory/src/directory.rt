@@ -3,11 +3,11 @@
 use crate::Header;
 use rs_page::PageRef;
 
-/// What the root of a source points to: the header, and an entry for each page of its lists, in the
+/// The directory of a source, to which its root points: the header, and an entry for every page of its lists, in the
 /// order of the pages.
 #[derive(Debug, Drop)]
 pub struct Directory {
-    /// What the source keeps beside its lists.
+    /// The data of the source apart from its lists.
     pub header: Header,
     /// The pages of the records of the resources that the source holds.
     pub catalogue: Vec<PageRef>,

@@ -11,8 +11,8 @@ use std::alloc::{AllocError, Global};
 /// The size of a page's entry in bytes.
 pub(crate) const ENTRY_SIZE: usize = 44;
 
-/// The size in bytes of a directory with this header and this number of entries, as it is written: at
-/// most 191, and 44 for each entry.
+/// Returns the size in bytes of a directory with this header and this number of entries, as it is written: at most 191,
+/// and 44 per entry.
 pub fn directory_size(header: &Header, entries: usize) -> u32
     requires { entries ≤ 3 * most_items }
     ensures size { result ≡ directory_length header.now entries }
@@ -21,15 +21,14 @@ pub fn directory_size(header: &Header, entries: usize) -> u32
     (63 + header.base.bytes().len() + ENTRY_SIZE * entries) as u32
 }
 
-/// The bytes of a directory in version 2, the version that is written: its header, the number of
-/// entries of each kind, and the entries. Each kind has at most
-/// [`MOST_ITEMS`](rs_record::MOST_ITEMS) entries.
+/// Returns the bytes of a directory in version 2, the version that is written: its header, the numbers of entries by
+/// kind, and the entries. A kind has at most [`MOST_ITEMS`](rs_record::MOST_ITEMS) entries.
 ///
 /// It asks for memory once, for exactly the bytes of the directory.
 ///
 /// # Errors
 ///
-/// [`AllocError`] where the memory is refused.
+/// [`AllocError`] if the memory is refused.
 pub fn directory_bytes(
     alloc: Global,
     header: &Header,

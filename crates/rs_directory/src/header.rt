@@ -1,14 +1,14 @@
-//! What a source keeps beside its lists.
+//! The data of a source apart from its lists.
 
 use crate::Limit;
 use rs_record::Base;
 use rs_time::Moment;
 
-/// What a source keeps beside its lists: how it was formatted, when its last command came, and which
-/// publication is the latest.
+/// The data of a source apart from its lists: how it was formatted, when its last command came, and which publication
+/// is the latest.
 #[derive(Debug, Drop)]
 pub struct Header {
-    /// The front of each URI of the source.
+    /// The prefix of every URI of the source.
     pub base: Base,
     /// The item limit: the greatest number of items in one document, 2 to 4,000.
     pub limit: Limit,
@@ -20,7 +20,7 @@ pub struct Header {
     pub number: u64,
     /// The moment of the latest publication, or of formatting.
     pub at: Moment,
-    /// The number of the first kept part of the Change List: how many parts were dropped.
+    /// The number of the first kept part of the Change List, which is the number of dropped parts.
     pub first: u64,
     /// The moment at which the kept history begins: the moment of the last dropped change, or of
     /// formatting.

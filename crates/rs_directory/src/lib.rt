@@ -1,9 +1,8 @@
-//! The directory of a source: what the root points to, and its bytes on the disk.
+//! The directory of a source, to which its root points, and its bytes on the disk.
 //!
-//! A [`Directory`] has the [`Header`] of the source and an entry for each page of its three lists.
-//! [`directory_bytes`] writes it. [`read_directory`] reads it in either version of the format, or
-//! finds that the bytes are no lawful directory. [`laws`] states that bytes are the directory of at
-//! most one source.
+//! A [`Directory`] has the [`Header`] of the source and an entry for every page of its three lists. [`directory_bytes`]
+//! writes it. [`read_directory`] reads it in either version of the format, or finds that the bytes are no lawful
+//! directory. [`laws`] states that bytes are the directory of at most one source.
 #![tactic(auto)]
 
 mod directory;

@@ -25,7 +25,7 @@ impl Model for Limit {
 }
 
 impl Limit {
-    /// The limit of `items` items, or `None` below 2 and above 4,000.
+    /// Returns the limit of `items` items, or `None` below 2 and above 4,000.
     pub fn new(items: u16) -> Option<Limit>
         ensures { result ≡ limit_of items }
     {
@@ -36,7 +36,7 @@ impl Limit {
         }
     }
 
-    /// The number of items, 2 to 4,000.
+    /// Returns the number of items, 2 to 4,000.
     pub fn items(self) -> u16
         ensures value { result ≡ self }
         ensures low { 2 ≤ self }

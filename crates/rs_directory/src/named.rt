@@ -8,8 +8,8 @@ use rs_extent::Extent;
 use rs_page::PageRef;
 use rs_record::fields::u32_at;
 
-/// The entries of the pages that a directory of a version names: the last part of its bytes. Where
-/// the bytes are no lawful directory, the result may be any bytes.
+/// Returns the entries of the pages that a directory of a version names: the last part of its bytes. If the bytes are
+/// no lawful directory, the result may be any bytes.
 pub fn entries_of(version: u8, bytes: &[u8]) -> &[u8]
     ensures { (pages : List PageRef)
         → Names version bytes.now pages
@@ -19,14 +19,14 @@ pub fn entries_of(version: u8, bytes: &[u8]) -> &[u8]
     entries
 }
 
-/// The number of bytes before the entries, without the base: version 1 has two numbers fewer.
+/// Returns the number of bytes before the entries, without the base: version 1 has two numbers fewer.
 fn others(version: u8) -> usize
     ensures { result ≡ (if nat_eq version 1 then 47 else 63) }
 {
     if version == 1 { 47 } else { 63 }
 }
 
-/// The length of the base, which is in byte 2.
+/// Returns the length of the base, which is in byte 2.
 fn base_length(bytes: &[u8]) -> usize
     ensures value { result ≡ get_or bytes.now 2 0 }
     ensures bound { result < 256 }
@@ -38,8 +38,8 @@ fn base_length(bytes: &[u8]) -> usize
     }
 }
 
-/// The page whose entry the bytes begin with, and the bytes after it. `None` where the bytes are
-/// fewer than an entry has.
+/// Returns the page whose entry the bytes begin with, and the bytes after it. `None` if the bytes are fewer than an
+/// entry has.
 #[tactic(auto, unfolding(crate::specs::Reading::page_entry_at))]
 pub fn entry_at(bytes: &[u8]) -> Option<(PageRef, &[u8])>
     ensures some { IfSome result (λ x. BeginsWith bytes.now x.0 x.1.now) }

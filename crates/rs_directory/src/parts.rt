@@ -21,7 +21,7 @@ pub struct HeaderFields<'a> {
     pub begin: Moment,
 }
 
-/// The number of pages of each kind.
+/// The numbers of pages by kind.
 #[derive(Clone, Copy)]
 pub struct PageCounts {
     pub catalogue: u32,
@@ -29,7 +29,7 @@ pub struct PageCounts {
     pub published: u32,
 }
 
-/// A header of this version, and the bytes after it.
+/// Returns a header of this version, and the bytes after it.
 #[tactic(auto, unfolding(crate::specs::Reading::header_at, crate::specs::Reading::limit_at, rs_record::specs::Reading::moment_in))]
 pub fn header_at(version: u8, bytes: &[u8]) -> Option<(HeaderFields<'_>, &[u8])>
     ensures { IsSeenAs (λ x. (header_seen x.0, x.1.now)) result (header_read version bytes.now) }
@@ -60,8 +60,8 @@ pub fn header_at(version: u8, bytes: &[u8]) -> Option<(HeaderFields<'_>, &[u8])>
     Some((header, rest))
 }
 
-/// The first kept part and the begin of the history, and the bytes after them. Version 1 has neither:
-/// they are 0 and the start.
+/// Returns the first kept part and the begin of the history, and the bytes after them. Version 1 has neither: they are
+/// 0 and the start.
 #[tactic(auto, unfolding(crate::specs::Reading::history_at, rs_record::specs::Reading::moment_in))]
 fn history_at(version: u8, start: Moment, bytes: &[u8]) -> Option<((u64, Moment), &[u8])>
     ensures { IsSeenAs (λ x. (x.0, x.1.now)) result (history_read version start bytes.now) }
@@ -75,7 +75,7 @@ fn history_at(version: u8, start: Moment, bytes: &[u8]) -> Option<((u64, Moment)
     Some(((first, begin), rest))
 }
 
-/// The numbers of pages, and the bytes after them.
+/// Returns the numbers of pages, and the bytes after them.
 #[tactic(auto, unfolding(crate::specs::Reading::counts_at))]
 fn counts_at(bytes: &[u8]) -> Option<(PageCounts, &[u8])>
     ensures { IsSeenAs (λ x. (x.0, x.1.now)) result (counts_read bytes.now) }
@@ -91,7 +91,7 @@ fn counts_at(bytes: &[u8]) -> Option<(PageCounts, &[u8])>
     Some((counts, rest))
 }
 
-/// The numbers of pages, and the bytes of exactly that many entries.
+/// Returns the numbers of pages, and the bytes of exactly that many entries.
 #[tactic(auto, unfolding(crate::specs::Reading::entries_at))]
 pub fn entries_at(bytes: &[u8]) -> Option<(PageCounts, &[u8])>
     ensures { IsSeenAs (λ x. (x.0, x.1.now)) result (entries_read bytes.now) }

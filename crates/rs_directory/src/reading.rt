@@ -13,16 +13,16 @@ use rs_page::PageRef;
 use rs_record::{Base, ValueFault};
 use std::alloc::{AllocError, Global};
 
-/// The directory that these bytes are in this version of the format. Version 1 has no `first` and no
-/// `begin`: they are 0 and the start. Every other version is read as version 2.
+/// Reads the directory that these bytes are in this version of the format. Version 1 has no `first` and no `begin`:
+/// they are 0 and the start. Every other version is read as version 2.
 ///
 /// It compares the numbers of entries with the number of bytes before it asks for memory, so it asks
 /// for memory for no more entries than the bytes have.
 ///
 /// # Errors
 ///
-/// - [`ValueFault::Malformed`] exactly where the bytes are no lawful directory.
-/// - [`ValueFault::NoMemory`] where the memory for the base or the entries is refused.
+/// - [`ValueFault::Malformed`] exactly if the bytes are no lawful directory.
+/// - [`ValueFault::NoMemory`] if the memory for the base or the entries is refused.
 pub fn read_directory(alloc: Global, version: u8, bytes: &[u8]) -> Result<Directory, ValueFault>
     ensures found { IfOk result (λ d. IsDirectory version bytes.now
         d.header d.catalogue.items d.changes.items d.published.items) }
@@ -46,7 +46,7 @@ pub fn read_directory(alloc: Global, version: u8, bytes: &[u8]) -> Result<Direct
     })
 }
 
-/// The header in memory of its own. It is `Malformed` where its base is not lawful.
+/// Returns the header in memory of its own. It is `Malformed` if its base is not lawful.
 fn header_of(alloc: Global, fields: HeaderFields<'_>) -> Result<Header, ValueFault>
     ensures value { IfOk result (λ header. header ≡ header_seen fields.entry) }
     ensures lawful { OnOk result (IsTrue (is_base fields.entry.base.now)) }
@@ -65,7 +65,7 @@ fn header_of(alloc: Global, fields: HeaderFields<'_>) -> Result<Header, ValueFau
     })
 }
 
-/// The entries of each kind. The bytes have exactly as many as the counts say.
+/// Reads the entries of every kind. The bytes have exactly as many as the counts say.
 fn lists_of(
     alloc: Global,
     counts: PageCounts,
@@ -84,7 +84,7 @@ fn lists_of(
     ))
 }
 
-/// All the entries that the bytes begin with. Fewer bytes than an entry has may follow.
+/// Returns all the entries that the bytes begin with. Fewer bytes than an entry has may follow.
 fn refs_of(alloc: Global, bytes: &[u8]) -> Result<Vec<PageRef>, AllocError>
     ensures lawful { IfOk result (λ refs. All IsLawfulRef refs.items) }
     ensures found { IfOk result (λ refs. (rest : List ℕ)

@@ -1,12 +1,11 @@
--- A call of a memory disk from its parts: it is counted, may change what the disk holds, and counts as a fault if it
--- failed.
+-- A call of a memory disk from its parts: it is counted, may change the content, and counts as a fault if it failed.
 use Rattle.std.proofs.Common.{◌≡◌, inl, inr, ℕ, ◌+◌, ◌-◌, ◌≤◌, Bool, List, ◌++◌, length, take, drop, sym, ◌∙◌, ap, subst, arith, length-append, length-take, length-drop, Result, Ok, Err, OnOk, OnErr, is_ok, true≢false}
 use Rattle.rs_disk.specs.Medium.{Medium, DiskState, IsMedium, over, marked, widened, partly_written}
 use Rattle.rs_disk.specs.Calls.{Passes, Stays, Tears}
 use Rattle.rs_disk.specs.Memory.{Changes, SameContents}
 use Rattle.rs_disk.proofs.Images.{over_front}
 
--- what holds of one result holds of another of the same variant
+-- a consequence of a claim on one result holds on another result of the same variant
 pub ok_from : {A B E F : Type 0} {P Q : Type 0} (r : Result A E) (s : Result B F) → is_ok s ≡ is_ok r → (P → Q) → OnOk r P → OnOk s Q
 ok_from (Ok a) (Ok b) same from p = from p
 ok_from (Err e) (Ok b) same from p = absurd (true≢false same)
@@ -47,11 +46,11 @@ tears_from old new at n front is fits le changes =
       },
     )
 
--- a write that failed and changed nothing
+-- a write that failed and left the disk unchanged
 pub refuses_from : (old new : DiskState) (at n : ℕ) → Stays old new → Tears at n old new
 refuses_from old new at n stays = inr (record { now = stays.now; passes = inl stays.passes })
 
--- what a call did after it was counted, and before it was counted as a fault
+-- the changes that a call made after it was counted, and before it was counted as a fault
 module _ (old begun done mid new : DiskState) (call faults : ℕ) (failed : Bool) (first : call ≡ old.calls) (starts : begun ≡ record old { calls = old.calls + 1 }) (same : mid ≡ done) (ends : new ≡ record mid { faults = faults; last_failed = failed }) where
   ends_done : new ≡ record done { faults = faults; last_failed = failed }
   ends_done = ends ∙ ap (λ (s : DiskState). record s { faults = faults; last_failed = failed }) same

@@ -1,4 +1,4 @@
--- The image of a choice is an image, and each image is that of a choice.
+-- The image of every choice is an image, and every image is the image of a choice.
 use Rattle.std.proofs.Common.{◌≡◌, ℕ, zero, suc, ◌+◌, ◌%◌, ◌<◌, Bool, true, false, List, [], ◌∷◌, ◌++◌, length, drop, get_or, refl, sym, ◌∙◌, ap, arith, length-append, length-drop, true≢false}
 use Rattle.std.proofs.lemmas.List.{drop_more}
 use Rattle.std.proofs.Math.Nat.{mod-eq_of_lt}
@@ -66,7 +66,7 @@ image_of_some : (m : Medium) (choice : List ℕ) → 0 < length choice → image
 image_of_some m [] some = absurd (omega arith)
 image_of_some m (c ∷ choice) some = refl
 
--- the bytes of an image of bytes are bytes, and so is a 0 behind them
+-- the bytes of an image of bytes are bytes, and so is a 0 after them
 chosen_bytes : (image : List ℕ) (set : List Bool) → AreBytes image → AreBytes (chosen image set ++ 0 ∷ [])
 unfolding chosen
 chosen_bytes [] set bytes zero = omega arith

@@ -21,7 +21,7 @@ eq_true n = grind (arith, nat_tests)
 eq_false : (m n : ℕ) → n < m → nat_eq m n ≡ false
 eq_false m n lt = grind (arith, nat_tests)
 
--- what a crash sees after the entry's call, within it, and before it
+-- the content that a crash finds after the entry's call, within it, and before it
 module _ (m : Medium) (es : List CallChange) (e : CallChange) where
   choice : Bool → Bool → ℕ → Medium
   choice past here k = cond past (after e.change (replay k m es)) (cond here (during e.change (replay k m es)) (replay k m es))

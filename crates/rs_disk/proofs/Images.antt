@@ -1,11 +1,11 @@
--- Images of what a disk holds, within a write and after one, and the bytes beside and within a range that was written.
+-- Images of a disk's content within a write and after it, and the bytes outside and within a written range.
 use Rattle.std.proofs.Common.{rules, true≢false, ◌≡◌, ◌⊎◌, inl, inr, ℕ, zero, suc, ◌+◌, ◌-◌, ◌<◌, ◌≤◌, Bool, true, false, List, [], ◌∷◌, ◌++◌, length, take, drop, replicate, get_or, refl, sym, ◌∙◌, ap, subst, arith, length-append, length-take, length-drop}
 use Rattle.std.proofs.lemmas.List.{length-replicate, places, take-take, drop-take, get_or_at, ext_get_or, get_or_append_left, get_or-append_right, get_or-take, get_or-drop, length-take-le, take_at, drop_at, drop-drop, append_assoc, take-append-drop}
 use Rattle.std.proofs.lemmas.Bool.{cases_lt}
 use Rattle.rs_disk.specs.Medium.{Medium, IsImage, IsMedium, over, marked, widened, partly_written, written, resting}
 use Rattle.rs_disk.specs.Leaves.{Torn, TornFrom}
 
--- Where all is settled, no place is unsettled.
+-- Where all places are settled, no place is unsettled.
 pub resting_off : (bytes : List ℕ) (i : ℕ) → get_or (resting bytes).unsettled i false ≡ false
 resting_off bytes i = none i (length bytes)
   where
@@ -14,7 +14,7 @@ resting_off bytes i = none i (length bytes)
     none zero (suc n) = refl
     none (suc i) (suc n) = none i n
 
--- Where all is settled, what a read gives is the one image.
+-- Where all places are settled, the bytes that a read returns are the one image.
 pub resting_image : (bytes image : List ℕ) → IsImage (resting bytes) image → image ≡ bytes
 resting_image bytes image is = ext_get_or 0 image bytes is.size (λ i lt. is.same i (omega (arith, is.size, lt)) (resting_off bytes i))
 
@@ -61,7 +61,7 @@ over_torn old at bytes fits =
           ∙ drop_at bytes (drop (at + length bytes) old) (length bytes) refl;
     }
 
--- A write gives its bytes in its range.
+-- A read of a written range returns the written bytes.
 pub over_part : (old : List ℕ) (at : ℕ) (bytes : List ℕ) → at ≤ length old → take (length bytes) (drop at (over old at bytes)) ≡ bytes
 over_part old at bytes le =
     ap (λ (l : List ℕ). take (length bytes) l) (drop_at (take at old) (bytes ++ drop (at + length bytes) old) at (length-take-le at old le)) ∙ take_at bytes (drop (at + length bytes) old) (length bytes) refl
@@ -69,7 +69,7 @@ over_part old at bytes le =
 pub over_byte : (old : List ℕ) (at byte : ℕ) → at ≤ length old → get_or (over old at (byte ∷ [])) at 0 ≡ byte
 over_byte old at byte le = get_or_at (take at old) byte (drop (at + 1) old) 0 at (length-take-le at old le)
 
--- A write of bytes and of those that were behind them is a write of the first alone.
+-- A write of bytes followed by the bytes already there is a write of the first bytes alone.
 pub over_front : (old : List ℕ) (at k : ℕ) (bytes : List ℕ) → at + (length bytes + k) ≤ length old → over old at (bytes ++ take k (drop (at + length bytes) old)) ≡ over old at bytes
 over_front old at k bytes fits =
     let rest : List ℕ = drop (at + length bytes) old in
@@ -90,7 +90,7 @@ front_part n off len one two le same =
 pub front_byte : (n i : ℕ) (one two : List ℕ) → i < n → take n one ≡ take n two → get_or one i 0 ≡ get_or two i 0
 front_byte n i one two lt same = sym (get_or-take n one i 0 lt) ∙ ap (λ (l : List ℕ). get_or l i 0) same ∙ get_or-take n two i 0 lt
 
--- Lists with one back have one back from each later place on.
+-- Lists with one back have one back from every later place on.
 pub back_part : (n off : ℕ) (one two : List ℕ) → n ≤ off → drop n one ≡ drop n two → drop off one ≡ drop off two
 back_part n off one two le same =
     let at : n + (off - n) ≡ off = omega arith in
@@ -116,7 +116,7 @@ pub torn_part : (at n off len : ℕ) (old new : List ℕ) → Torn at n old new 
 torn_part at n off len old new torn (inl le) = front_part at off len new old le torn.before
 torn_part at n off len old new torn (inr le) = ap (λ (l : List ℕ). take len l) (back_part (at + n) off new old le torn.after)
 
--- A list that is torn in a range is torn in each longer one from the same place.
+-- A list that is torn in a range is torn in every longer range from the same place.
 pub torn_wider : (at k n : ℕ) (old new : List ℕ) → k ≤ n → Torn at k old new → Torn at n old new
 torn_wider at k n old new le torn = record { size = torn.size; before = torn.before; after = back_part (at + k) (at + n) new old (omega arith) torn.after }
 
@@ -141,7 +141,7 @@ module _ (m : Medium) (size at n : ℕ) (is : IsMedium size m) (fits : at + n �
       let t = over_torn image at range long in
       record { size = sym t.size; before = sym t.before; after = sym (subst (λ (k : ℕ). drop (at + k) (over image at range) ≡ drop (at + k) image) length-range t.after) }
 
-  -- at each place of the range the settled byte, elsewhere the image's
+  -- at every place of the range the settled byte, elsewhere the image's
   before_at : (i : ℕ) → i < length m.settled → get_or m.unsettled i false ≡ false → get_or before i 0 ≡ get_or m.settled i 0
   unfolding before range
   before_at i lt off = elim (cases_lt i at) [
@@ -182,7 +182,7 @@ image_widened m size at n is fits image left = image_torn m size at n is fits im
 pub written_image : (m : Medium) (at : ℕ) (bytes image : List ℕ) → IsImage (written m at bytes) image → IsImage (widened m at (length bytes)) image
 written_image m at bytes image left = record { size = left.size; same = left.same }
 
--- What a read gives after a write is an image, and all parts keep their size.
+-- The bytes that a read returns after a write are an image, and all parts keep their size.
 pub partly_written_medium : (size : ℕ) (m : Medium) (at n : ℕ) (bytes : List ℕ) → IsMedium size m → at + n ≤ size → length bytes ≤ n → IsMedium size (partly_written m at n bytes)
 partly_written_medium size m at n bytes is fits front =
     let torn : Torn at n m.seen (over m.seen at bytes) = torn_wider at (length bytes) n m.seen (over m.seen at bytes) front (over_torn m.seen at bytes (omega (arith, is.settled, is.image.size))) in
@@ -196,7 +196,7 @@ partly_written_medium size m at n bytes is fits front =
 pub written_medium : (size : ℕ) (m : Medium) (at : ℕ) (bytes : List ℕ) → IsMedium size m → at + length bytes ≤ size → IsMedium size (written m at bytes)
 written_medium size m at bytes is fits = partly_written_medium size m at (length bytes) bytes is fits (omega arith)
 
--- Where a front is settled, each image has it.
+-- Where a front is settled, every image has it.
 pub settled_front : (m : Medium) (size k : ℕ) → IsMedium size m → k ≤ size → ((i : ℕ) → i < k → get_or m.unsettled i false ≡ false) → (image : List ℕ) → IsImage m image → take k image ≡ take k m.seen
 settled_front m size k is le settled image left =
     ext_get_or 0 (take k image) (take k m.seen)

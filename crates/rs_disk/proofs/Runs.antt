@@ -1,4 +1,4 @@
--- What a run of device calls leaves of the disk's counts: a run of no call, one call, and two runs in turn.
+-- The disk's counts after a run of device calls: a run of no call, one call, and two runs in turn.
 use Rattle.std.proofs.Common.{true≢false, ◌≡◌, ◌⊎◌, inl, inr, ⊎_elim, ◌+◌, ◌<◌, ◌≤◌, ◌^◌, refl, sym, ◌∙◌, ap, subst, arith, Result, Ok, Err, IsErr, OnOk, OnErr}
 use Rattle.std.proofs.lemmas.Bool.{cases_lt}
 use Rattle.rs_disk.specs.Medium.{Medium, DiskState, IsImage, IsMedium}
@@ -81,11 +81,11 @@ stops_on old mid new no_further up one two = elim (cases_lt old.faults mid.fault
   | inr same ↦ record { one = omega (arith, same, two.one); last = λ rose. two.last (omega (arith, same, rose)) }
 ]
 
--- behind a run without a failed call anything may follow
+-- after a run without a failed call, any calls may follow
 pub went_well : {A : Type 0} (old mid new : DiskState) → ¬ A → Runs A old mid → GoesNoFurther old mid new
 went_well old mid new well one rose = let same : mid.faults ≡ old.faults = one.sound well in absurd (omega (arith, rose))
 
--- a counted call behind a failed one
+-- a counted call after a failed one
 pub going_on : {T E : Type 0} (old mid new : DiskState) (result : Result T E) → old.faults < mid.faults → mid.calls + 1 < 2 ^ 64 → CountsCall mid new result → ¬ StopsAtFault old new
 going_on old mid new (Ok x) rose more counts stops =
     let same : new.faults ≡ mid.faults = counts.ok in
@@ -114,7 +114,7 @@ writing_on old mid new left right split no_further one two = record {
 pub writing_then : {A B : Type 0} (old mid new : DiskState) → ¬ A → RunsWriting A old mid → RunsWriting B mid new → RunsWriting B old new
 writing_then old mid new well one two = writing_on old mid new (λ told. absurd (well told)) (λ told. told) (λ told. inr told) (went_well old mid new well one.runs) one two
 
--- runs that change nothing
+-- runs that change only the counts
 pub reading_none : {A : Type 0} (disk : DiskState) → ¬ A → RunsReading A disk disk
 reading_none disk none = record { runs = runs_none disk none; now = refl; leaves = started disk (λ _. IsImage disk.now) (λ image left. left); stops = stops_none disk }
 
@@ -174,7 +174,7 @@ rests_on old mid new one two = record {
   leaves = goes_on old mid new (λ _. IsImage old.now) one.leaves (subst (λ (m : Medium). Leaves mid new (λ _. IsImage m)) one.now two.leaves);
 }
 
--- A run that changes nothing writes nothing.
+-- A run that changes only the counts writes no bytes.
 pub nothing_read : {A : Type 0} (old new : DiskState) → RunsReading A old new → WritesNothing A old new
 nothing_read old new run = record { runs = run.runs; seen = ap (λ (m : Medium). m.seen) run.now; leaves = run.leaves; stops = run.stops }
 
@@ -182,7 +182,7 @@ seen_synced : {E : Type 0} (old new : DiskState) (result : Result (Unit {0}) E) 
 seen_synced old new (Ok x) ok err = ap (λ (m : Medium). m.seen) ok.now
 seen_synced old new (Err e) ok err = ap (λ (m : Medium). m.seen) err.now
 
--- A sync writes nothing.
+-- A sync writes no bytes.
 pub nothing_synced : {E : Type 0} (old new : DiskState) (result : Result (Unit {0}) E) → CountsCall old new result → IsMedium old.size old.now
     → OnOk result (Settles old new) → OnErr result (Stays old new) → WritesNothing (IsErr result) old new
 nothing_synced old new result counts is ok err =

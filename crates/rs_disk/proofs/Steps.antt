@@ -1,4 +1,4 @@
--- What a run of device calls leaves at a crash within it.
+-- The images that a run of device calls leaves at a crash within it.
 use Rattle.std.proofs.Common.{◌≡◌, inl, inr, ⊎_elim, ℕ, ◌+◌, ◌<◌, ◌≤◌, ◌^◌, List, length, sym, ap, subst, arith, Result, Ok, Err, OnOk, OnErr}
 use Rattle.std.proofs.lemmas.Bool.{cases_lt}
 use Rattle.rs_disk.specs.Medium.{Medium, DiskState, IsImage, IsMedium, widened, written}
@@ -103,7 +103,7 @@ sync_leaves old new P (Err e) counts is ok err here =
     let calls = counts_calls old new (Err e) counts in
     one_call old new (λ _. P) old.now err.passes calls.0 calls.1 here (λ image left. here image (subst (λ (m : Medium). IsImage m image) err.now left))
 
--- the images of what the disk holds at the exit
+-- the images of the content of the disk at the exit
 pub exit_images : (old new : DiskState) (P : ℕ → List ℕ → Type 0) → Leaves old new P → (image : List ℕ) → IsImage new.now image → P new.calls image
 exit_images old new P so_far image is =
     so_far.each new.calls image so_far.later (omega arith) (record { past = λ lt. absurd (omega (arith, lt)); now = λ _. is })
@@ -123,12 +123,12 @@ goes_further old mid new P Q first from behind = record {
 abbrev pub AsAtEntry : (List ℕ → List ℕ → Type 0) → Medium → List ℕ → Type 0
 AsAtEntry Same entry image = (e : List ℕ) × IsImage entry e × Same e image
 
--- What is the same in one sense is so in a weaker one.
+-- Images that are the same in one sense are the same in a weaker sense.
 pub same_weaker : (Same More : List ℕ → List ℕ → Type 0) → ((e image : List ℕ) → More e image → Same e image) → {old new : DiskState} → Leaves old new (λ _. AsAtEntry More old.now) → Leaves old new (λ _. AsAtEntry Same old.now)
 same_weaker Same More from {old} {new} leaves =
     weaker old new (λ _. AsAtEntry More old.now) (λ _. AsAtEntry Same old.now) (λ m image is. (is.0, is.1, from is.0 image is.2)) leaves
 
--- Two runs in turn leave what is the same as at their entry, if the sense goes on from image to image.
+-- Two runs in turn leave images that are the same as at their entry, if the sense goes on from image to image.
 pub same_goes_on : (Same : List ℕ → List ℕ → Type 0) → ((one two three : List ℕ) → Same one two → Same two three → Same one three)
     → {old mid new : DiskState} → Leaves old mid (λ _. AsAtEntry Same old.now) → Leaves mid new (λ _. AsAtEntry Same mid.now) → Leaves old new (λ _. AsAtEntry Same old.now)
 same_goes_on Same on {old} {mid} {new} first then =

@@ -1,4 +1,4 @@
--- What follows from the disk model alone.
+-- The laws that follow from the disk model alone.
 use Rattle.std.specs.Prelude.{◌≡◌, ◌↔◌, ◌⊎◌, ℕ, ◌+◌, ◌<◌, ◌≤◌, ◌^◌, Bool, true, List, [], ◌∷◌, length, replicate, get_or, Result, IsErr, OnOk, OnErr}
 use Rattle.rs_disk.specs.declared.disk.Fault.{Fault}
 use Rattle.rs_disk.specs.Medium.{Medium, DiskState, IsImage, IsImageAt, IsMedium, widened, partly_written, written, resting, image_of}
@@ -6,7 +6,7 @@ use Rattle.rs_disk.specs.Calls.{CountsCall, Passes, Stays, Writes, Tears, Settle
 use Rattle.rs_disk.specs.Leaves.{Leaves, TornFrom}
 use Rattle.rs_disk.specs.Runs.{GoesNoFurther, Runs, RunsReading, RunsWriting, StopsAtFault, WritesNothing}
 
--- Where all is settled, what a read gives is the one image.
+-- Where all places are settled, the bytes that a read returns are the one image.
 abbrev pub SettledImage : Type 0
 SettledImage = (bytes image : List ℕ) → IsImage (resting bytes) image ↔ (image ≡ bytes)
 
@@ -18,15 +18,15 @@ ImagesWithinWrite = (m : Medium) (size at n : ℕ) → IsMedium size m → at + 
 abbrev pub ImagesAfterWrite : Type 0
 ImagesAfterWrite = (m : Medium) (at n : ℕ) (bytes image : List ℕ) → IsImage (partly_written m at n bytes) image ↔ IsImage (widened m at n) image
 
--- Each number of a list is a byte.
+-- All numbers of a list are bytes.
 abbrev pub AreBytes : List ℕ → Type 0
 AreBytes bytes = (i : ℕ) → get_or bytes i 0 < 256
 
--- The image of each choice is an image.
+-- The image of every choice is an image.
 abbrev pub ChoicesAreImages : Type 0
 ChoicesAreImages = (m : Medium) (size : ℕ) → IsMedium size m → (choice : List ℕ) → IsImage m (image_of choice m)
 
--- Each image of bytes is the image of a choice of bytes.
+-- Every image of bytes is the image of a choice of bytes.
 abbrev pub ImagesHaveChoices : Type 0
 ImagesHaveChoices = (m : Medium) (size : ℕ) → IsMedium size m → (image : List ℕ) → IsImage m image → AreBytes image → (choice : List ℕ) × AreBytes choice × (image_of choice m ≡ image)
 
@@ -34,21 +34,21 @@ ImagesHaveChoices = (m : Medium) (size : ℕ) → IsMedium size m → (image : L
 abbrev pub PastImagesStay : Type 0
 PastImagesStay = (old new : DiskState) (held : Medium) → Passes old new held → old.calls ≤ new.calls → (m : ℕ) (image : List ℕ) → m < old.calls → IsImageAt old m image ↔ IsImageAt new m image
 
--- Whatever a write answers, each image from its entry to its exit is one of its entry with any bytes in its range.
+-- For every answer of a write, the images from entry to exit are images of its entry with any bytes in its range.
 abbrev pub WriteLeaves : Type 0
 WriteLeaves = (old new : DiskState) (at : ℕ) (bytes : List ℕ) (result : Result (Unit {0}) Fault) → CountsCall old new result → IsMedium old.size old.now → at + length bytes ≤ old.size
     → OnOk result (Writes at bytes old new) → OnErr result (Tears at (length bytes) old new) → Leaves old new (λ _. TornFrom old.now at (length bytes))
 
--- Whatever a sync answers, each image from its entry to its exit is one of its entry.
+-- For every answer of a sync, the images from entry to exit are images of its entry.
 abbrev pub SyncLeaves : Type 0
 SyncLeaves = (old new : DiskState) (result : Result (Unit {0}) Fault) → CountsCall old new result → IsMedium old.size old.now
     → OnOk result (Settles old new) → OnErr result (Stays old new) → Leaves old new (λ _. IsImage old.now)
 
--- A run of no call leaves P where each image of what the disk holds has it.
+-- A run of no call leaves P where all images of the disk's content have P.
 abbrev pub NoCallLeaves : (ℕ → List ℕ → Type 0) → Type 0
 NoCallLeaves P = (disk : DiskState) → ((image : List ℕ) → IsImage disk.now image → P disk.calls image) → Leaves disk disk P
 
--- One call leaves P where each image within it and each image after it has it.
+-- One call leaves P where all images within it and all images after it have P.
 abbrev pub OneCallLeaves : (ℕ → List ℕ → Type 0) → Type 0
 OneCallLeaves P = (old new : DiskState) (held : Medium) → Passes old new held → old.calls ≤ new.calls → new.calls ≤ old.calls + 1
     → ((image : List ℕ) → IsImage held image → P old.calls image) → ((image : List ℕ) → IsImage new.now image → P new.calls image) → Leaves old new P
@@ -57,15 +57,15 @@ OneCallLeaves P = (old new : DiskState) (held : Medium) → Passes old new held 
 abbrev pub RunsGoOn : (ℕ → List ℕ → Type 0) → Type 0
 RunsGoOn P = (old mid new : DiskState) → Leaves old mid P → Leaves mid new P → Leaves old new P
 
--- If a run leaves P, each image of what the disk holds at its exit has P.
+-- If a run leaves P, all images of the disk's content at its exit have P.
 abbrev pub ExitHas : (ℕ → List ℕ → Type 0) → Type 0
 ExitHas P = (old new : DiskState) → Leaves old new P → (image : List ℕ) → IsImage new.now image → P new.calls image
 
--- A run that leaves P leaves each Q that follows from P.
+-- A run that leaves P leaves every Q that follows from P.
 abbrev pub WeakerIsLeft : (ℕ → List ℕ → Type 0) → (ℕ → List ℕ → Type 0) → Type 0
 WeakerIsLeft P Q = (old new : DiskState) → ((m : ℕ) (image : List ℕ) → P m image → Q m image) → Leaves old new P → Leaves old new Q
 
--- One call is a run: a write or a sync is one that writes, and a read one that changes nothing.
+-- One call is a run: a write or a sync is a run that writes, and a read is a run that changes only the counts.
 abbrev pub OneCallRuns : Type 0 → Type 0 → Type 0
 OneCallRuns T E = (old new : DiskState) (result : Result T E) → CountsCall old new result → Runs (IsErr result) old new
 
@@ -75,13 +75,13 @@ OneCallWrites T E = (old new : DiskState) (result : Result T E) → CountsCall o
 abbrev pub OneCallReads : Type 0 → Type 0 → Type 0
 OneCallReads T E = (old new : DiskState) (result : Result T E) → CountsCall old new result → Stays old new → RunsReading (IsErr result) old new
 
--- A sync writes nothing.
+-- A sync writes no bytes.
 abbrev pub SyncWritesNothing : Type 0 → Type 0
 SyncWritesNothing E = (old new : DiskState) (result : Result (Unit {0}) E) → CountsCall old new result → IsMedium old.size old.now
     → OnOk result (Settles old new) → OnErr result (Stays old new) → WritesNothing (IsErr result) old new
 
--- Two runs in turn are one run, whose answer reports the device where one of theirs does. Runs that stop at a fault join where
--- the second makes no call behind a failed one of the first.
+-- Two runs in turn are one run, whose answer reports the device where one of theirs does. Runs that stop at a fault
+-- join where the second makes no call after a failed one of the first.
 abbrev pub RunsJoin : Type 0 → Type 0 → Type 0 → Type 0
 RunsJoin A B C = (old mid new : DiskState) → (A → C) → (B → C) → (C → A ⊎ B) → Runs A old mid → Runs B mid new → Runs C old new
 
@@ -94,7 +94,7 @@ ReadingJoins A B C = (old mid new : DiskState) → (A → C) → (B → C) → (
 abbrev pub NothingJoins : Type 0 → Type 0 → Type 0 → Type 0
 NothingJoins A B C = (old mid new : DiskState) → (A → C) → (B → C) → (C → A ⊎ B) → GoesNoFurther old mid new → WritesNothing A old mid → WritesNothing B mid new → WritesNothing C old new
 
--- A run that makes a counted call behind a failed one does not stop at the fault, whatever the call answers.
+-- A run that makes a counted call after a failed one does not stop at the fault, for every answer of that call.
 abbrev pub GoingOnIsNoStop : Type 0 → Type 0 → Type 0
 GoingOnIsNoStop T E = (old mid new : DiskState) (result : Result T E) → old.faults < mid.faults → mid.calls + 1 < 2 ^ 64 → CountsCall mid new result → ¬ StopsAtFault old new
 

@@ -1,5 +1,5 @@
-//! What a memory disk holds: the bytes that a read gives, the settled bytes, and the unsettled
-//! places.
+//! The content of a memory disk: the bytes that a read returns, the settled bytes, and the
+//! unsettled places.
 ghost use Rattle.std.specs.Prelude.{◌≡◌, ◌+◌, ◌≤◌, ◌<◌, length, take, drop, IfOk};
 ghost use Rattle.rs_disk.specs.Medium.{IsMedium, over, marked, resting, partly_written, filled, image_of};
 
@@ -17,7 +17,7 @@ pub(crate) struct HeldBytes {
 impl HeldBytes {
     ghost use Rattle.rs_disk.specs.Contents.{medium_of};
 
-    /// These bytes, all settled.
+    /// Returns the content with these bytes, all settled.
     pub(crate) fn resting(alloc: Global, bytes: &[u8]) -> Result<Self, AllocError>
         ensures { IfOk result (λ c. medium_of c ≡ resting bytes.now) }
     {
@@ -52,7 +52,7 @@ impl HeldBytes {
         mark(&mut self.unsettled, at, places);
     }
 
-    /// Settles what a read gives.
+    /// Settles the bytes that a read returns.
     pub(crate) fn settle(&mut self)
         ensures { medium_of self.new ≡ resting self.old.seen.items }
     {
@@ -60,8 +60,8 @@ impl HeldBytes {
         self.unsettled.fill(false);
     }
 
-    /// The image in which the unsettled places hold the choice's bytes in turn. An empty choice gives
-    /// what a read gives.
+    /// Returns the image in which the unsettled places hold the choice's bytes in turn. An empty
+    /// choice yields the bytes that a read returns.
     pub(crate) fn image(&self, alloc: Global, choice: &[u8]) -> Result<Vec<u8>, AllocError>
         ensures { IfOk result (λ v. v.items ≡ image_of choice.now (medium_of self.now)) }
     {
@@ -89,7 +89,7 @@ fn mark(places: &mut [bool], at: usize, n: usize)
     places[at..at + n].fill(true);
 }
 
-/// The settled bytes, with the choice's bytes in the unsettled places.
+/// Returns the settled bytes, with the choice's bytes in the unsettled places.
 fn fill(
     alloc: Global,
     settled: &[u8],

@@ -8,12 +8,12 @@ use std::alloc::Global;
 use std::io;
 use std::io::{ErrorKind, Read, Write};
 
-/// Gives its bytes in pieces, and fails from a chosen read on.
+/// Returns its bytes in pieces, and fails from a chosen read on.
 #[derive(Drop)]
 pub struct FaultyReader<'a> {
     rest: &'a [u8],
     piece: usize,
-    /// How many further reads succeed.
+    /// The number of further reads that succeed.
     reads_to_go: u64,
     ghost moves_on: { 0 < piece },
 }
@@ -21,8 +21,8 @@ pub struct FaultyReader<'a> {
 impl<'a> FaultyReader<'a> {
     ghost use Rattle.rs_disk.specs.Faulty.{unread, piece_of, reads_left};
 
-    /// Gives at most `piece` of these bytes in a read, and `piece` is at least 1. Reads are counted
-    /// from 0, and each from number `fail_at` on fails.
+    /// Makes a reader that returns at most `piece` of these bytes in a read; `piece` is at least 1.
+    /// Reads are counted from 0, and every read from number `fail_at` on fails.
     pub fn new(bytes: &'a [u8], piece: usize, fail_at: u64) -> FaultyReader<'a>
         requires { 0 < piece }
         ensures unread { unread result ≡ bytes.now }
@@ -42,10 +42,10 @@ impl Read for FaultyReader<'_> {
 
     ghost remaining = { λ r. Some (unread r) };
 
-    /// Gives the next bytes: as many as the piece, the buffer and the rest allow.
+    /// Reads the next bytes: as many as the piece, the buffer and the rest allow.
     ///
     /// # Errors
-    /// Of the kind `Other` from read number `fail_at` on. Such a read gives nothing.
+    /// Of the kind `Other` from read number `fail_at` on. This read returns no bytes.
     fn read(&mut self, buf: &mut [u8]) -> io::Result<usize>
         ensures bound { ReadsAtMost result buf.new }
         ensures bytes { ReadConsumes (Some (unread self.old)) (Some (unread self.new))
@@ -73,14 +73,15 @@ impl Read for FaultyReader<'_> {
 #[derive(Drop)]
 pub struct FaultyWriter {
     kept: Vec<u8>,
-    /// How many further writes succeed.
+    /// The number of further writes that succeed.
     writes_to_go: u64,
 }
 
 impl FaultyWriter {
     ghost use Rattle.rs_disk.specs.Faulty.{kept_by, writes_left};
 
-    /// Writes are counted from 0, and each from number `fail_at` on fails.
+    /// Makes a writer without bytes. Writes are counted from 0, and every write from number
+    /// `fail_at` on fails.
     pub fn new(alloc: Global, fail_at: u64) -> FaultyWriter
         ensures kept { kept_by result ≡ [] }
         ensures left { writes_left result ≡ fail_at }
@@ -91,7 +92,7 @@ impl FaultyWriter {
         }
     }
 
-    /// The bytes of the writes that succeeded, in order.
+    /// Returns the bytes of the writes that succeeded, in order.
     pub fn bytes(&self) -> &[u8]
         ensures { result.now ≡ kept_by self.now }
     {
@@ -108,7 +109,7 @@ impl Write for FaultyWriter {
     ///
     /// # Errors
     /// Of the kind `Other` from write number `fail_at` on, and before it of the kind `OutOfMemory`
-    /// where memory is refused. A write that fails keeps nothing, and counts as a write.
+    /// where memory is refused. A write that fails keeps no bytes, and counts as a write.
     fn write(&mut self, buf: &[u8]) -> io::Result<usize>
         ensures bound { WritesAtMost result buf.now }
         ensures bytes { WriteAppends (Some (kept_by self.old)) (Some (kept_by self.new))
@@ -129,7 +130,7 @@ impl Write for FaultyWriter {
         Ok(buf.len())
     }
 
-    /// Does nothing, always succeeds, and doesn't count as a write.
+    /// Has no effect, always succeeds, and does not count as a write.
     fn flush(&mut self) -> io::Result<()>
         ensures bytes { Keeps (Some (kept_by self.old)) (Some (kept_by self.new)) }
         ensures left { writes_left self.new ≡ writes_left self.old }

@@ -1,5 +1,5 @@
-//! A memory disk's record of its writes and syncs. It tells what the disk held within each earlier
-//! call.
+//! A memory disk's record of its writes and syncs. It determines the content of the disk within
+//! every earlier call.
 ghost use Rattle.std.specs.Prelude.{◌≡◌, ℕ, ◌<◌, OnOk, OnErr, IfOk};
 ghost use Rattle.rs_disk.specs.Medium.{resting};
 
@@ -13,7 +13,7 @@ pub(crate) enum HeldChange {
         places: usize,
         put: Vec<u8>,
     },
-    /// What a read gives was settled.
+    /// The bytes that a read returns were settled.
     Sync,
 }
 

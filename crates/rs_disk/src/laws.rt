@@ -1,14 +1,15 @@
 //! Laws of the disk model, over its definitions alone.
 //!
-//! Each function here does nothing: its contract is the law, which the check proves. Proofs cite
-//! the lemmas behind them, in `proofs/Images.antt`, `proofs/Choice.antt` and `proofs/Steps.antt`.
+//! Every function here has an empty body: its contract is the law, which the check proves. Proofs
+//! cite the lemmas for these laws, in `proofs/Images.antt`, `proofs/Choice.antt` and
+//! `proofs/Steps.antt`.
 ghost use Rattle.std.specs.Prelude.{◌≡◌, ℕ, true, false, List, [], ◌∷◌, replicate};
 ghost use Rattle.rs_disk.specs.Medium.{image_of, resting, written};
 ghost use Rattle.rs_disk.specs.Runs.{StopsAtFault};
 ghost use Rattle.rs_disk.specs.Plan.{left_by_write, stops_after, fails_once};
 ghost use Rattle.rs_disk.specs.Laws.{SettledImage, ImagesWithinWrite, ImagesAfterWrite, ChoicesAreImages, ImagesHaveChoices, PastImagesStay, WriteLeaves, SyncLeaves, NoCallLeaves, OneCallLeaves, RunsGoOn, ExitHas, WeakerIsLeft, OneCallRuns, OneCallWrites, OneCallReads, SyncWritesNothing, RunsJoin, WritingJoins, ReadingJoins, NothingJoins, GoingOnIsNoStop, called, zeros, three_written};
 
-/// Where all is settled, what a read gives is the one image.
+/// Where all places are settled, the bytes that a read returns are the one image.
 pub fn settled_disk_has_one_image()
     ensures { SettledImage }
 {}
@@ -20,8 +21,8 @@ pub fn write_unsettles_its_range()
     ensures after { ImagesAfterWrite }
 {}
 
-/// The image of each choice is an image, and each image of bytes is that of a choice of bytes. So a
-/// memory disk's `image` can give exactly what the model allows.
+/// The image of every choice is an image, and every image of bytes is the image of a choice of
+/// bytes. So a memory disk's `image` can return exactly the images that the model allows.
 pub fn choices_reach_each_image()
     ensures sound { ChoicesAreImages }
     ensures complete { ImagesHaveChoices }
@@ -32,7 +33,7 @@ pub fn past_images_stay()
     ensures { PastImagesStay }
 {}
 
-/// What a write and a sync leave at each moment from entry to exit, whatever they answer.
+/// The images that a write and a sync leave at every moment from entry to exit, for every answer.
 pub fn one_call_leaves()
     ensures write { WriteLeaves }
     ensures sync { SyncLeaves }
@@ -66,13 +67,13 @@ pub fn worked_failures()
         ≡ replicate 8 0 }
 {}
 
-/// A claim on each image of a crash after a number of calls.
+/// A claim on the images of a crash after a number of calls.
 pub trait Claim {
     ghost of: { ℕ → List ℕ → Type 0 };
 }
 
-/// When a run of calls leaves a claim: a run of no call, one call, one run and then another. Each
-/// image at the exit of such a run has the claim.
+/// The conditions under which a run of calls leaves a claim: a run of no call, one call, one run
+/// and then another. All images at the exit of a run that leaves the claim have the claim.
 pub fn runs_leave<P: Claim>()
     ensures none { NoCallLeaves P.of }
     ensures one { OneCallLeaves P.of }
@@ -80,12 +81,13 @@ pub fn runs_leave<P: Claim>()
     ensures exit { ExitHas P.of }
 {}
 
-/// A run that leaves a claim leaves each claim that follows from it.
+/// A run that leaves a claim leaves every claim that follows from it.
 pub fn weaker_claim_is_left<P: Claim, Q: Claim>()
     ensures { WeakerIsLeft P.of Q.of }
 {}
 
-/// One call is a run: any call, a write or a sync, a read, and a sync as a run that writes nothing.
+/// One call is a run: any call, a write or a sync, a read, and a sync as a run that writes no
+/// bytes.
 pub fn one_call_runs<T, E>()
     ensures any { OneCallRuns T E }
     ensures writing { OneCallWrites T E }
@@ -98,8 +100,8 @@ pub trait Told {
     ghost told: { Type 0 };
 }
 
-/// Two runs in turn are one run, whose answer reports the device where one of theirs does: any runs,
-/// runs that write, runs that change nothing, and runs that write nothing.
+/// Two runs in turn are one run, whose answer reports the device where one of theirs does: any
+/// runs, runs that write, runs that change only the counts, and runs that write no bytes.
 pub fn runs_join<A: Told, B: Told, C: Told>()
     ensures any { RunsJoin A.told B.told C.told }
     ensures writing { WritingJoins A.told B.told C.told }
@@ -107,7 +109,7 @@ pub fn runs_join<A: Told, B: Told, C: Told>()
     ensures nothing { NothingJoins A.told B.told C.told }
 {}
 
-/// A run that makes a call behind a failed one does not stop at the fault.
+/// A run that makes a call after a failed one does not stop at the fault.
 pub fn fault_is_last<T, E>()
     ensures { GoingOnIsNoStop T E }
 {}

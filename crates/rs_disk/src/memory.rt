@@ -15,7 +15,7 @@ use std::alloc::{AllocError, Global};
 ///
 /// It follows the disk model by proof. A call fails where the caller planned it, by
 /// [`stop_after`](MemoryDisk::stop_after) or [`fail_once`](MemoryDisk::fail_once), where the record
-/// gets no memory to grow, and at the last value of the count of calls. The record grows with each
+/// gets no memory to grow, and at the last value of the count of calls. The record grows with every
 /// write and sync.
 #[derive(Drop)]
 pub struct MemoryDisk {
@@ -35,7 +35,7 @@ impl MemoryDisk {
     ghost use Rattle.rs_disk.specs.Plan.{stops_after, fails_once};
     ghost use Rattle.rs_disk.specs.declared.plan.Outcome.TheVariants.{Works};
 
-    /// A disk with these bytes, all settled. No call is planned to fail.
+    /// Makes a disk with these bytes, all settled. No call is planned to fail.
     ///
     /// # Errors
     /// [`AllocError`] where memory is refused.
@@ -58,7 +58,7 @@ impl MemoryDisk {
         })
     }
 
-    /// A disk of `size` zero bytes, all settled. No call is planned to fail.
+    /// Makes a disk of `size` zero bytes, all settled. No call is planned to fail.
     ///
     /// # Errors
     /// [`AllocError`] where memory is refused.
@@ -74,10 +74,10 @@ impl MemoryDisk {
         MemoryDisk::from_bytes(alloc, &zeros)
     }
 
-    /// After `k` further calls every call fails.
+    /// Plans that after `k` further calls every call fails.
     ///
-    /// The first of them, if it is a write, leaves its range unsettled. The later ones change
-    /// nothing. This replaces what `stop_after` or `fail_once` planned before.
+    /// The first of the failing calls, if it is a write, leaves its range unsettled. The later ones
+    /// leave the disk as it was. This plan replaces an earlier plan by `stop_after` or `fail_once`.
     pub fn stop_after(&mut self, k: u64)
         ensures state { memory_state self.new ≡ memory_state self.old }
         ensures plan { (i : ℕ) → planned self.new i ≡ stops_after k i }
@@ -85,10 +85,10 @@ impl MemoryDisk {
         self.plan = FaultPlan::StopsAfter(k);
     }
 
-    /// After `k` further calls one call fails, and the later ones work.
+    /// Plans that after `k` further calls one call fails, and the later ones work.
     ///
     /// If that call is a write, it puts the first half of its bytes, rounded down, and leaves its
-    /// whole range unsettled. This replaces what `stop_after` or `fail_once` planned before.
+    /// whole range unsettled. This plan replaces an earlier plan by `stop_after` or `fail_once`.
     pub fn fail_once(&mut self, k: u64)
         ensures state { memory_state self.new ≡ memory_state self.old }
         ensures plan { (i : ℕ) → planned self.new i ≡ fails_once k i }
@@ -96,9 +96,9 @@ impl MemoryDisk {
         self.plan = FaultPlan::FailsAfter(k);
     }
 
-    /// An image that a crash may leave now: the settled bytes, but the i-th unsettled place, counted
-    /// from 0 in ascending order, holds `choice[i % choice.len()]`. An empty choice gives what a
-    /// read gives.
+    /// Returns an image that a crash may leave now: the settled bytes, but the i-th unsettled
+    /// place, counted from 0 in ascending order, holds `choice[i % choice.len()]`. An empty choice
+    /// yields the bytes that a read returns.
     ///
     /// # Errors
     /// [`AllocError`] where memory is refused.

@@ -1,10 +1,10 @@
-//! Which further calls of a memory disk fail, and how.
+//! The plan of the further calls of a memory disk that fail, and of the way they fail.
 ghost use Rattle.std.specs.Prelude.{◌≡◌, ℕ, ◌+◌};
 
-/// Which further calls fail.
+/// The further calls that fail.
 #[derive(Clone, Copy, Drop)]
 pub(crate) enum FaultPlan {
-    /// None.
+    /// No further call fails.
     Sound,
     /// After this many further calls every call fails.
     StopsAfter(u64),
@@ -14,22 +14,22 @@ pub(crate) enum FaultPlan {
     FailsAfter(u64),
 }
 
-/// What the plan makes of one call.
+/// The outcome that the plan gives to one call.
 #[derive(Clone, Copy, Drop)]
 pub(crate) enum Outcome {
     Works,
     /// It fails. A write puts the first half of its bytes, rounded down, and its range is unsettled.
     FailsHalfway,
-    /// It fails. A write puts none of its bytes, and its range is unsettled.
+    /// It fails. A write puts no byte, and its range is unsettled.
     FailsAtStart,
-    /// It fails and changes nothing.
+    /// It fails, and leaves the disk as it was.
     Refused,
 }
 
 impl FaultPlan {
     ghost use Rattle.rs_disk.specs.Plan.{planned_by};
 
-    /// What the next call does.
+    /// Returns the outcome of the next call, and advances the plan.
     pub(crate) fn step(&mut self) -> Outcome
         ensures next { result ≡ planned_by self.old 0 }
         ensures later { (i : ℕ) → planned_by self.new i ≡ planned_by self.old (i + 1) }

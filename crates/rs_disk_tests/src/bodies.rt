@@ -54,7 +54,7 @@ const BODIES: [Row; 6] = [
     ),
 ];
 
-/// A digest from its halves.
+/// Returns a digest from its halves.
 fn sha256(first: u128, last: u128) -> [u8; 32] {
     let mut digest = [0; 32];
     digest[..16].copy_from_slice(&first.to_be_bytes());
@@ -62,7 +62,7 @@ fn sha256(first: u128, last: u128) -> [u8; 32] {
     digest
 }
 
-/// The body of this length.
+/// Returns the body of this length.
 fn body_of(alloc: Global, length: u32) -> Result<Vec<u8>, Fail> {
     let mut body = Vec::new(alloc);
     for i in 0..length {
@@ -71,7 +71,7 @@ fn body_of(alloc: Global, length: u32) -> Result<Vec<u8>, Fail> {
     Ok(body)
 }
 
-/// A disk of 8,192 bytes of 255, with these bytes from block 3 on.
+/// Makes a disk of 8,192 bytes of 255, with these bytes from block 3 on.
 fn with_body(rt: &(impl Abort + AllocGlobal), body: &[u8]) -> Vec<u8> {
     let mut bytes: Vec<u8> = vec![in rt.alloc(); 255; 3 * 512].expect(rt, "memory");
     bytes.extend_from_slice(body).expect(rt, "memory");
@@ -79,7 +79,7 @@ fn with_body(rt: &(impl Abort + AllocGlobal), body: &[u8]) -> Vec<u8> {
     bytes
 }
 
-/// Writes a body, and checks that all else stays: a crash may change the bytes of the body, and no others.
+/// Writes a body, and checks that all other bytes stay: a crash may change the bytes of the body, and no others.
 fn write_so(rt: &(impl Abort + AllocGlobal), disk: &mut MemoryDisk, extent: Extent, body: &[u8]) {
     assert!(rt; is_on_disk(extent, disk.size()));
     assert!(rt; body.len() <= 512 * extent.blocks as usize);
@@ -89,7 +89,7 @@ fn write_so(rt: &(impl Abort + AllocGlobal), disk: &mut MemoryDisk, extent: Exte
     assert!(rt; image_is(disk, &[254], &with_body(rt, &torn)), "{extent:?}");
 }
 
-/// Reads a body into a vector, in place of what it held.
+/// Reads a body into a vector, in place of its old content.
 fn read_so(
     rt: &impl Abort,
     disk: &mut MemoryDisk,
@@ -171,7 +171,7 @@ const PLACE: Extent = Extent {
     blocks: 3,
 };
 
-/// Where the pieces of that body begin and end.
+/// The offsets at which the pieces of that body begin and end.
 const PIECES: [(u32, u32); 3] = [(0, 512), (512, 513), (513, 1113)];
 
 /// Writes the piece of a body from one byte to another.

@@ -1,4 +1,4 @@
-//! How faults are shown.
+//! The texts of faults.
 
 use rs_body::LoadFault;
 use rs_commit::{CommitFault, SlotFault};

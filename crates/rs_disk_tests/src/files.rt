@@ -6,17 +6,17 @@ use std::fs::{self, File, OpenOptions};
 use std::process::Abort;
 use std::test::Fail;
 
-/// The fault of opening a file of this name.
+/// Returns the fault of opening a file of this name.
 fn not_opened(rt: &HostRuntime, name: &str) -> Option<FileFault> {
     FileDisk::open(rt, name, Unknown).err()
 }
 
-/// The fault of creating a file of this name.
+/// Returns the fault of creating a file of this name.
 fn not_made(rt: &HostRuntime, name: &str) -> Option<FileFault> {
     FileDisk::create(rt, name, 1, Unknown).err()
 }
 
-/// Whether a read gives these bytes, which have to lie on the disk.
+/// Returns whether a read returns these bytes, which have to lie on the disk.
 fn gives(rt: &impl Abort, disk: &mut FileDisk<Unknown>, at: u32, wanted: &[u8]) -> bool {
     let n = wanted.len();
     assert!(rt; n <= 4 && u64::from(at) + n as u64 <= disk.size());
@@ -31,12 +31,12 @@ fn takes(rt: &impl Abort, disk: &mut FileDisk<Unknown>, at: u32, bytes: &[u8]) -
     disk.write(u64::from(at), bytes).is_ok() && disk.sync().is_ok()
 }
 
-/// Whether the disk has this size, and these counts of calls and faults.
+/// Returns whether the disk has this size, and these counts of calls and faults.
 fn counts(disk: &FileDisk<Unknown>, size: u64, calls: u64, faults: u64) -> bool {
     disk.size() == size && disk.calls() == calls && disk.faults() == faults
 }
 
-/// Checks what a new file holds, and writes to it.
+/// Checks the content of a new file, and writes to it.
 fn keep_bytes(rt: &impl Abort, disk: &mut FileDisk<Unknown>) {
     assert!(rt; gives(rt, disk, 596, &[0, 0, 0, 0]));
     assert!(rt; takes(rt, disk, 2, &[1, 2, 3]));
@@ -45,7 +45,7 @@ fn keep_bytes(rt: &impl Abort, disk: &mut FileDisk<Unknown>) {
     honest_is(disk);
 }
 
-/// Checks what a second opening finds.
+/// Checks the content that a second opening finds.
 fn find_bytes(rt: &impl Abort, disk: &mut FileDisk<Unknown>) {
     assert!(rt; gives(rt, disk, 2, &[1, 2, 3, 0]));
     assert!(rt; counts(disk, 600, 1, 0));
@@ -61,11 +61,11 @@ fn a_file_is_made_and_opened_again(rt: HostRuntime) -> Result<(), Fail> {
     Ok(())
 }
 
-/// Names that can't be opened as a disk. The last is a file that the system makes up: it can be locked and measured,
+/// Names that cannot be opened as a disk. The last is a file that the system makes up: it can be locked and measured,
 /// but not synced.
 const NOT_OPENED: [&str; 5] = ["rs_file_test_none", ".", "/dev/null", "", "/proc/self/comm"];
 
-/// Names that can't be created, and the faults.
+/// Names that cannot be created, and the faults.
 const NOT_MADE: [(&str, FileFault); 5] = [
     (".", FileFault::Exists),
     ("/", FileFault::Exists),
@@ -94,21 +94,21 @@ fn a_file_that_is_there_is_left(rt: HostRuntime) -> Result<(), Fail> {
     Ok(())
 }
 
-/// Whether a file can't be opened while `holder` lives.
+/// Returns whether a file cannot be opened while `holder` lives.
 fn is_locked<T: Drop>(rt: &HostRuntime, path: &str, holder: T) -> bool {
     let refused = not_opened(rt, path);
     drop(holder);
     refused == Some(FileFault::Device)
 }
 
-/// A second handle of a file, which locks it.
+/// Opens a second handle of a file, which locks it.
 fn locked(rt: &HostRuntime, path: &str) -> Result<File, Fail> {
     let file = OpenOptions::new().read(true).open(rt, path)?;
     file.lock_shared()?;
     Ok(file)
 }
 
-/// While a disk on the file lives, or another handle holds its lock, the file can't be opened again.
+/// While a disk on the file lives, or another handle holds its lock, the file cannot be opened again.
 #[test]
 fn a_locked_file(rt: HostRuntime) -> Result<(), Fail> {
     let path = "rs_file_test_locked";

@@ -1,8 +1,8 @@
-//! What a crash may leave of a disk in memory.
+//! The images that a crash may leave of a disk in memory.
 
 use rs_disk::MemoryDisk;
 
-/// Whether the image of a choice is these bytes.
+/// Returns whether the image of a choice is these bytes.
 pub fn image_is(disk: &MemoryDisk, choice: &[u8], wanted: &[u8]) -> bool {
     match disk.image(choice) {
         Ok(image) => image.as_slice() == wanted,

@@ -1,4 +1,4 @@
-//! Each law called once, with `Anything` for its type parameters.
+//! All laws called once, with `Anything` for their type parameters.
 
 use rs_disk::Fault;
 

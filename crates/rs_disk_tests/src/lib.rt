@@ -1,5 +1,5 @@
-//! Tests of disks in memory and on files, of root slots and of bodies, through their public items. What commands on a
-//! file show of them is in tests/rows.
+//! Tests of disks in memory and on files, of root slots and of bodies, through their public items. The tests in
+//! tests/rows show the effects of commands on a file of them.
 #![tactic(auto)]
 
 #[cfg(test)]

@@ -5,14 +5,14 @@ use rs_disk::{Disk, Fault, MemoryDisk};
 use std::process::Abort;
 use std::test::Fail;
 
-/// A call of a disk, or a look at it.
+/// A call of a disk, or a check of it.
 #[derive(Debug)]
 enum Step<'a> {
-    /// A write at an offset, and how it ends.
+    /// A write at an offset, and its result.
     Write(u64, &'a [u8], Result<(), Fault>),
-    /// A sync, and how it ends.
+    /// A sync, and its result.
     Sync(Result<(), Fault>),
-    /// An offset, and what a read gives there.
+    /// An offset, and the bytes that a read returns there.
     Read(u64, &'a [u8]),
     /// A read that fails.
     ReadFails,
@@ -22,7 +22,7 @@ enum Step<'a> {
     StopAfter(u64),
     /// After this many further calls one call fails.
     FailOnce(u64),
-    /// How many calls were counted, and how many of them failed.
+    /// The number of counted calls, and the number of those that failed.
     Counts(u64, u64),
 }
 
@@ -71,8 +71,8 @@ const STOPPED: &[Step<'static>] = &[
     Step::Image(&[9], &[5, 2, 3, 4]),
 ];
 
-/// The same disk: a read, a sync and an empty write fail once each. Then it stops at a read, after which a write
-/// changes nothing.
+/// The same disk: a read, a sync and an empty write fail once, one after another. Then it stops at a read, after which
+/// a write leaves the disk as it was.
 const OTHER_CALLS: &[Step<'static>] = &[
     Step::Write(0, &[5, 6], Ok(())),
     Step::FailOnce(0),
@@ -107,7 +107,7 @@ fn write(rt: &impl Abort, disk: &mut MemoryDisk, at: u64, bytes: &[u8]) -> Resul
     disk.write(at, bytes)
 }
 
-/// Whether a read gives these bytes, which have to lie on the disk.
+/// Returns whether a read returns these bytes, which have to lie on the disk.
 fn reads(rt: &impl Abort, disk: &mut MemoryDisk, at: u64, wanted: &[u8]) -> bool {
     let n = wanted.len();
     assert!(rt; at <= 8 && n <= 8 && at + n as u64 <= disk.size());
@@ -115,7 +115,7 @@ fn reads(rt: &impl Abort, disk: &mut MemoryDisk, at: u64, wanted: &[u8]) -> bool
     disk.read(at, &mut room[..n]).is_ok() && &room[..n] == wanted
 }
 
-/// Does a step, and says whether the disk does as it should.
+/// Does a step, and returns whether the disk behaves as the step expects.
 fn is_so(rt: &impl Abort, disk: &mut MemoryDisk, step: &Step<'_>) -> bool {
     match *step {
         Step::Write(at, bytes, wanted) => write(rt, disk, at, bytes) == wanted,

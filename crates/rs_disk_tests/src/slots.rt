@@ -1,4 +1,4 @@
-//! Slots spelled by hand from the table of their bytes, and commits stopped at each device call.
+//! Slots spelled by hand from the table of their bytes, and commits stopped at every device call.
 
 use crate::images::image_is;
 use rs_commit::{CommitFault, Root, SlotFault, Slots, format_slots, open_slots};
@@ -47,7 +47,7 @@ const NEXT_FIELDS: [u8; 22] = [
     1, 2, 0, 0, 0, 0, 0, 0, 0, 5, 0, 0, 0, 3, 0, 0, 0, 2, 0, 0, 2, 1,
 ];
 
-/// The first 54 bytes of a slot, whose SHA-256 is 32 times one byte.
+/// Returns the first 54 bytes of a slot, whose SHA-256 is 32 times one byte.
 fn slot(fields: [u8; 22], sha256: u8) -> [u8; 54] {
     let mut bytes = [sha256; 54];
     bytes[..22].copy_from_slice(&fields);
@@ -69,7 +69,7 @@ const FIVE_OF_VERSION_ONE: Front = (1, 1, 5);
 
 const UNKNOWN: Front = (1, 9, 4);
 
-/// A slot with the root `OLD`, of another generation.
+/// Returns a slot with the root `OLD`, of another generation.
 fn old_slot((gate, version, generation): Front) -> [u8; 54] {
     let fields = [
         gate, version, 0, 0, 0, 0, 0, 0, 0, generation, 0, 0, 0, 2, 0, 0, 0, 1, 0, 0, 0, 9,
@@ -77,14 +77,14 @@ fn old_slot((gate, version, generation): Front) -> [u8; 54] {
     slot(fields, 7)
 }
 
-/// A slot's block: these bytes, and zeros.
+/// Returns a slot's block: these bytes, and zeros.
 fn block(front: &[u8; 54]) -> [u8; 512] {
     let mut bytes = [0; 512];
     bytes[..54].copy_from_slice(front);
     bytes
 }
 
-/// Both slots, and 16 bytes behind them.
+/// Returns both slots, and 16 bytes after them.
 fn with_slots(first: &[u8; 54], second: &[u8; 54]) -> [u8; 1040] {
     let mut bytes = [0xEE; 1040];
     bytes[..512].copy_from_slice(&block(first));
@@ -92,12 +92,12 @@ fn with_slots(first: &[u8; 54], second: &[u8; 54]) -> [u8; 1040] {
     bytes
 }
 
-/// The root of the disk, by its slots.
+/// Returns the root of the disk, by its slots.
 fn root_of(disk: &mut MemoryDisk) -> Result<Root, SlotFault> {
     open_slots(disk).map(|(_, root)| root)
 }
 
-/// How many bytes a disk has, its slots, and the version and the generation of its root.
+/// The number of bytes of a disk, its slots, and the version and the generation of its root.
 type Row = (usize, Front, Front, Result<(u8, u64), SlotFault>);
 
 const ROWS: [Row; 23] = [
@@ -126,7 +126,7 @@ const ROWS: [Row; 23] = [
     (1024, (1, 0, 4), CLOSED, Err(SlotFault::NotASource)),
 ];
 
-/// The version and the generation of the root of a disk with these slots.
+/// Returns the version and the generation of the root of a disk with these slots.
 fn generation_of(alloc: Global, row: &Row) -> Result<Result<(u8, u64), SlotFault>, Fail> {
     let bytes = with_slots(&old_slot(row.1), &old_slot(row.2));
     let mut disk = MemoryDisk::from_bytes(alloc, &bytes[..row.0.min(1040)])?;
@@ -168,13 +168,13 @@ fn commit_in(rt: &impl Abort, disk: &mut MemoryDisk, slots: &mut Slots, root: &R
     assert_eq!(rt; root_of(disk), Ok(*root));
 }
 
-/// Whether these are the bytes of the disk, all of them settled.
+/// Returns whether these are the bytes of the disk, all of them settled.
 fn rests(disk: &MemoryDisk, bytes: &[u8]) -> bool {
     image_is(disk, &[], bytes) && image_is(disk, &[9], bytes)
 }
 
-/// Makes the slots, and changes the root three times. The spare of new slots is closed already; after the first commit it
-/// is open.
+/// Makes the slots, and changes the root three times. The spare of new slots is closed already; after the first commit
+/// it is open.
 fn change_roots(rt: &impl Abort, disk: &mut MemoryDisk) {
     let mut slots = made(rt, disk, &OLD);
     assert_eq!(rt; slots.root(), OLD);
@@ -216,14 +216,14 @@ fn a_commit_brings_version_two(rt: HostRuntime) -> Result<(), Fail> {
     Ok(())
 }
 
-/// The root that an image of the disk opens to.
+/// Returns the root that an image of the disk opens to.
 fn root_of_image(rt: &(impl Abort + AllocGlobal), disk: &MemoryDisk, choice: &[u8]) -> Root {
     let image = disk.image(choice).expect(rt, "memory");
     let mut crashed = MemoryDisk::from_bytes(rt.alloc(), &image).expect(rt, "memory");
     root_of(&mut crashed).expect(rt, "a root")
 }
 
-/// A commit: the root before it, the root after it, and how many device calls it makes.
+/// A commit: the root before it, the root after it, and the number of its device calls.
 type Change = (Root, Root, u64);
 
 /// Slots that a commit changes next. Their spare is closed, or open after an earlier commit.
@@ -237,7 +237,7 @@ fn begun(rt: &impl Abort, disk: &mut MemoryDisk, spare_open: bool) -> (Slots, Ch
     }
 }
 
-/// Settles the disk, opens it, and commits once more. Gives the root that it found.
+/// Settles the disk, opens it, and commits once more. Returns the root that it found.
 fn opened_again(rt: &impl Abort, disk: &mut MemoryDisk) -> Root {
     disk.fail_once(99);
     assert!(rt; disk.sync().is_ok());
@@ -246,8 +246,8 @@ fn opened_again(rt: &impl Abort, disk: &mut MemoryDisk) -> Root {
     root
 }
 
-/// Commits on a disk that stops after `k` calls, or fails one call after them. Each image opens to the root before or
-/// to the one after, and once the commit has succeeded, to the one after.
+/// Commits on a disk that stops after `k` calls, or fails one call after them. Every image opens to the root before or
+/// to the root after, and once the commit has succeeded, to the root after.
 fn stop_commit(
     rt: &(impl Abort + AllocGlobal),
     disk: &mut MemoryDisk,
@@ -277,7 +277,7 @@ fn stop_commit(
     );
 }
 
-/// Stops a commit at each of its device calls.
+/// Stops a commit at every one of its device calls.
 fn stop_each(rt: &(impl Abort + AllocGlobal), spare_open: bool, once: bool) {
     for k in 0..7 {
         let mut disk = MemoryDisk::new(rt.alloc(), 1024).expect(rt, "memory");

@@ -29,7 +29,7 @@ table_past (suc n) f (suc i) le = table_past n (λ k. f (suc k)) i (omega arith)
 pub length-used_blocks : (blocks : ℕ) (words : List ℕ) → length (used_blocks blocks words) ≡ blocks
 length-used_blocks blocks words = length-table blocks (λ b. nat_eq (bit_of words b) 0)
 
--- a block is used where its bit isn't set, past the end too
+-- a block is used if its bit isn't set, past the end too
 pub used_at : (blocks full : ℕ) (words : List ℕ) → IsBitmap blocks words full → (b : ℕ) → is_used (used_blocks blocks words) b ≡ nat_eq (bit_of words b) 0
 used_at blocks full words map b = elim (cases_lt b blocks) [
   | inl lt ↦ table_at blocks (λ k. nat_eq (bit_of words k) 0) b lt
@@ -59,7 +59,7 @@ pub set_free : (blocks full : ℕ) (words : List ℕ) (used : List Bool) → IsB
 set_free blocks full words used map is b set =
     ap (λ (l : List Bool). is_used l b) (sym is) ∙ used_at blocks full words map b ∙ ne_eqb (bit_of words b) 0 (λ none. omega arith)
 
--- bits that were cleared, and words below which none is set
+-- bits that were cleared, and words from `full` up to `next` that are zero
 pub bitmap_taken : (blocks full next first end : ℕ) (old new : List ℕ) → IsBitmap blocks old full → length new ≡ length old → SetsBits old new first end 0
     → ((i : ℕ) → full ≤ i → i < next → get_or new i 0 ≡ 0) → IsBitmap blocks new next
 bitmap_taken blocks full next first end old new map same sets zeros =
@@ -117,7 +117,7 @@ lowest_free blocks full words used first n map is some found =
       lowest = λ lower lt run. found.lowest lower lt (bits_run blocks full words used lower n map is run);
     }
 
--- the words of a new disk, where the blocks from 2 on are free
+-- the words of a new disk, whose blocks from 2 on are free
 pub bitmap_made : (blocks : ℕ) (old new : List ℕ) → ((b : ℕ) → bit_of old b ≡ 0) → SetsBits old new 2 blocks 1 → blocks ≤ 64 * length new → length new ≤ 2 ^ 26 → IsBitmap blocks new 0
 bitmap_made blocks old new none sets covers short = record {
   covers = covers;
@@ -171,7 +171,7 @@ stored_made blocks len old slice new none is same fits sets covers short =
     let done = bitmap_made blocks old new none change (omega arith) (omega arith) in
     subst (λ (l : List ℕ). IsBitmap blocks l 0) (sym kept) done
 
--- what contracts see of an extent that was taken or given back
+-- the view that contracts have of an extent that was taken or given back
 pub stored_sets : (blocks len value : ℕ) (old slice new : List ℕ) (used : List Bool) (e : Extent) → used_blocks blocks old ≡ used → slice ≡ old → length new ≡ length slice → length slice ≡ len
     → SetsBits slice new e.first (e.first + e.blocks) value → e.first + e.blocks ≤ blocks → Sets used (used_blocks blocks (stored_words len new old)) e (nat_eq value 0)
 stored_sets blocks len value old slice new used e view is same fits sets inside =
@@ -186,7 +186,7 @@ stored_sets blocks len value old slice new used e view is same fits sets inside 
     let seen = subst (λ (u : List Bool). Sets u (used_blocks blocks new) e (nat_eq value 0)) view done in
     subst (λ (l : List ℕ). Sets used (used_blocks blocks l) e (nat_eq value 0)) (sym kept) seen
 
--- what they see of a new disk
+-- the view that they have of a new disk
 pub stored_used : (blocks len : ℕ) (old slice new : List ℕ) → ((b : ℕ) → bit_of old b ≡ 0) → slice ≡ old → length new ≡ length slice → length slice ≡ len
     → SetsBits slice new 2 blocks 1 → (b : ℕ) → b < blocks → is_used (used_blocks blocks (stored_words len new old)) b ≡ nat_lt b 2
 stored_used blocks len old slice new none is same fits sets b inside =

@@ -6,18 +6,18 @@ use Rattle.std.proofs.lemmas.Nat.Bits.{bit_at_and, bit_at_or, bit_at_not, bit_at
 use Rattle.std.proofs.lemmas.Bool.{cases_lt}
 use Rattle.rs_extent.specs.Words.{IsSetRun}
 
--- a shift to the right moves each bit down
+-- a shift to the right moves every bit down
 pub bit_at-shr : (n k i : ℕ) → bit_at (n / 2 ^ k) i ≡ bit_at n (k + i)
 bit_at-shr n k i = ap (λ (x : ℕ). x % 2) (shr-shr n k i)
 
--- a bit of `a & b` is set where both are
+-- a bit of `a & b` is set if both are
 pub and_set : (a b i : ℕ) → bit_at a i ≡ 1 → bit_at b i ≡ 1 → bit_at (bit_and a b) i ≡ 1
 and_set a b i p q = omega (arith, bit_at_and a b i)
 
 pub and_parts : (a b i : ℕ) → bit_at (bit_and a b) i ≡ 1 → (bit_at a i ≡ 1) × (bit_at b i ≡ 1)
 and_parts a b i h = (omega (arith, bit_at_and a b i, bit_at-lt a i, bit_at-lt b i), omega (arith, bit_at_and a b i, bit_at-lt a i, bit_at-lt b i))
 
--- where the bits of `starts` begin runs of `have` ones, those of `starts & (starts >> step)` begin runs of `have + step`
+-- if the bits of `starts` begin runs of `have` ones, those of `starts & (starts >> step)` begin runs of `have + step`
 pub longer_found : (word starts have step : ℕ) → step ≤ have → ((first : ℕ) → bit_at starts first ≡ 1 → IsSetRun (bit_at word) first have)
     → (first : ℕ) → bit_at (bit_and starts (starts / 2 ^ step)) first ≡ 1 → IsSetRun (bit_at word) first (have + step)
 longer_found word starts have step le found first h place from until =
@@ -42,7 +42,7 @@ bit_off_mask : (mask low high i : ℕ) → mask ≡ 2 ^ high - 2 ^ low → (i < 
 bit_off_mask mask low high i is (inl lt) = ap (λ (n : ℕ). bit_at n i) is ∙ bit_at_mask_below low high i lt
 bit_off_mask mask low high i is (inr le) = ap (λ (n : ℕ). bit_at n i) is ∙ bit_at_mask_above low high i le
 
--- what such a mask sets, and what it leaves as it was
+-- the bits that such a mask sets, and those that it leaves as they were
 pub set_inside : (word mask low high i : ℕ) → mask ≡ 2 ^ high - 2 ^ low → low ≤ i → i < high → bit_at (bit_or word mask) i ≡ 1
 set_inside word mask low high i is from until =
     let one = bit_in_mask mask low high i is from until in
@@ -66,7 +66,7 @@ cleared_outside word mask low high i is fits small out =
     let on = bit_at_not w64 mask i fits small in
     omega (arith, bit_at_and word (bit_not w64 mask) i, bit_at-lt word i)
 
--- `word & mask` is `mask` where the bits of the mask are set
+-- `word & mask` is `mask` if the bits of the mask are set
 pub has_mask : (word mask low high : ℕ) → mask ≡ 2 ^ high - 2 ^ low → low ≤ high → (bit_and word mask ≡ mask) ↔ IsSetRun (bit_at word) low (high - low)
 has_mask word mask low high is order = (there, back)
   where

@@ -1,4 +1,4 @@
--- How many ones a word of 64 bits has at its two ends.
+-- The number of ones at the two ends of a word of 64 bits.
 use Rattle.std.proofs.Common.{◌≡◌, inl, inr, ℕ, suc, ◌+◌, ◌-◌, ◌/◌, ◌^◌, ◌<◌, ◌≤◌, pow-suc, ◌∙◌, ap, arith}
 use Rattle.std.specs.Int.{bit_at, trailing_ones, leading_ones, w64}
 use Rattle.std.specs.Int.Count.{count_trailing_zeros, leading_top, leading_le, trailing_of_zero, trailing_le}
@@ -13,7 +13,7 @@ trailing_ones-all word full = let none : 2 ^ 64 - 1 - word ≡ 0 = omega arith i
 pub trailing_ones-le : (word : ℕ) → trailing_ones w64 word ≤ 64
 trailing_ones-le word = trailing_le 64 (2 ^ 64 - 1 - word)
 
--- each of them is set
+-- all of them are set
 pub trailing_set : (word i : ℕ) → word < 2 ^ 64 → i < trailing_ones w64 word → bit_at word i ≡ 1
 trailing_set word i fits lt = elim (cases_lt (word + 1) (2 ^ 64)) [
   | inl below ↦ (bit_at-trailing_ones w64 word below).2 i lt
@@ -36,7 +36,7 @@ top_set n j low high =
 pub leading_ones-le : (word : ℕ) → leading_ones w64 word ≤ 64
 leading_ones-le word = leading_le 64 (2 ^ 64 - 1 - word)
 
--- each of those at the upper end is set
+-- all of those at the upper end are set
 pub leading_set : (word i : ℕ) → word < 2 ^ 64 → i < 64 → 64 ≤ i + leading_ones w64 word → bit_at word i ≡ 1
 leading_set word i fits small le = elim (cases_lt (word + 1) (2 ^ 64)) [
   | inl below ↦

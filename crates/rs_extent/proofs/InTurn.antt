@@ -28,7 +28,7 @@ next_is_free old mid xs i d some few can taken =
     let one : CanTake mid (x ∷ []) = can_front old mid (x ∷ []) (drop i xs) taken rest in
     λ b ge lt. one.is_free b (some_first x [] b (within_true x b ge lt))
 
--- .. and is taken with those behind it.
+-- .. and is taken with those after it.
 pub one_more_taken : (old mid new : List Bool) (xs : List Extent) (i : ℕ) (d : Extent) → 0 < i → i ≤ length xs → CanTake old xs → AreTaken old mid (drop i xs)
     → Sets mid new (get_or xs (i - 1) d) true → AreTaken old new (drop (i - 1) xs)
 one_more_taken old mid new xs i d some few can taken sets =
@@ -36,7 +36,7 @@ one_more_taken old mid new xs i d some few can taken sets =
     let one = taken_free mid new x (next_is_free old mid xs i d some few can taken) sets in
     subst (AreTaken old new) (sym (from_before xs i d some few)) (taken_before old mid new (x ∷ []) (drop i xs) taken one)
 
--- What is beside an extent stays where the extent is given back.
+-- Blocks outside an extent stay as they are when the extent is given back.
 beside : (old new : List Bool) (e : Extent) → Sets old new e false → (b : ℕ) → within e b ≡ false → is_used new b ≡ is_used old b
 beside old new e sets b isnt = elim (outside e b isnt) [ inl low ↦ sets.before b low | inr high ↦ sets.after b high ]
 
@@ -69,7 +69,7 @@ next_is_used old mid xs i d some few can given =
     λ b ge lt. let here = within_true x b ge lt in
     (omega (arith, can.on_disk b (among b here), given.size), given.others b (apart.0 b here) ∙ can.are_used b (among b here))
 
--- .. and is given back with those behind it.
+-- .. and is given back with those after it.
 pub one_more_given : (old mid new : List Bool) (xs : List Extent) (i : ℕ) (d : Extent) → 0 < i → i ≤ length xs → AreGiven old mid (drop i xs)
     → Sets mid new (get_or xs (i - 1) d) false → AreGiven old new (drop (i - 1) xs)
 one_more_given old mid new xs i d some few given sets =

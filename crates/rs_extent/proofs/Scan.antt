@@ -1,4 +1,4 @@
--- A search for runs of ones, word by word: what is known before a word, and what the word adds.
+-- A search for runs of ones, word by word: the invariant before a word, and the step over the word.
 use Rattle.std.proofs.Common.{◌≡◌, inl, inr, ℕ, ◌+◌, ◌*◌, ◌-◌, ◌^◌, ◌<◌, ◌≤◌, List, get_or, sym, ◌∙◌, ap, subst, arith}
 use Rattle.std.specs.Int.{bit_at, trailing_ones, leading_ones, w64}
 use Rattle.std.proofs.lemmas.Nat.Bits.{bit_at_above}
@@ -116,7 +116,7 @@ scan_passes bits n base run head word s w short off partial none =
       ];
     }
 
--- nothing is set from `base` on
+-- no bit is set from `base` on
 pub scan_ends : (bits : ℕ → ℕ) (n base run : ℕ) → IsScanned bits n base run → ((place : ℕ) → base ≤ place → bits place ≡ 0) → HasNoSetRun bits n
 scan_ends bits n base run s empty lower is_run = elim (cases_lt (lower + run) base) [
   | inl below ↦ s.none lower below is_run

@@ -60,25 +60,25 @@ some_of_both (x ∷ xs) ys b is = elim (some_split x (xs ++ ys) b is) [
   | inr there ↦ elim (some_of_both xs ys b there) [ inl front ↦ inl (some_rest x xs b front) | inr behind ↦ inr behind ]
 ]
 
--- a block of no extent of both is of none of either
+-- a block outside the extents of two joined lists is outside those of either list
 pub none_front : (xs ys : List Extent) (b : ℕ) → in_some (xs ++ ys) b ≡ false → in_some xs b ≡ false
 none_front xs ys b none = not_true (in_some xs b) (λ is. not_both (in_some (xs ++ ys) b) (some_front xs ys b is) none)
 
 pub none_behind : (xs ys : List Extent) (b : ℕ) → in_some (xs ++ ys) b ≡ false → in_some ys b ≡ false
 none_behind xs ys b none = not_true (in_some ys b) (λ is. not_both (in_some (xs ++ ys) b) (some_behind xs ys b is) none)
 
--- Extents are beside a set where each of them is.
+-- If extents are disjoint from a set, so is the first of them, ..
 pub beside_first : (kept : ℕ → Bool) (e : Extent) (es : List Extent) → AreBeside kept (e ∷ es) → IsBeside kept e
 beside_first kept e es beside b is = beside b (some_first e es b is)
 
--- .. and where those in front and those behind are
+-- .. and so are those of the front and those of the rest
 pub beside_front : (kept : ℕ → Bool) (xs ys : List Extent) → AreBeside kept (xs ++ ys) → AreBeside kept xs
 beside_front kept xs ys beside b is = beside b (some_front xs ys b is)
 
 pub beside_behind : (kept : ℕ → Bool) (xs ys : List Extent) → AreBeside kept (xs ++ ys) → AreBeside kept ys
 beside_behind kept xs ys beside b is = beside b (some_behind xs ys b is)
 
--- lists that are apart, each and from one another
+-- two lists that are apart in themselves and from one another
 pub apart_both : (xs ys : List Extent) → AreApart xs → AreApart ys → AreDisjoint (in_some xs) (in_some ys) → AreApart (xs ++ ys)
 apart_both [] ys of_xs of_ys between = of_ys
 apart_both (x ∷ xs) ys of_xs of_ys between = (

@@ -6,7 +6,7 @@ use Rattle.rs_extent.specs.Extents.{within, in_some, AreDisjoint, AreTaken, CanT
 use Rattle.rs_extent.proofs.Blocks.{free_on_disk}
 use Rattle.rs_extent.proofs.Sets.{not_true, not_both, turned, within_is, outside, some_first, in_one, some_front, some_behind, some_of_both, none_front, none_behind, apart_both, apart_front, apart_behind, apart_between}
 
--- nothing is taken
+-- no extent is taken
 pub taken_none : (old new : List Bool) → new ≡ old → AreTaken old new []
 taken_none old new same = record {
   size = ap length same;
@@ -31,7 +31,7 @@ taken_free old new e free sets = record {
   apart = (λ b is. refl, tt);
 }
 
--- the later ones behind the earlier ones
+-- the later ones after the earlier ones
 pub taken_both : (old mid new : List Bool) (xs ys : List Extent) → AreTaken old mid xs → AreTaken mid new ys → AreTaken old new (xs ++ ys)
 taken_both old mid new xs ys front behind = record {
   size = behind.size ∙ front.size;
@@ -67,11 +67,11 @@ taken_before old mid new xs ys behind front =
     back : (b : ℕ) → in_some (ys ++ xs) b ≡ true → in_some (xs ++ ys) b ≡ true
     back b is = elim (some_of_both ys xs b is) [ inl one ↦ some_behind xs ys b one | inr other ↦ some_front xs ys b other ]
 
--- What can be taken, can be from behind ..
+-- If extents can be taken, the last ones can ..
 pub can_behind : (used : List Bool) (xs ys : List Extent) → CanTake used (xs ++ ys) → CanTake used ys
 can_behind used xs ys can = record { apart = apart_behind xs ys can.apart; is_free = λ b is. can.is_free b (some_behind xs ys b is) }
 
--- .. and then in front.
+-- .. and then the first ones.
 pub can_front : (old mid : List Bool) (xs ys : List Extent) → AreTaken old mid ys → CanTake old (xs ++ ys) → CanTake mid xs
 can_front old mid xs ys taken can = record {
   apart = apart_front xs ys can.apart;

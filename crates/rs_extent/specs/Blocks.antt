@@ -1,12 +1,12 @@
--- The blocks of a disk as a list of yes and no: whether each block is used, from block 0 on.
+-- The blocks of a disk as a list of yes and no: whether the block is used, from block 0 on.
 use Rattle.std.specs.Prelude.{◌≡◌, ℕ, ◌+◌, ◌<◌, ◌≤◌, Bool, true, false, List, length, get_or}
 use Rattle.rs_extent.specs.declared.Extent.{Extent}
 
--- how many bytes a block has
+-- the number of bytes of a block
 abbrev pub block_size : ℕ
 block_size = 512
 
--- a block is used; each block past the end of the disk counts as used, so that no run reaches there
+-- a block is used; every block past the end of the disk counts as used, so that no run reaches there
 abbrev pub is_used : List Bool → ℕ → Bool
 is_used used b = get_or used b true
 
@@ -14,11 +14,11 @@ is_used used b = get_or used b true
 abbrev pub IsFreeRun : List Bool → ℕ → ℕ → Type 0
 IsFreeRun used first n = (b : ℕ) → first ≤ b → b < first + n → is_used used b ≡ false
 
--- each block of an extent is free, and so on the disk
+-- all blocks of an extent are free, and so on the disk
 abbrev pub IsFree : List Bool → Extent → Type 0
 IsFree used e = IsFreeRun used e.first e.blocks
 
--- each block of an extent is on the disk and used
+-- all blocks of an extent are on the disk and used
 abbrev pub IsTaken : List Bool → Extent → Type 0
 IsTaken used e = (b : ℕ) → e.first ≤ b → b < e.first + e.blocks → (b < length used) × (is_used used b ≡ true)
 

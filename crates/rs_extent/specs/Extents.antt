@@ -1,4 +1,4 @@
--- Which blocks extents have: apart, within, taken, beside a set of blocks.
+-- The blocks that extents have: apart, within, taken, disjoint from a set of blocks.
 use Rattle.std.specs.Prelude.{◌≡◌, ◌<◌, ◌≤◌, ◌+◌, ◌*◌, ℕ, Bool, true, false, ◌&&◌, ◌||◌, nat_lt, nat_le, List, [], ◌∷◌, length}
 use Rattle.rs_extent.specs.declared.Extent.{Extent}
 use Rattle.rs_extent.specs.Blocks.{block_size, is_used}
@@ -16,7 +16,7 @@ in_some (e ∷ es) b = within e b || in_some es b
 abbrev pub AreDisjoint : (ℕ → Bool) → (ℕ → Bool) → Type 0
 AreDisjoint one other = (b : ℕ) → one b ≡ true → other b ≡ false
 
--- each block of the first set is in the second one
+-- all blocks of the first set are in the second one
 abbrev pub IsSubset : (ℕ → Bool) → (ℕ → Bool) → Type 0
 IsSubset one other = (b : ℕ) → one b ≡ true → other b ≡ true
 
@@ -25,11 +25,11 @@ abbrev pub AreApart : List Extent → Type 0
 AreApart [] = Unit {0}
 AreApart (e ∷ es) = AreDisjoint (within e) (in_some es) × AreApart es
 
--- each block of the extent lies on a disk of this many bytes
+-- all blocks of the extent lie on a disk of this many bytes
 abbrev pub IsOnDisk : Extent → ℕ → Type 0
 IsOnDisk e size = (b : ℕ) → within e b ≡ true → block_size * b + block_size ≤ size
 
--- each block of the extents lies on a disk of this many bytes
+-- all blocks of the extents lie on a disk of this many bytes
 abbrev pub AreOnDisk : List Extent → ℕ → Type 0
 AreOnDisk extents size = (b : ℕ) → in_some extents b ≡ true → block_size * b + block_size ≤ size
 
@@ -41,7 +41,7 @@ IsBeside kept e = AreDisjoint (within e) kept
 abbrev pub AreBeside : (ℕ → Bool) → List Extent → Type 0
 AreBeside kept es = AreDisjoint (in_some es) kept
 
--- Each block of the extents is on the disk and free, and no two of them have a block in common.
+-- All blocks of the extents are on the disk and free, and no two of the extents have a block in common.
 pub record CanTake (used : List Bool) (extents : List Extent) : Type 0 where
   pub apart : AreApart extents
   pub is_free : (b : ℕ) → in_some extents b ≡ true → is_used used b ≡ false
@@ -56,7 +56,7 @@ pub record AreTaken (old new : List Bool) (extents : List Extent) : Type 0 where
   pub others : (b : ℕ) → in_some extents b ≡ false → is_used new b ≡ is_used old b
   pub apart : AreApart extents
 
--- Each block of the extents is on the disk and used, and no two of them have a block in common.
+-- All blocks of the extents are on the disk and used, and no two of the extents have a block in common.
 pub record CanGive (used : List Bool) (extents : List Extent) : Type 0 where
   pub apart : AreApart extents
   pub on_disk : (b : ℕ) → in_some extents b ≡ true → b < length used

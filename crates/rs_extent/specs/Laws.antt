@@ -1,14 +1,14 @@
--- What follows from the definitions of extents alone.
+-- Laws that follow from the definitions of extents alone.
 use Rattle.std.specs.Prelude.{◌≡◌, ◌↔◌, Bool, true, List, [], ◌∷◌, ◌++◌}
 use Rattle.rs_extent.specs.declared.Extent.{Extent}
 use Rattle.rs_extent.specs.Blocks.{IsFree, Sets}
 use Rattle.rs_extent.specs.Extents.{in_some, AreDisjoint, AreApart, CanTake, AreTaken, AreGiven}
 
--- Two lists of extents are apart together where each is, and where they have no block in common.
+-- Two lists of extents are apart together exactly if both are apart and have no block in common.
 abbrev pub ApartInParts : Type 0
 ApartInParts = (xs ys : List Extent) → AreApart (xs ++ ys) ↔ (AreApart xs × AreApart ys × AreDisjoint (in_some xs) (in_some ys))
 
--- A free extent is taken where its blocks become used, and no others change.
+-- A free extent is taken if its blocks become used, and no others change.
 abbrev pub FreeIsTaken : Type 0
 FreeIsTaken = (old new : List Bool) (e : Extent) → IsFree old e → Sets old new e true → AreTaken old new (e ∷ [])
 

@@ -1,14 +1,14 @@
 //! Laws of extents, over their definitions alone.
 //!
-//! Each function here does nothing: its contract is the law, which the check proves.
+//! The functions here have no effect: their contracts are the laws, which the check proves.
 ghost use Rattle.rs_extent.specs.Laws.{ApartInParts, FreeIsTaken, TakenInTurn, CanTakeInTurn, TakenIsGivenBack};
 
-/// Two lists of extents are apart together where each is, and where they have no block in common.
+/// Two lists of extents are apart together exactly if both are apart and have no block in common.
 pub fn apart_in_parts()
     ensures { ApartInParts }
 {}
 
-/// A free extent is taken where its blocks become used.
+/// A free extent is taken if its blocks become used.
 pub fn free_is_taken()
     ensures { FreeIsTaken }
 {}

@@ -8,14 +8,13 @@ use crate::words::{all_set, lowest_run, set_bits, skip_zeros};
 use std::alloc::{AllocError, Global};
 use std::marker::Model;
 
-/// Which blocks of a disk are used, one bit for each block.
+/// The set of the used blocks of a disk, one bit per block.
 ///
-/// Contracts see a list with a yes or no for each block. A search looks at 64 blocks at a time,
-/// and begins at the first word that may have a free one. The cost of taking or giving back an
-/// extent grows with its number of blocks.
+/// Contracts see a list with a yes or no per block. A search looks at 64 blocks at a time, and begins at the first word
+/// that may have a free one. The cost of taking or giving back an extent grows with its number of blocks.
 #[derive(Debug, Drop)]
 pub struct Used {
-    /// A bit for each block, set where it is free.
+    /// A bit per block, set if the block is free.
     free: Vec<u64>,
     block_count: u32,
     /// No block in the words below this one is free. A search begins here.
@@ -34,13 +33,13 @@ impl Model for Used {
 }
 
 impl Used {
-    /// The set for a disk of `blocks` blocks. The first two are used, and all others free.
+    /// Returns the set for a disk of `blocks` blocks. The first two are used, and all others free.
     ///
-    /// It takes one bit of memory for each block. No later call takes any.
+    /// It takes one bit of memory per block. No later call takes memory.
     ///
     /// # Errors
     ///
-    /// [`AllocError`] where the memory is refused.
+    /// [`AllocError`] if the memory is refused.
     pub fn new(alloc: Global, blocks: u32) -> Result<Used, AllocError>
         requires { 2 ≤ blocks }
         ensures size { IfOk result (λ used. length used ≡ blocks) }
@@ -57,14 +56,14 @@ impl Used {
         })
     }
 
-    /// How many blocks the disk has.
+    /// Returns the number of blocks of the disk.
     pub fn blocks(&self) -> u32
         ensures { result ≡ length self.now }
     {
         self.block_count
     }
 
-    /// Whether each block of `extent` is on the disk and free, as [`Used::take`] requires.
+    /// Returns whether all blocks of `extent` are on the disk and free, as [`Used::take`] requires.
     pub fn is_free(&self, extent: Extent) -> bool
         ensures { IsTrue result ↔ IsFree self.now extent }
     {
@@ -103,8 +102,8 @@ impl Used {
         self.full_words = self.full_words.min(first / 64);
     }
 
-    /// Adds the blocks of each of these extents, and no others. All of them are free, and no two
-    /// extents have a block in common.
+    /// Adds the blocks of these extents, and no others. All of them are free, and no two extents have a block in
+    /// common.
     pub fn take_each(&mut self, extents: &[Extent])
         requires { CanTake self.old extents.now }
         ensures { AreTaken self.old self.new extents.now }
@@ -116,8 +115,8 @@ impl Used {
         }
     }
 
-    /// Removes the blocks of each of these extents, and no others. All of them are used, and no two
-    /// extents have a block in common.
+    /// Removes the blocks of these extents, and no others. All of them are used, and no two extents have a block in
+    /// common.
     pub fn give_each(&mut self, extents: &[Extent])
         requires { CanGive self.old extents.now }
         ensures { AreGiven self.old self.new extents.now }
@@ -129,7 +128,7 @@ impl Used {
         }
     }
 
-    /// The lowest run of `blocks` free blocks, or `None` where the disk has no such run.
+    /// Returns the lowest run of `blocks` free blocks, or `None` if the disk has no such run.
     pub fn find(&self, blocks: u32) -> Option<Extent>
         requires { 1 ≤ blocks }
         ensures { MatchOption result ((first : ℕ) → ¬ IsFreeRun self.now first blocks)
@@ -139,12 +138,12 @@ impl Used {
         Some(Extent { first, blocks })
     }
 
-    /// The length in blocks of the longest run of free blocks, 0 where no block is free.
+    /// Returns the length in blocks of the longest run of free blocks, 0 if no block is free.
     pub fn longest_free(&self) -> u32
         ensures some { (first : ℕ) × IsFreeRun self.now first result }
         ensures longest { (first n : ℕ) → IsFreeRun self.now first n → n ≤ result }
     {
-        // Where a run of some length is free, so is each shorter one: halving finds the longest.
+        // If a run of some length is free, so is every shorter one: halving finds the longest.
         let mut served = 0;
         let mut most = self.blocks();
         while served < most {

@@ -17,7 +17,7 @@ pub fn set_bits(words: &mut [u64], first: usize, end: usize, value: bool)
     }
 }
 
-/// Whether the bits from `first` up to `end` are all set.
+/// Returns whether the bits from `first` up to `end` are all set.
 pub fn all_set(words: &[u64], first: usize, end: usize) -> bool
     requires order { first ≤ end }
     requires room { end ≤ 64 * length words.now }
@@ -34,7 +34,7 @@ pub fn all_set(words: &[u64], first: usize, end: usize) -> bool
     true
 }
 
-/// The lowest place from which `n` bits in a row are set, where no bit is set below word `from`.
+/// Returns the lowest place from which `n` bits in a row are set. No bit is set below word `from`.
 pub fn lowest_run(words: &[u64], from: usize, n: u32) -> Option<u32>
     requires some { 1 ≤ n }
     requires short { length words.now ≤ 2 ^ 26 }
@@ -42,7 +42,7 @@ pub fn lowest_run(words: &[u64], from: usize, n: u32) -> Option<u32>
     ensures { MatchOption result (HasNoSetRun (bit_of words.now) n)
         (IsLowestRun (bit_of words.now) n) }
 {
-    // How many bits right before the word are set.
+    // The number of set bits right before the word.
     let mut run = 0;
     for i in from..words.len() {
         let word = words[i];
@@ -62,7 +62,7 @@ pub fn lowest_run(words: &[u64], from: usize, n: u32) -> Option<u32>
     None
 }
 
-/// The lowest bit of a word from which `n` bits in a row are set.
+/// Returns the lowest bit of a word from which `n` bits in a row are set.
 fn lowest_run_within(word: u64, n: u32) -> Option<u32>
     requires { 1 ≤ n }
     ensures { MatchOption result (HasNoSetRun (bit_at word) n) (IsLowestRun (bit_at word) n) }
@@ -78,13 +78,13 @@ fn lowest_run_within(word: u64, n: u32) -> Option<u32>
     }
 }
 
-/// The bits of a word from which `n` bits in a row are set.
+/// Returns the bits of a word from which `n` bits in a row are set.
 fn run_starts(word: u64, n: u32) -> u64
     requires some { 1 ≤ n }
     requires fits { n ≤ 64 }
     ensures { (first : ℕ) → (bit_at result first ≡ 1) ↔ IsSetRun (bit_at word) first n }
 {
-    // From each bit of `starts`, `length` bits are set. A step joins two such runs that touch.
+    // From every bit of `starts`, `length` bits are set. A step joins two such runs that touch.
     let mut starts = word;
     let mut length = 1;
     while starts != 0 && length < n {
@@ -95,10 +95,10 @@ fn run_starts(word: u64, n: u32) -> u64
     starts
 }
 
-/// The first word from `from` on that isn't 0. It looks at `most` words at most.
+/// Returns a place, not before `from`, with only zero words in between: that of the first other
+/// word, if it is among the next `most`.
 ///
-/// A search may begin there. That needs only that no bit is set in between, so the contract says
-/// no more.
+/// A search may begin there. It needs only that no bit is set in between.
 pub fn skip_zeros(words: &[u64], from: usize, most: u32) -> usize
     ensures { (i : ℕ) → from ≤ i → i < result → get_or words.now i 0 ≡ 0 }
 {
@@ -124,7 +124,7 @@ fn with_bits(word: u64, low: usize, high: usize, value: bool) -> u64
     if value { word | mask } else { word & !mask }
 }
 
-/// Whether the bits of a word from `low` up to `high` are all set.
+/// Returns whether the bits of a word from `low` up to `high` are all set.
 fn has_bits(word: u64, low: usize, high: usize) -> bool
     requires order { low ≤ high }
     requires fits { high ≤ 64 }
@@ -134,7 +134,7 @@ fn has_bits(word: u64, low: usize, high: usize) -> bool
     word & mask == mask
 }
 
-/// A word with the bits from `low` up to `high` set.
+/// Returns a word with the bits from `low` up to `high` set.
 fn ones_between(low: usize, high: usize) -> u64
     requires order { low ≤ high }
     requires fits { high ≤ 64 }
@@ -143,7 +143,7 @@ fn ones_between(low: usize, high: usize) -> u64
     ones_below(high) - ones_below(low)
 }
 
-/// A word with its lowest `count` bits set.
+/// Returns a word with its lowest `count` bits set.
 fn ones_below(count: usize) -> u64
     requires { count ≤ 64 }
     ensures { result ≡ 2 ^ count - 1 }

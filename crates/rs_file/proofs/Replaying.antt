@@ -58,7 +58,7 @@ module _ (first : List ℕ) (torn : ℕ → List ℕ) (size : ℕ) (events later
         }),
       )
 
--- at first
+-- at the beginning
 pub first_sound : (first : List ℕ) (torn : ℕ → List ℕ) (size : ℕ) (events : List Event) → events ≡ [] → IsMedium size (replay_events first torn size events).now
 first_sound first torn size events none = subst (λ (es : List Event). IsMedium size (replay_events first torn size es).now) (sym none) (resting_medium size (sized size first) (length-sized size first))
 
@@ -69,7 +69,7 @@ whole : (bytes : List ℕ) → sized (length bytes) bytes ≡ bytes
 unfolding sized
 whole bytes = take_at bytes (replicate (length bytes) 0) (length bytes) refl
 
--- a file of the length of the bytes that it is supposed to have held holds them
+-- if the file has the length of its supposed bytes, it holds them
 pub opened_first : (first : List ℕ) (torn : ℕ → List ℕ) (size : ℕ) (events : List Event) → events ≡ [] → IsTrue (replay_events first torn size events).honest → (replay_events first torn size events).now ≡ resting first
 opened_first first torn size events none = subst (λ (es : List Event). IsTrue (replay_events first torn size es).honest → (replay_events first torn size es).now ≡ resting first) (sym none) here
   where

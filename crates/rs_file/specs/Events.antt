@@ -2,7 +2,7 @@
 use Rattle.std.specs.Prelude.{◌≡◌, ℕ, zero, suc, ◌==◌, Bool, false, not, ◌||◌, List, [], ◌∷◌, slice_index, refl}
 use Rattle.std.specs.Coded.{Coded, code_by, coded×, coded_ℕ, coded_bool, coded_list}
 
--- A call with its answer: whether it succeeded, and of a read or a write the offset and the bytes that were read or given.
+-- A call with its answer: whether it succeeded, and for a read or a write its offset and the bytes read or passed.
 pub data Event : Type 0 where
   WasRead : (at : ℕ) → (ok : Bool) → (bytes : List ℕ) → Event
   WasWritten : (at : ℕ) → (ok : Bool) → (bytes : List ℕ) → Event
@@ -14,17 +14,17 @@ call_of zero at ok bytes = WasRead at ok bytes
 call_of (suc zero) at ok bytes = WasWritten at ok bytes
 call_of (suc (suc more)) at ok bytes = WasSynced ok
 
--- a call by its numbers, which are the call, its offset and 1 for success, and its bytes
+-- a call from its bytes and its numbers, which are the kind of call, the offset and 1 for success
 abbrev pub event_of : List ℕ → List ℕ → Event
 event_of numbers bytes = call_of (slice_index numbers 0) (slice_index numbers 1) (slice_index numbers 2 == 1) bytes
 
--- whether an event is a sync that failed
+-- whether an event is a failed sync
 abbrev pub is_failed_sync : Event → Bool
 is_failed_sync (WasRead at ok bytes) = false
 is_failed_sync (WasWritten at ok bytes) = false
 is_failed_sync (WasSynced ok) = not ok
 
--- whether a sync of these has failed
+-- whether these events include a failed sync
 abbrev pub sync_failed : List Event → Bool
 sync_failed [] = false
 sync_failed (e ∷ earlier) = is_failed_sync e || sync_failed earlier
@@ -45,6 +45,6 @@ of_parts-parts_of (WasRead at ok bytes) = refl
 of_parts-parts_of (WasWritten at ok bytes) = refl
 of_parts-parts_of (WasSynced ok) = refl
 
--- by which proofs tell events apart
+-- the code by which proofs distinguish events
 abbrev pub event_coded : Coded Event
 event_coded = code_by Parts (coded× coded_ℕ (coded× coded_ℕ (coded× coded_bool (coded_list coded_ℕ)))) parts_of of_parts of_parts-parts_of

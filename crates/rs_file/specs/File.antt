@@ -8,11 +8,11 @@ use Rattle.rs_file.specs.Events.{Event}
 use Rattle.rs_file.specs.Replay.{replay_events}
 
 module _ {S : Type 0} where
-  -- the calls that were counted, with their answers, the newest first
+  -- the counted calls with their answers, newest first
   abbrev pub events_of : {start : Ghosts S} → FileDisk S start → List Event
   events_of d = d.file.log.events
 
-  -- the disk that these calls show
+  -- the state of the disk, replayed from these calls
   abbrev pub state_of : (start : Ghosts S) → FileDisk S start → DiskState
   state_of start d = replay_events start.first start.torn d.size d.file.log.events
 

@@ -8,7 +8,7 @@ use rs_disk::Fault;
 use std::fs::File;
 
 /// An open file with the record of its calls. After a failed sync it makes no further system call,
-/// and records each call as failed.
+/// and records every call as failed.
 #[derive(Drop)]
 pub(crate) struct RecordedFile {
     file: SystemFile,

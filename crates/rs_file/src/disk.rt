@@ -12,13 +12,13 @@ use std::marker::PhantomData;
 /// A disk over a file of the operating system.
 ///
 /// Its size is the length of the file when it was opened. It meets the contract of [`Disk`]: its
-/// state is the replay of a record of its calls. Beside the proofs a reader has to trust that each
-/// `read`, `write` and `sync` makes the system call that it records, that
-/// [`open`](FileDisk::open) and [`create`](FileDisk::create) settle what the file holds, and that
-/// after a crash the file holds one of the images of the state.
+/// state is the replay of a record of its calls. The proofs leave three points for a reader to
+/// trust: every `read`, `write` and `sync` makes the system call that it records;
+/// [`open`](FileDisk::open) and [`create`](FileDisk::create) settle the content of the file; after
+/// a crash the file holds one of the images of the state.
 ///
-/// After a failed sync the system may have dropped what was written, and a later sync may still
-/// succeed. So the disk makes no further system call: each call answers [`Fault`] and is counted.
+/// After a failed sync the system may have dropped written bytes, and a later sync may still
+/// succeed. So the disk makes no further system call: every call answers [`Fault`] and is counted.
 /// The system has no offset from 2^63 on: a call that reaches there fails.
 #[derive(Drop)]
 pub struct FileDisk<S: Start> {
@@ -42,7 +42,7 @@ impl<S: Start> FileDisk<S> {
     ghost use Rattle.rs_file.specs.File.{state_of, events_of};
     ghost use Rattle.std.specs.Prelude.{◌≡◌, ◌↔◌, ◌+◌, ◌≤◌, ◌^◌, [], IsTrue};
 
-    /// A disk of this size over a file, without any calls so far.
+    /// Returns a disk of this size over a file, without any calls so far.
     pub(crate) fn over(file: File, size: u64) -> FileDisk<S>
         ensures state { state_of S.Start result ≡ opened S.Start.first size }
         ensures first { IsTrue (state_of S.Start result).honest
@@ -58,7 +58,7 @@ impl<S: Start> FileDisk<S> {
         }
     }
 
-    /// Whether the count of calls has reached its last value.
+    /// Returns whether the count of calls has reached its last value.
     fn is_spent(&self) -> bool
         ensures { IsTrue result ↔ (2 ^ 64 ≤ (state_of S.Start self.now).calls + 1) }
     {
@@ -66,8 +66,8 @@ impl<S: Start> FileDisk<S> {
     }
 }
 
-/// Each method has the clauses of the trait and two more: it records each counted call with its
-/// answer, and it fails after a failed sync.
+/// The methods have the clauses of the trait and two more: every counted call is recorded with its
+/// answer, and fails after a failed sync.
 impl<S: Start> Disk for FileDisk<S> {
     ghost use Rattle.std.specs.Prelude.{◌≡◌, ◌+◌, ◌<◌, ◌≤◌, ◌^◌, ◌∷◌, length, take, drop, is_ok, OnOk, OnErr, IsErr, IsTrue};
     ghost use Rattle.rs_disk.specs.Calls.{CountsCall, Stays, Writes, Tears, Settles};

@@ -1,10 +1,11 @@
 //! A file of the operating system as a disk.
 //!
-//! [`FileDisk`] meets the contract of [`rs_disk::Disk`] over an open file. No contract can say what
-//! a file gives, so its ghost state is the replay of a record of its calls and of their answers,
-//! on a file that held what the type parameter [`Start`] names. The record takes no memory, since
-//! only clauses read it. [`honest_is`] says when a file has followed the model so far.
-//! [`FileDisk`] says what a reader has to trust beside the proofs.
+//! [`FileDisk`] meets the contract of [`rs_disk::Disk`] over an open file. No contract can
+//! determine the bytes that a file returns, so its ghost state is the replay of a record of its
+//! calls and their answers, on a file whose first content the type parameter [`Start`] names. The
+//! record takes no memory, since only clauses read it. [`honest_is`] defines when a file has
+//! followed the model so far. [`FileDisk`] lists the points that the proofs leave for a reader to
+//! trust.
 #![tactic(auto)]
 
 mod calls;

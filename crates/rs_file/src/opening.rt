@@ -14,17 +14,17 @@ use std::rt::Files;
 // The last of the standard streams.
 const STANDARD_ERROR: i32 = 2;
 
-/// Whether a descriptor has the number of a standard stream.
+/// Returns whether a descriptor has the number of a standard stream.
 fn is_standard_stream(descriptor: i32) -> bool
     ensures { IsTrue result ↔ (descriptor ≤ℤ pos 2) }
 {
     descriptor <= STANDARD_ERROR
 }
 
-/// Locks a file that was just opened. It has to be a regular file.
+/// Locks a newly opened file, which has to be a regular file.
 fn claimed(file: File) -> io::Result<File> {
-    // If a standard stream was closed, the file may have its number. What is meant for the stream
-    // must not land in the file.
+    // If a standard stream was closed, the file may have its number. Output to the stream must not
+    // land in the file.
     let file = if is_standard_stream(file.as_raw_fd()) {
         file.try_clone()?
     } else {
@@ -37,7 +37,7 @@ fn claimed(file: File) -> io::Result<File> {
     Ok(file)
 }
 
-/// Syncs the file, and gives its length. It drops the pages that the system has cached: after a
+/// Syncs the file, and returns its length. It drops the pages that the system has cached: after a
 /// failed sync of another process they may differ from the device.
 fn settled_length(file: &File) -> io::Result<u64> {
     file.sync_all()?;
@@ -57,7 +57,7 @@ fn settle_folder<R: Files<File = File>>(rt: &R, path: &str) -> io::Result<()> {
     File::open(rt, folder)?.sync_all()
 }
 
-/// Opens an existing file, and gives its length.
+/// Opens an existing file, and returns it with its length.
 fn open_existing<R: Files<File = File>>(rt: &R, path: &str) -> io::Result<(File, u64)> {
     let file = OpenOptions::new().read(true).write(true).open(rt, path)?;
     let file = claimed(file)?;
@@ -65,7 +65,7 @@ fn open_existing<R: Files<File = File>>(rt: &R, path: &str) -> io::Result<(File,
     Ok((file, size))
 }
 
-/// Gives a new file this length. Its bytes are zeros. A length from 2^63 on fails.
+/// Sets the length of a new file, whose bytes are then zeros. A length from 2^63 on fails.
 fn filled(file: File, size: u64) -> io::Result<File>
     ensures { 2 ^ 63 ≤ size → IsErr result }
 {
@@ -81,14 +81,15 @@ impl<S: Start> FileDisk<S> {
     /// Opens the file of this name as a disk of the file's length.
     ///
     /// The file has to be a regular file, and is opened for reading and writing. It stays locked
-    /// against every other `FileDisk` until the disk is dropped. It is synced once, so that what it
-    /// holds is settled.
+    /// against every other `FileDisk` until the disk is dropped. It is synced once, so that its
+    /// content is settled.
     ///
     /// # Errors
-    /// [`FileFault::Device`] where there is no such file, it is no regular file, or it cannot be
-    /// opened for reading and writing, locked, synced or measured.
+    /// [`FileFault::Device`] if the file does not exist, is no regular file, or cannot be opened
+    /// for reading and writing, locked, synced or measured.
     pub fn open<R: Files<File = File>>(rt: &R, path: &str, _start: S) -> Result<Self, FileFault>
-        // What it held is settled; where its start names fewer bytes than it has, zeros follow.
+        // The content is settled. If its start names fewer bytes than the file has, zeros follow
+        // them.
         ensures now { IfOk result (λ d. (state_of S.Start d).now
             ≡ resting (sized (state_of S.Start d).size S.Start.first)) }
         ensures honest { IfOk result (λ d. IsTrue (state_of S.Start d).honest
@@ -113,9 +114,9 @@ impl<S: Start> FileDisk<S> {
     /// so that both survive a crash. Its start has to name `size` zeros for the disk to be honest.
     ///
     /// # Errors
-    /// [`FileFault::Exists`] where something has that name already: it is left as it is.
-    /// [`FileFault::Device`] where the system fails otherwise, as it does at a size from 2^63 on.
-    /// A file that was created by then stays.
+    /// [`FileFault::Exists`] if the name is already in use: the existing file is left as it is.
+    /// [`FileFault::Device`] if the system fails otherwise, as it does at a size from 2^63 on. A
+    /// file that was created by then stays.
     pub fn create<R: Files<File = File>>(
         rt: &R,
         path: &str,

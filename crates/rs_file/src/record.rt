@@ -6,14 +6,14 @@ ghost use Rattle.rs_file.specs.Events.{Event, event_coded, event_of};
 
 use std::marker::{Model, PhantomData};
 
-// The number of each call.
+// The numbers of the calls.
 pub(crate) const READ: u64 = 0;
 
 pub(crate) const WRITE: u64 = 1;
 
 pub(crate) const SYNC: u64 = 2;
 
-/// The calls on a file with their answers, the newest first. It takes no memory.
+/// The calls on a file with their answers, newest first. It takes no memory.
 #[derive(Drop)]
 pub(crate) struct Record {
     marker: PhantomData<u8>,

@@ -1,8 +1,8 @@
 //! The system calls on the file of an open disk.
 //!
-//! The file is private to this module: once a disk is open, only the three methods here use it.
-//! Each makes the one system call that it records, with its answer. None may be called after a
-//! failed sync. No proof can show that the call was made, so read this page.
+//! The file is private to this module: once a disk is open, only the three methods here use it. A
+//! method makes exactly the system call that it records, with its answer. Never call a method after
+//! a failed sync. No proof can show that the call was made, so read this page.
 ghost use Rattle.std.specs.Prelude.{◌≡◌, ◌∷◌, false, is_ok};
 ghost use Rattle.rs_file.specs.Events.{sync_failed, WasRead, WasWritten, WasSynced};
 

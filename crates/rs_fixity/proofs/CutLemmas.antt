@@ -14,7 +14,7 @@ pub then_some : {A B : Type 0} (r : Option A) (f : A → Option B) (x : A) (y : 
     → (r >>= f) ≡ y
 then_some r f x y e h = ap (λ o. o >>= f) e ∙ h
 
--- where a step and the next gave a value, each of them did
+-- if a step followed by the next gave a value, both of them did
 pub then_gave : {A B : Type 0} (r : Option A) (f : A → Option B) (y : B) → (r >>= f) ≡ Some y
     → (x : A) × (r ≡ Some x) × (f x ≡ Some y)
 then_gave None f y e = cc
@@ -48,7 +48,7 @@ stripped_by : (b : Bool) (p c : ℕ) (front text rest : List ℕ) → (c == p) �
 stripped_by true p c front text rest e h next = let is : c ≡ p = grind (arith, nat_tests) in λ i. is i ∷ next h i
 stripped_by false p c front text rest e h next = cc
 
--- nothing but a beginning is stripped off
+-- only a beginning is stripped off
 pub strip_gave : (front text rest : List ℕ) → strip front text ≡ Some rest → text ≡ front ++ rest
 unfolding strip
 strip_gave [] text rest h = cc
@@ -73,13 +73,13 @@ cut_by false mark c text parts e h = record {
   marked = h.marked;
 }
 
--- each text is cut so
+-- every text is cut this way
 pub cut_is : (mark : ℕ) (text : List ℕ) → IsCut mark text (cut mark text)
 unfolding cut
 cut_is mark [] = record { joined = refl; lacking = refl; marked = λ c rest same. cc }
 cut_is mark (c ∷ text) = cut_by (c == mark) mark c text (cut mark text) refl (cut_is mark text)
 
--- a value is read from how it is written
+-- a value is read from its written form
 pub if_written_own : {A : Type 0} (text : List ℕ) (value : A) → if_written text text value ≡ Some value
 if_written_own text value = ap (λ b. cond b (Some value) None) ((bytes_decides text text).1 refl)
 
@@ -89,7 +89,7 @@ written_by : {A : Type 0} (b : Bool) (written text : List ℕ) (value given : A)
 written_by true written text value given same e = ((bytes_decides written text).0 same, cc)
 written_by false written text value given same e = cc
 
--- a value that was read is written so
+-- a value that was read has this written form
 pub if_written_gave : {A : Type 0} (written text : List ℕ) (value given : A)
     → if_written written text value ≡ Some given → (written ≡ text) × (value ≡ given)
 if_written_gave written text value given e = written_by _ written text value given refl e
@@ -98,7 +98,7 @@ if_written_gave written text value given e = written_by _ written text value giv
 pub passes : (p : ℕ → Bool) (text : List ℕ) (c : ℕ) → IsTrue (list_all p text) → Contains text c → p c ≡ true
 passes p text c h among = All-contains (λ b. p b ≡ true) text c (AllPass-from_list_all p text h) among
 
--- what lacks a mark does not contain it
+-- a text that lacks a mark does not contain it
 pub lacks-Contains : (mark : ℕ) (text : List ℕ) → IsTrue (lacks mark text) → ¬ Contains text mark
 lacks-Contains mark text h among =
     let other = passes (λ c. not (c == mark)) text mark h among in
@@ -108,7 +108,7 @@ unlike : (b : Bool) (p : ℕ → Bool) (mark c : ℕ) → (c == mark) ≡ b → 
 unlike true p mark c e h k = let is : c ≡ mark = grind (arith, nat_tests) in cc
 unlike false p mark c e h k = refl
 
--- a text whose bytes all pass a test lacks each mark that does not pass it
+-- a text whose bytes all pass a test lacks every mark that does not pass it
 pub lacks_by : (p : ℕ → Bool) (mark : ℕ) → p mark ≡ false → (text : List ℕ) → IsTrue (list_all p text)
     → IsTrue (lacks mark text)
 lacks_by p mark h [] k = refl

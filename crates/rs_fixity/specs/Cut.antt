@@ -28,6 +28,6 @@ cut mark (c ∷ text) = if c == mark then ([], c ∷ text) else with_first c (cu
 abbrev pub lacks : ℕ → List ℕ → Bool
 lacks mark text = list_all (λ c. not (c == mark)) text
 
--- a value, if the text is how it is written
+-- a value, if the text is its written form
 abbrev pub if_written : {A : Type 0} → List ℕ → List ℕ → A → Option A
 if_written written text value = if pointwise nat_eq written text then Some value else None

@@ -1,5 +1,5 @@
--- The text of two digests in the form of the attribute `hash` of ResourceSync (Z39.99): each digest's name and
--- its hexadecimal digits, with a space between the two.
+-- The text of two digests in the form of the attribute `hash` of ResourceSync (Z39.99): for both digests the name and
+-- the hexadecimal digits, with a space between the two.
 use Rattle.std.specs.Prelude.{ℕ, List, ◌++◌, codes}
 use Rattle.hex.specs.Hex.{encode_lower}
 use Rattle.rs_fixity.specs.declared.Digests.{Digests}

@@ -1,4 +1,4 @@
--- What the two hashers have taken so far.
+-- The message that the two hashers have taken so far.
 use Rattle.std.specs.Prelude.{ℕ, List}
 use Rattle.md5.specs.Md5.{Holds as HoldsMd5}
 use Rattle.sha2.specs.Hashers.{Holds256}
@@ -10,6 +10,6 @@ pub record HasTaken (h : Hashing) (m : List ℕ) : Type 0 where
   pub md5 : HoldsMd5 h.md5 m
   pub sha256 : Holds256 h.sha256 m
 
--- the same of the hasher for the SHA-256 alone
+-- the same for the hasher of the SHA-256 alone
 pub record HasTakenSha256 (h : Sha256Hashing) (m : List ℕ) : Type 0 where
   pub sha256 : Holds256 h.sha256 m

@@ -1,6 +1,6 @@
 //! Laws of digests and their text.
 //!
-//! Each function here does nothing: its contract is the law, which the check proves.
+//! The functions here have no effect: their contracts are the laws, which the check proves.
 
 ghost use Rattle.std.specs.Prelude.{◌≡◌, ℕ, List, ◌∷◌, ◌++◌, Some, IsTrue, Contains, codes};
 ghost use Rattle.rs_fixity.specs.declared.Digests.{Digests};
@@ -9,7 +9,7 @@ ghost use Rattle.rs_fixity.specs.HashText.{hash_text_of};
 ghost use Rattle.rs_fixity.specs.ReadHash.{read_hash};
 ghost use Rattle.rs_fixity.specs.Cut.{cut, strip, lacks};
 
-/// The MD5 of each message is 16 bytes, and the SHA-256 is 32 bytes.
+/// The MD5 of every message is 16 bytes, and the SHA-256 is 32 bytes.
 pub fn digests_are_bytes()
     ensures md5 { (m : List ℕ) → AreNBytes 16 (digests m).md5 }
     ensures sha256 { (m : List ℕ) → AreNBytes 32 (digests m).sha256 }
@@ -24,24 +24,23 @@ pub fn hash_texts_read_back()
         AreNBytes 16 d.md5 × AreNBytes 32 d.sha256 × (text ≡ hash_text_of d) }
 {}
 
-/// The text of digests has no line feed, and none of `"`, `&`, `'`, `<`, `>`, so XML attribute values need
-/// no escaping of it.
+/// The text of digests has no line feed and no `"`, `&`, `'`, `<` or `>`, so XML attribute values need no escaping of
+/// it.
 pub fn hash_texts_need_no_escaping()
     ensures { (d : Digests) (mark : ℕ) → Contains (10 ∷ codes "\"&'<>") mark →
         ¬ Contains (hash_text_of d) mark }
 {}
 
-/// A joined text can be cut again: a beginning is stripped off, and a value without the mark is cut off
-/// before the mark.
+/// A joined text can be cut again: a beginning is stripped off, and a value without the mark is cut off before the
+/// mark.
 pub fn joined_texts_are_cut()
     ensures strip { (front rest : List ℕ) → strip front (front ++ rest) ≡ Some rest }
     ensures cut { (mark : ℕ) (value rest : List ℕ) → IsTrue (lacks mark value) →
         cut mark (value ++ mark ∷ rest) ≡ (value, mark ∷ rest) }
 {}
 
-/// A cut text can be joined again: a stripped beginning and the rest are the text. So are a value that
-/// was cut off before a mark and the rest. The value lacks the mark, and the rest is empty or begins with
-/// it.
+/// A cut text can be joined again: a stripped beginning and the rest are the text, and so are a value that was cut off
+/// before a mark and the rest. The value lacks the mark, and the rest is empty or begins with it.
 pub fn cut_texts_join()
     ensures strip { (front text rest : List ℕ) → strip front text ≡ Some rest
         → text ≡ front ++ rest }

@@ -1,6 +1,6 @@
 //! The fixity of bytes: their MD5 and SHA-256, found in one call or piece by piece, and the text of both.
 //!
-//! Nothing here takes memory.
+//! No function here takes memory.
 #![tactic(auto)]
 
 mod hashing;

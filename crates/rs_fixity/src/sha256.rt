@@ -5,17 +5,17 @@ ghost use Rattle.rs_fixity.specs.Digests.{digests};
 
 use sha2::{Digest as _, Sha256};
 
-/// The SHA-256 (FIPS 180-4) of a whole message.
+/// Returns the SHA-256 (FIPS 180-4) of a whole message.
 pub fn sha256_of(bytes: &[u8]) -> [u8; 32]
     ensures { result ≡ (digests bytes.now).sha256 }
 {
     Sha256::digest(bytes)
 }
 
-/// Takes a message piece by piece, and then gives its SHA-256 (FIPS 180-4).
+/// Takes a message piece by piece, and then returns its SHA-256 (FIPS 180-4).
 ///
-/// `HasTakenSha256` says which message it holds: the pieces added so far, joined. How the message was
-/// cut makes no difference.
+/// `HasTakenSha256` names the message that it holds: the pieces added so far, joined. The cuts between the pieces make
+/// no difference.
 #[derive(Drop)]
 pub struct Sha256Hashing {
     sha256: Sha256,
@@ -24,7 +24,7 @@ pub struct Sha256Hashing {
 impl Sha256Hashing {
     ghost use Rattle.rs_fixity.specs.Hashed.{HasTakenSha256};
 
-    /// Holds the empty message.
+    /// Returns a hasher that holds the empty message.
     pub fn new() -> Sha256Hashing
         ensures { HasTakenSha256 result [] }
     {
@@ -41,7 +41,7 @@ impl Sha256Hashing {
         self.sha256.update(piece);
     }
 
-    /// The SHA-256 of the message that it holds.
+    /// Returns the SHA-256 of the message that it holds.
     pub fn done(self) -> [u8; 32]
         ensures { (m : List ℕ) → HasTakenSha256 self m → result ≡ (digests m).sha256 }
     {

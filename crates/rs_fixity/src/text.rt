@@ -6,8 +6,8 @@ ghost use Rattle.rs_fixity.specs.Hex.{encode_lower};
 
 use crate::Digests;
 
-/// The text of the digests in the form of the attribute `hash` of ResourceSync (ANSI/NISO Z39.99): `md5:`
-/// and 32 digits, a space, `sha-256:` and 64 digits. All digits are hexadecimal and in lower case.
+/// Returns the text of the digests in the form of the attribute `hash` of ResourceSync (ANSI/NISO Z39.99): `md5:` and
+/// 32 digits, a space, `sha-256:` and 64 digits. All digits are hexadecimal and in lower case.
 pub fn hash_text(digests: &Digests) -> [u8; 109]
     ensures { result ≡ hash_text_of digests.now }
 {
@@ -18,7 +18,7 @@ pub fn hash_text(digests: &Digests) -> [u8; 109]
     text
 }
 
-/// Writes the two digits of each byte over the text, from place `at` on.
+/// Writes the bytes as pairs of hexadecimal digits over the text, from place `at` on.
 fn put_digits(text: &mut [u8], at: usize, bytes: &[u8])
     requires { at + 2 * length bytes.now ≤ length text.old }
     ensures { text.new ≡

@@ -35,7 +35,7 @@ module _ {W : Type 0} {contents : W → Option (List ℕ)} {before after : Watch
       → Responds contents before after framing comes result → Responds contents before after framing more result
   answers_more is r = record { outcome = r.outcome; comes_of_it = is r.outcome r.comes_of_it; sends = r.sends }
 
--- the source is open where it gives what it is asked
+-- a source that gives the requested value is open
 opened : {T : Type 0} (given : T) (closed : Bool) → IsErrOf {E = stored.Refusal} (Ok given) Closed ↔ IsTrue closed → closed ≡ false
 opened given false h = refl
 opened given true h =
@@ -49,7 +49,7 @@ of_kind NotHeld is = tt
 of_kind NoMemory is = tt
 of_kind refusal is = absurd is
 
--- a refusal is one, whatever the type of the value
+-- a refusal does not depend on the type of the value
 elsewhere : {A B : Type 0} (r s : stored.Refusal) (P : Type 0) → IsErrOf {T = A} (Err r) s ↔ P → IsErrOf {T = B} (Err r) s ↔ P
 elsewhere {A = A} {B = B} r s P h =
     let there : IsErrOf {T = A} (Err r) s → IsErrOf {T = B} (Err r) s = λ e. let is : r ≡ s = cc in ap Err is in
@@ -78,7 +78,7 @@ module _ {D : Type 0} {device : D → DiskState} (turn : Turn device) (name : Li
     outcome_is = (k, ap (kind_of name) (sym same_state) ∙ e ∙ ap Some (sym type_is), ap (shown k) is);
   }
 
-  -- no refusal says that nothing was read
+  -- the refusal is neither `Closed` nor `NotHeld`
   unread_of : (refusal : stored.Refusal) → IsErrOf {T = Vec ℕ Global} (Err refusal) Closed ↔ IsTrue old.is_closed
       → IsErrOf {T = Vec ℕ Global} (Err refusal) NotHeld ↔ ((old.is_closed ≡ false) × (is_held (state_of device old) name ≡ false))
       → IsErrOf {T = Vec ℕ Global} (Err refusal) Closed ⊎ IsErrOf {T = Vec ℕ Global} (Err refusal) NotHeld → new ≡ old
@@ -134,7 +134,7 @@ document_head framing text count same =
 when_open : (closed : Bool) (outcome : RequestOutcome) → closed ≡ false → outcome ≡ (if closed then refused Closed else outcome)
 when_open closed outcome is = sym (ap (λ b. if b then refused Closed else outcome) is)
 
--- a view of an open source shows what its state shows
+-- a view of an open source shows the documents of its state
 pub document_is : DocumentsAreOfTheState → {D : Type 0} (device : D → DiskState) (s : Stored D) (doc : Doc) (view : Shown) (outcome : RequestOutcome) {T : Type 0} (given : T)
     → IsErrOf {E = stored.Refusal} (Ok given) Closed ↔ IsTrue s.is_closed → view ≡ views.shown_in s.contents
     → document_or_none (document_text view doc) ≡ outcome → outcome ≡ document_shown device s doc

@@ -1,4 +1,4 @@
--- What several writes append.
+-- The bytes that several writes append.
 use Rattle.std.proofs.Common.{ℕ, List, ◌++◌, Option, Result, OnOk}
 use Rattle.std.proofs.lemmas.Result.{on_ok_weaker}
 use Rattle.rs_io.specs.declared.watch.Watched.{Watched}

@@ -1,4 +1,4 @@
--- Which command of a request counts, computed.
+-- The command of a request that counts, computed.
 use Rattle.std.proofs.Common.{false, [], ◌∷◌, refl, Ok}
 use Rattle.std.specs.Prelude.{codes}
 use Rattle.rs_model.specs.declared.command.Command.TheVariants as commands
@@ -12,7 +12,7 @@ use Rattle.rs_http.specs.Responses.{replied, refused}
 pub deleted_counts : Counts 7 (Ok (Delete (codes "a"))) [] (replied (Deleted 7)) ((commands.Delete (codes "a"), 7) ∷ [])
 deleted_counts = refl
 
--- a put of two bytes that was accepted, and one in which the device failed behind its first byte
+-- a put of two bytes that was accepted, and a put in which the device failed after its first byte
 pub put_counts : Counts 7 (Ok (Put (codes "a") (codes "text/plain") 2 false)) (1 ∷ 2 ∷ []) (replied (Created 7)) ((commands.Put (codes "a") (codes "text/plain") (1 ∷ 2 ∷ []), 7) ∷ [])
 put_counts = (1 ∷ 2 ∷ [], record { len = refl; front = refl }, refl)
 

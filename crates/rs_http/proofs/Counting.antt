@@ -43,7 +43,7 @@ module _ {D : Type 0} (device : D → DiskState) (rest : RestIsIdle device) (rea
   idles : IsIdle device turn.old turn.new → IsRunOf device turn.old [] turn.new
   idles is = idle turn.old turn.new is
 
-  -- nothing was done
+  -- the source is unchanged
   still_run : turn.new ≡ turn.old → IsRunOf device turn.old [] turn.new
   still_run same = idles (subst (λ (s : Stored D). IsIdle device turn.old s) (sym same) (rest turn.old))
 

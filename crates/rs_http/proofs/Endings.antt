@@ -94,7 +94,7 @@ few_for plan = omega arith
 one_read_more : {R : Type 0} (n : ℕ) (reader left : Watched R) (came : List ℕ) → n ≤ 1 → ReadsFor n reader left came → ReadsFor 1 reader left came
 one_read_more n reader left came few reads = record { reads = omega (arith, few, reads.reads); once = reads.once }
 
--- what the source answered to a put is answered, unless the reader failed
+-- the source's answer to a put is sent and ends its plan, unless the reader failed
 pub put_ends : {D R W : Type 0} {device : D → DiskState} {turn : Turn device} {framing : Framing} {result : Result StatusCode StreamFault} {name kind : List ℕ} {n : ℕ} {waits : Bool}
     (remaining : R → Option (List ℕ)) (reader left : Watched R) (contents : W → Option (List ℕ)) (before after : Watched W) (answer : Result Reply Refusal)
     → (came : List ℕ) × Consumes (remaining (watched reader)) (remaining (watched left)) came × AnswersFrom device turn.old turn.new (coming_put name kind n turn.now) came answer
@@ -107,7 +107,7 @@ put_ends {turn = turn} {name = name} {kind = kind} {n = n} {waits = waits} remai
     (answered {contents = contents} {before = before} {after = after} {comes = λ outcome. RequestGives turn (Ok (Put name kind n waits)) came.0 (remaining (watched left)) outcome}
     (outcome_replied answer) (record { result = answer; answers = came.2; unbroken = unbroken; outcome_is = refl }, ended) sends) (λ o h. h)
 
--- what the source answered to a put ends its plan, whether the reader failed or not
+-- the source's answer to a put ends its plan, whether the reader failed or not
 pub put_answered : {D R W : Type 0} {device : D → DiskState} {turn : Turn device} {framing : Framing} {result : Result StatusCode StreamFault} {name kind : List ℕ} {n : ℕ} {waits : Bool}
     (remaining : R → Option (List ℕ)) (reader left : Watched R) (contents : W → Option (List ℕ)) (before after : Watched W) (answer : Result Reply Refusal)
     → (came : List ℕ) × Consumes (remaining (watched reader)) (remaining (watched left)) came × AnswersFrom device turn.old turn.new (coming_put name kind n turn.now) came answer
@@ -171,11 +171,11 @@ module _ {D : Type 0} {device : D → DiskState} (turn : Turn device) (request :
   abbrev asked : Ends
   asked = record { left = left; rest = rest; before = mid; after = after }
 
-  -- the word to go on where it was due, and then this text
+  -- the word to go on if it was due, and then this text
   both : (text : List ℕ) → Appends (watched mid) (watched after) text → Appends (watched before) (watched after) (preface_of request.plan ++ text)
   both text then = Appends-trans (watched before) (watched mid) (watched after) (preface_of request.plan) text preface.0 then
 
-  -- the outcome stands, and the writer failed in its response
+  -- the request had its outcome, and the writer failed in the response
   cut : (more : List ℕ) (last : End) (outcome : RequestOutcome) → RequestGives turn request.plan more (watched rest) outcome
       → TakesPart before last (preface_of request.plan) (response_text framing outcome)
       → IsUnsaid turn request more (record { left = left; rest = rest; before = before; after = last })
@@ -302,7 +302,7 @@ module _ {D : Type 0} {device : D → DiskState} (turn : Turn device) (recovers 
   all_came : (more : List ℕ) → Consumes (watched behind) (watched ends.rest) more → Consumes (watched ends.left) (watched ends.rest) (bytes ++ more)
   all_came more then = Consumes-trans (watched ends.left) (watched behind) (watched ends.rest) bytes more came then
 
-  -- one read at most gave no byte: where that was one within the head, there is no body
+  -- at most one read gave no byte: if that was one within the head, there is no body
   all_reads : (more : List ℕ) → ReadsFor (empty_reads_for request.plan) behind ends.rest more → ReadsFor 1 ends.left ends.rest (bytes ++ more)
   all_reads more then = reads_behind_head read bytes more request asks ends.left behind ends.rest few sound then
 

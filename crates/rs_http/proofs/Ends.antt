@@ -21,7 +21,7 @@ unfolding ends_head
 no_end_at_none zero h = refl
 no_end_at_none (suc k) h = absurd (omega arith)
 
--- one byte more changes nothing before it
+-- one byte more changes no end of a head before it
 before_it : (buf : List ℕ) (n b : ℕ) → n < length buf → HasNoEnd (take n buf) → (k : ℕ) → k ≤ n → ends_head (take (n + 1) (set buf n b)) k ≡ false
 before_it buf n b lt none k le =
     ends_head-take (set buf n b) (n + 1) k (omega arith) ∙ sym (ends_head-take (set buf n b) n k le)
@@ -47,7 +47,7 @@ IsHead-more buf n b lt none here = record {
       before_it buf n b lt none k (omega arith);
 }
 
--- what came so far, and the byte that came now
+-- the bytes that came so far, and the byte that came now
 pub came_more : (r s t : Option (List ℕ)) (buf : List ℕ) (n b : ℕ) → n < length buf → Consumes r s (take n buf) → Consumes s t (b ∷ [])
     → Consumes r t (take (n + 1) (set buf n b))
 came_more r s t buf n b lt h k =

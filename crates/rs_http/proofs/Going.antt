@@ -1,4 +1,4 @@
--- The held state after each answer of the source.
+-- The held state after any answer of the source.
 use Rattle.std.proofs.Common.{◌≡◌, ◌⊎◌, ◌≤◌, ℕ, List, [], ◌∷◌, length, Option, Some, None, Result, Ok, Err, Bool, true, false, if◌then◌else◌, refl, ap, sym, ◌∙◌, subst, inl, inr, arith}
 use Rattle.std.proofs.lemmas.List.Elements.{All-nil, All-cons}
 use Rattle.rs_disk.specs.Medium.{DiskState, IsImage, Medium}
@@ -31,13 +31,13 @@ use Rattle.rs_http.specs.Responses.{RequestOutcome}
 use Rattle.rs_http.specs.Turn.{Turn}
 use Rattle.rs_http.specs.Serving.{IsBroken, IsUnsaid, IsCutOff, RequestEnds}
 
--- the model accepts a command against which nothing is decided
+-- the model accepts a command that has no decided refusal
 unless_refused : (refusal : Option model.Refusal) (spent closed : Bool) → (if closed then Some Closed else or_spent refusal spent) ≡ None → refusal ≡ None
 unless_refused None spent closed e = refl
 unless_refused (Some r) spent false e = absurd cc
 unless_refused (Some r) spent true e = absurd cc
 
--- nothing is decided against what was accepted
+-- an accepted command has no decided refusal
 undecided : (d : Option stored.Refusal) (result : Result Reply stored.Refusal) (reply : Reply) → result ≡ Ok reply
     → ((r : stored.Refusal) → d ≡ Some r → result ≡ Err r) → d ≡ None
 undecided None result reply is f = refl
@@ -62,7 +62,7 @@ module _ {D : Type 0} {device : D → DiskState} (turn : Turn device) where
     kept = λ _. closed;
   }
 
-  -- one was
+  -- one command was done
   one_done : (command : Command) → decided turn.old (state_of device turn.old) command turn.now ≡ None → GoesOnBy device turn.old turn.new ((command, turn.now) ∷ []) → GoesOnOnce device turn.old turn.now turn.new
   one_done command free by = record {
     commands = (command, turn.now) ∷ [];
@@ -74,7 +74,7 @@ module _ {D : Type 0} {device : D → DiskState} (turn : Turn device) where
     kept = λ e. absurd cc;
   }
 
-  -- nothing changed
+  -- the source is unchanged
   same_goes : turn.new ≡ turn.old → GoesOnOnce device turn.old turn.now turn.new
   same_goes same = none_done (ap (λ (x : Stored D). x.is_closed) same) (ap (state_of device) same)
       (λ s held free. subst (λ (x : Stored D). Holds device x s) (sym same) held)
@@ -159,7 +159,7 @@ module _ {D : Type 0} {device : D → DiskState} (turn : Turn device) where
   stands_goes request more ends (inl unsaid) = same_goes unsaid.2
   stands_goes request more ends (inr cut) = gives_goes request.plan more (watched ends.rest) cut.outcome cut.gives
 
-  -- each outcome of a request
+  -- every outcome of a request
   pub request_goes : (request : Request) (ends : Ends) (result : Result StatusCode StreamFault) → RequestEnds turn request ends result → GoesOnOnce device turn.old turn.now turn.new
   request_goes request ends (Ok status) e = gives_goes request.plan e.more (watched ends.rest) e.answered.2.outcome e.answered.2.gives
   request_goes request ends (Err Read) e = broken_goes request.plan e.more (e.broken refl).1

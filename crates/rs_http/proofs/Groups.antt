@@ -54,7 +54,7 @@ no_memory_counts : (asked : Option (List Item)) (now : ℕ) → counted_group as
 no_memory_counts None now = refl
 no_memory_counts (Some items) now = refl
 
--- no command counts where the source did not get the group
+-- no command counts if the source did not get the group
 pub unasked_counts : (n : ℕ) (came : List ℕ) (rest : Option (List ℕ)) (outcome : RequestOutcome) (now : ℕ) → UnaskedGroup n came rest outcome
     → counted_group (items_asked n came) now outcome ≡ []
 unasked_counts n came rest outcome now (inl short) = ap (λ asked. counted_group asked now outcome) (asked_short n came short.0)

@@ -21,7 +21,7 @@ cut_before : (raw : List ℕ) (raws : List (List ℕ)) → 0 < length raws → l
 cut_before raw [] l = absurd (omega arith)
 cut_before raw (next ∷ raws) l = refl
 
--- the first line, where a line feed ends it
+-- the first line, if a line feed ends it
 pub first_line : (bytes : List ℕ) (i : ℕ) → position is_break bytes ≡ Some i → lines_of bytes ≡ cut_return (take i bytes) ∷ lines_of (drop (i + 1) bytes)
 first_line bytes i e =
     let found = found_at is_break bytes i e in
@@ -41,7 +41,7 @@ only_line bytes e =
     let none : All (λ b. is_break b ≡ false) bytes = λ k b l. let fails = fails_before_first is_break bytes k b (omega arith) in grind (arith, common_steps) in
     ap lines_between (slice_split_none is_break bytes none)
 
--- items behind others, or a fault
+-- items after others, or a fault
 pub behind : List Item → Result (List Item) ItemFault → Result (List Item) ItemFault
 behind done (Ok items) = Ok (done ++ items)
 behind done (Err fault) = Err fault
@@ -72,7 +72,7 @@ module _ (body rest : List ℕ) (done : List Item) (so_far : items_in body ≡ b
         ∙ ap (λ (first : Result Item ItemFault). behind done (item_before first (items_in after))) is
 
   module _ (end : lines_of rest ≡ last_line rest) where
-    -- what no line feed ends
+    -- the last line, which no line feed ends
     pub takes_last : (last : List Item) → items_of_lines (last_line rest) ≡ Ok last → items_in body ≡ Ok (done ++ last)
     unfolding behind
     takes_last last is = so_far ∙ ap (λ (lines : List (List ℕ)). behind done (items_of_lines lines)) end ∙ ap (behind done) is
@@ -94,7 +94,7 @@ pub no_item : (line : List ℕ) → length line ≡ 0 → items_of_lines (last_l
 no_item [] none = refl
 no_item (b ∷ bytes) none = absurd (omega arith)
 
--- the first n of a list with more behind it are those of its first n with more
+-- the first n elements of xs ++ ys need only the first n of xs
 pub take_then : {T : Type 0} (n : ℕ) (xs ys : List T) → take n (take n xs ++ ys) ≡ take n (xs ++ ys)
 take_then zero xs ys = refl
 take_then (suc n) [] ys = refl

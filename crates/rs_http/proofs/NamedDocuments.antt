@@ -19,7 +19,7 @@ use Rattle.rs_http.specs.Checks.{is_put, is_delete, stated_in, expects_word, put
 use Rattle.rs_http.specs.Requests.{IsPlanFor, Asks}
 use Rattle.rs_http.specs.Targets.{path_of_target, resource_place, document_place, place_of}
 
--- a path can name each document that a request asks for
+-- a path can name every document that a request asks for
 abbrev pub HasPath : Result RequestPlan RequestFault → Type 0
 HasPath (Ok (ShowDocument doc)) = HasCounts doc
 HasPath plan = Unit {0}
@@ -68,7 +68,7 @@ planned_has : (p : Parts) (plan : Result RequestPlan RequestFault) → IsPlanFor
 planned_has p (Ok plan) is = asked_at (place_in p) p plan (place_has (path_of_target p.target)) is.1
 planned_has p (Err reason) is = tt
 
--- what the bytes of a head ask for
+-- a path can name the document that the bytes of a head ask for
 pub asked_has : (bytes : List ℕ) (read : HeadRead) (request : Request) → Asks bytes read (Some request) → HasPath request.plan
 asked_has bytes Whole request (inl bad) = subst (λ (r : Request). HasPath r.plan) (sym bad.1) tt
 asked_has bytes Whole request (inr good) = planned_has (head_parts good.0) request.plan good.3.plan

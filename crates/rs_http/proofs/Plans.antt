@@ -5,13 +5,13 @@ use Rattle.rs_http.specs.declared.request.RequestPlan.{RequestPlan}
 use Rattle.rs_http.specs.Checks.{Causes, first_fault}
 use Rattle.rs_http.specs.Requests.{IsPlanFor}
 
--- none of the first causes applies
+-- no cause of the first list applies
 passed : (xs ys : Causes) → first_fault xs ≡ None → first_fault (xs ++ ys) ≡ first_fault ys
 passed [] ys e = refl
 passed ((true, fault) ∷ xs) ys e = absurd cc
 passed ((false, fault) ∷ xs) ys e = passed xs ys e
 
--- no cause applies, so none of the last
+-- no cause applies, so no cause of the last list
 pub free_after : (xs ys : Causes) → first_fault (xs ++ ys) ≡ None → first_fault ys ≡ None
 free_after [] ys e = e
 free_after ((true, fault) ∷ xs) ys e = absurd cc

@@ -1,4 +1,4 @@
--- The command that the source gets for a request, and what is told of it.
+-- The command that the source gets for a request, and the reply that the response reports.
 use Rattle.std.proofs.Common.{◌≡◌, ◌⊎◌, inl, inr, ℕ, Bool, true, false, List, [], ◌++◌, Option, Some, None, Result, Ok, Err, Vec, Global, refl, sym, ap, ◌∙◌, subst, cond, append-nil, append_assoc}
 use Rattle.std.proofs.KnownBytes.{Consumes-trans, Appends-nil}
 use Rattle.std.proofs.Math.Seq.{take-length}
@@ -126,9 +126,9 @@ preface_is (Ok (Put name kind n true)) = inr refl
 preface_is (Ok (Group n true)) = inr refl
 preface_is plan = inl refl
 
--- what was written of them
+-- the bytes that were written for them
 module _ {D : Type 0} {device : D → DiskState} (rest : RestIsIdle device) (gets : RequestsGetOne device) (broken : BrokenBodiesIdle device) (turn : Turn device) where
-  -- nothing was done
+  -- the source is unchanged
   quiet : turn.new ≡ turn.old → IsIdle device turn.old turn.new
   quiet same = subst (λ (s : Stored D). IsIdle device turn.old s) (sym same) (rest turn.old)
 
@@ -190,7 +190,7 @@ module _ {D : Type 0} {device : D → DiskState} (rest : RestIsIdle device) (get
           took = took;
         }
 
-  -- nothing was written
+  -- no byte was written
   pub silent_tells : (left rest end : End) (input : List ℕ) → Consumes (watched left) (watched rest) input → turn.new ≡ turn.old
       → TellsRequest turn (record { left = left; rest = rest; before = end; after = end })
   silent_tells left rest end input came same =
@@ -218,7 +218,7 @@ module _ {D : Type 0} {device : D → DiskState} (rest : RestIsIdle device) (get
         (is_asked turn bytes read request asks more (watched ends.rest) off.outcome off.gives)
         (append_assoc first took.part took.left_out ∙ ap (λ l. first ++ l) took.bytes_are) took.took
 
-    -- each outcome of a request
+    -- every outcome of a request
     pub ends_tell : (result : Result StatusCode StreamFault) → RequestEnds turn request later result → TellsRequest turn ends
     ends_tell (Ok status) e =
         let is = e.answered.2 in

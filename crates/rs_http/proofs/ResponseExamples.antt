@@ -6,7 +6,7 @@ use Rattle.rs_http.specs.declared.request.RequestFault.TheVariants.{Line}
 use Rattle.rs_http.specs.declared.response.Framing.{Framing}
 use Rattle.rs_http.specs.Responses.{faulted, refused, response_text, status_of}
 
--- Want of memory reads alike, whether the request found it or the source.
+-- A lack of memory has the same response, whether the request or the source met it.
 pub no_memory_reads_alike : (framing : Framing) → response_text framing (faulted (Line items.NoMemory)) ≡ response_text framing (refused refusals.NoMemory)
 no_memory_reads_alike framing = refl
 

@@ -33,7 +33,7 @@ few_grouped None now outcome = omega arith
 few_grouped (Some items) now outcome = few (commands.Group items) now outcome
 
 module _ {D : Type 0} {device : D → DiskState} (runs : RequestsAreRuns device) (cut : BrokenBodiesAreRuns device) (turn : Turn device) where
-  -- the command that counts, or none
+  -- the command that counts, if any
   some_counted : (plan : Result RequestPlan RequestFault) (more : List ℕ) (rest : Option (List ℕ)) (outcome : RequestOutcome) → RequestGives turn plan more rest outcome
       → (counted : List (Command × ℕ)) × (length counted ≤ 1) × Counts turn.now plan more outcome counted
   some_counted (Ok (ShowBody name)) more rest outcome gives = ([], omega arith, refl)
@@ -55,7 +55,7 @@ module _ {D : Type 0} {device : D → DiskState} (runs : RequestsAreRuns device)
       let some = some_counted plan more rest outcome gives in
       (some.0, some.1, runs turn plan more rest outcome gives some.0 some.2)
 
-  -- nothing was done, as for a head that asks for nothing
+  -- the source is unchanged, as after a bad head
   pub still_runs : turn.new ≡ turn.old → RunsAtMost device turn.old 1 turn.new
   still_runs same = gives_runs (Err BadHead) [] None (faulted BadHead) (refl, refl, same)
 
@@ -63,7 +63,7 @@ module _ {D : Type 0} {device : D → DiskState} (runs : RequestsAreRuns device)
   stands_runs request more ends (inl unsaid) = still_runs unsaid.2
   stands_runs request more ends (inr off) = gives_runs request.plan more (watched ends.rest) off.outcome off.gives
 
-  -- each outcome of a request
+  -- every outcome of a request
   pub request_runs : (request : Request) (ends : Ends) (result : Result StatusCode StreamFault) → RequestEnds turn request ends result → RunsAtMost device turn.old 1 turn.new
   request_runs request ends (Ok status) e = gives_runs request.plan e.more (watched ends.rest) e.answered.2.outcome e.answered.2.gives
   request_runs request ends (Err Read) e = ([], omega arith, cut turn request.plan e.more (e.broken refl).1)

@@ -1,4 +1,4 @@
--- Only a GET or a HEAD is shown something.
+-- Only a GET or a HEAD is shown bytes.
 use Rattle.std.proofs.Common.{◌≡◌, inl, inr, ℕ, Bool, true, false, List, [], ◌∷◌, ◌++◌, append_assoc, refl, sym, ap, ◌∙◌, cond, Option, Some, None, Result, Ok, Err, IsTrue}
 use Rattle.std.specs.Prelude.{not, ◌||◌, unwrap_or}
 use Rattle.httparse.specs.Ascii.{space}
@@ -27,7 +27,7 @@ use Rattle.rs_http.specs.Outcomes.{outcome_replied, RunComesTo, UnaskedGroup, Gr
 use Rattle.rs_http.specs.Told.{AsksToSee, IsAsked}
 use Rattle.rs_http.proofs.Plans.{free_after}
 
--- this plan is to show something
+-- this plan is to show bytes
 abbrev shows : Result RequestPlan RequestFault → Bool
 shows (Ok (ShowBody name)) = true
 shows (Ok (ShowDocument doc)) = true
@@ -88,7 +88,7 @@ head_sees bytes more h after reads gets =
       bytes_are = ap (λ (b : List ℕ). b ++ more) reads.1 ∙ begun.1;
     }
 
--- a plan to show something comes of the bytes of a GET or a HEAD
+-- a plan to show bytes comes of the bytes of a GET or a HEAD
 asked_to_see : (bytes more : List ℕ) (read : HeadRead) (request : Request) → Asks bytes read (Some request) → shows request.plan ≡ true → AsksToSee (bytes ++ more)
 asked_to_see bytes more Whole request (inl bad) is = let no : shows request.plan ≡ false = ap (λ (r : Request). shows r.plan) bad.1 in absurd cc
 asked_to_see bytes more Whole request (inr good) is =
@@ -96,7 +96,7 @@ asked_to_see bytes more Whole request (inr good) is =
 asked_to_see bytes more TooLong request same is = let no : shows request.plan ≡ false = ap (λ (r : Request). shows r.plan) same in absurd cc
 asked_to_see bytes more Ended request asks is = let no : shows request.plan ≡ false = ap (λ (r : Request). shows r.plan) asks.1 in absurd cc
 
--- this outcome shows something
+-- this outcome shows bytes
 abbrev is_shown : RequestOutcome → Bool
 is_shown (shown kind bytes) = true
 is_shown outcome = false
@@ -119,7 +119,7 @@ module _ {D : Type 0} {device : D → DiskState} (turn : Turn device) where
   group_hides n more left outcome (inl unasked) = unasked_hides n more left outcome unasked.1
   group_hides n more left outcome (inr asked) = run_hides (commands.Group asked.items) outcome asked.comes
 
-  -- something is shown only by a plan to show it
+  -- bytes are shown only by a plan to show them
   shown_only : (plan : Result RequestPlan RequestFault) (more : List ℕ) (left : Option (List ℕ)) (outcome : RequestOutcome)
       → RequestGives turn plan more left outcome → is_shown outcome ≡ true → shows plan ≡ true
   shown_only (Ok (ShowBody name)) more left outcome gives is = refl

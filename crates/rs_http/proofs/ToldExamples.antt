@@ -1,4 +1,4 @@
--- A GET and a HEAD ask to see something, also behind an empty line. A POST does not: its 200 is a reply.
+-- A GET and a HEAD ask to see bytes, also after an empty line. A POST does not: its 200 is a reply.
 use Rattle.std.proofs.Common.{◌≡◌, ℕ, false, List, [], ◌∷◌, ◌++◌, codes, Result, Ok, refl, subst, IsTrue}
 use Rattle.httparse.specs.Ascii.{space}
 use Rattle.httparse.specs.Grammar.{LineEnd, crlf, lf, print_blank}
@@ -54,7 +54,7 @@ post_is_told more (shown kind bytes) asked is = absurd (post_asks_not more asked
 post_is_told more (faulted fault) asked is = absurd (fault_is_no_ok fault is)
 post_is_told more (refused refusal) asked is = absurd (refusal_is_no_ok refusal is)
 
--- a group asks for its items where its whole body came, and for nothing where a byte of it is missing
+-- a group asks for its items if its whole body came, and for no command if a byte of it is missing
 abbrev group_body : List ℕ
 group_body = codes "delete a\n"
 

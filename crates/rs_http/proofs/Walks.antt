@@ -45,7 +45,7 @@ use Rattle.rs_http.proofs.NamedDocuments.{HasPath, asked_has}
 abbrev Kind : Type 1
 Kind = List Event → Type 0
 
--- the model refuses nothing for memory
+-- the model refuses no command for memory
 never_named : (reason : model.Refusal) → named_as reason ≡ NoMemory → ⊥
 never_named decides.BadGroup e = absurd cc
 never_named reason e = absurd cc
@@ -128,7 +128,7 @@ module _ {D : Type 0} (device : D → DiskState) (sound : (disk : D) → IsMediu
   group_walk n came rest outcome (inr asked) =
       subst (Grouped outcome) (sym (asked_items n came asked.items asked.whole asked.are)) (run_walk (commands.Group asked.items) outcome asked.comes)
 
-  -- what is shown
+  -- the walk of shown bytes
   shown_walk : (is_head : Bool) (path kind bytes : List ℕ) → answer s path ≡ Some bytes → Holds device turn.new s
       → LeavesWalk device s (ShowEvents is_head s path (shown kind bytes)) turn.new
   shown_walk true path kind bytes is held = nothing (ShowEvents true s path (shown kind bytes)) refl held

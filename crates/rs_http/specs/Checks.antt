@@ -1,4 +1,4 @@
--- Why a request is refused before the source sees it, and what it asks for otherwise.
+-- The faults of requests that are refused before the source sees them, and the plans of other requests.
 use Rattle.std.specs.Prelude.{ℕ, nat_lt, ◌==◌, ◌&&◌, ◌||◌, Bool, true, false, not, is_none, List, [], ◌∷◌, ◌++◌, length, codes, bytes_eq, Option, Some, None, if◌then◌else◌, unwrap_or}
 use Rattle.std.specs.List.{list_any}
 use Rattle.std.specs.Str.{str_eq_ignore_ascii_case}
@@ -20,7 +20,7 @@ use Rattle.rs_http.specs.Targets.{path_of_target, place_of}
 abbrev pub most_fields : ℕ
 most_fields = 32
 
--- more than one Host, or none in HTTP/1.1
+-- more than one Host, or no Host in HTTP/1.1
 abbrev pub is_bad_host : ℕ → List (List ℕ) → Bool
 is_bad_host minor [] = minor == 1
 is_bad_host minor (host ∷ []) = false
@@ -60,7 +60,7 @@ is_bad_type [] = false
 is_bad_type (kind ∷ []) = not (is_media_type kind)
 is_bad_type (kind ∷ more ∷ kinds) = true
 
--- the type of a body, also where none is stated
+-- the type of a body, also if the fields state no type
 abbrev pub stated_type : List (List ℕ) → List ℕ
 stated_type [] = codes "application/octet-stream"
 stated_type (kind ∷ kinds) = kind
@@ -83,11 +83,11 @@ is_delete method = bytes_eq method (codes "DELETE")
 abbrev pub is_post : List ℕ → Bool
 is_post method = bytes_eq method (codes "POST")
 
--- what the target names
+-- the place that the target names
 abbrev pub place_in : Parts → Place
 place_in p = place_of (path_of_target p.target)
 
--- whether causes apply, and the fault of each
+-- causes in their order: whether a cause applies, and its fault
 abbrev pub Causes : Type 0
 Causes = List (Bool × RequestFault)
 
@@ -149,7 +149,7 @@ put_plan name kinds n expects = Put name (stated_type kinds) n (is_waited expect
 abbrev pub group_plan : ℕ → Bool → RequestPlan
 group_plan n expects = Group n (is_waited expects n)
 
--- what a request for a resource asks for
+-- the plan of a request for a resource
 abbrev pub resource_plan : List ℕ → Parts → RequestPlan
 resource_plan name p =
     if is_put p.method then
@@ -159,7 +159,7 @@ resource_plan name p =
     else if is_delete p.method then Delete name
     else ShowBody name
 
--- what a request asks for, unless it is refused
+-- the plan of a request, unless it is refused
 abbrev pub plan_at : Place → Parts → Option RequestPlan
 plan_at (Resource name) p = Some (resource_plan name p)
 plan_at (Document doc) p = Some (ShowDocument doc)

@@ -1,4 +1,4 @@
--- Which command of a request counts, and what the disk holds after a stop within the request.
+-- The command of a request that counts, and the content of the disk after a stop within the request.
 use Rattle.std.specs.Prelude.{◌≡◌, ◌≤◌, ℕ, length, List, [], ◌∷◌, Option, Some, None, Result, Ok, Err}
 use Rattle.rs_disk.specs.Medium.{DiskState}
 use Rattle.rs_model.specs.declared.command.Command.{Command}
@@ -15,18 +15,18 @@ use Rattle.rs_http.specs.Groups.{items_asked}
 use Rattle.rs_http.specs.Turn.{Turn}
 use Rattle.rs_http.specs.Responses.{RequestOutcome, replied, refused}
 
--- A command counts where it was accepted, and where the device failed in it: its step may stand then.
+-- A command counts if it was accepted, or if the device failed in it: it may have been applied then.
 abbrev pub counted_with : Command → ℕ → RequestOutcome → List (Command × ℕ)
 counted_with command now (replied reply) = (command, now) ∷ []
 counted_with command now (refused Device) = (command, now) ∷ []
 counted_with command now outcome = []
 
--- a group counts as one command of all its items; where it asks for none, none counts
+-- a group counts as one command of all its items; if it asks for no items, no command counts
 abbrev pub counted_group : Option (List Item) → ℕ → RequestOutcome → List (Command × ℕ)
 counted_group None now outcome = []
 counted_group (Some items) now outcome = counted_with (commands.Group items) now outcome
 
--- The commands of a request that count, one or none. Where a put was answered before its whole body was read, it counts
+-- The commands of a request that count, at most one. If a put was answered before its whole body was read, it counts
 -- with any body that begins so.
 abbrev pub Counts : ℕ → Result RequestPlan RequestFault → List ℕ → RequestOutcome → List (Command × ℕ) → Type 0
 Counts now (Ok (Put name kind n waits)) more outcome counted =

@@ -37,7 +37,7 @@ head_parts_at head spans headers =
 abbrev pub values_of : List ℕ → Pairs → List (List ℕ)
 values_of name pairs = map (λ pair. pair.1) (filter (λ pair. str_eq_ignore_ascii_case pair.0 name) pairs)
 
--- the values of the fields of one name: none, this one, or more
+-- the values of the fields of one name: no value, this one, or more
 abbrev pub LoneIs : Lone → List (List ℕ) → Type 0
 LoneIs Absent values = values ≡ []
 LoneIs (One text) values = values ≡ text.now ∷ []

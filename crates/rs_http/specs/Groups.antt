@@ -14,7 +14,7 @@ use Rattle.rs_items.specs.declared.item.ItemFault.{ItemFault}
 abbrev pub is_break : ℕ → Bool
 is_break b = b == 10
 
--- The lines of the texts between line feeds. A line feed ends each text but the last, and a carriage return right
+-- The lines of the texts between line feeds. A line feed ends every text but the last, and a carriage return right
 -- before it is cut off.
 abbrev pub lines_between : List (List ℕ) → List (List ℕ)
 lines_between [] = []
@@ -36,17 +36,16 @@ abbrev pub items_of_lines : List (List ℕ) → Result (List Item) ItemFault
 items_of_lines [] = Ok []
 items_of_lines (line ∷ lines) = item_before (item_of_line line) (items_of_lines lines)
 
--- all items of a body
+-- all items of a body, or the fault of its first wrong line
 abbrev pub items_in : List ℕ → Result (List Item) ItemFault
 items_in body = items_of_lines (lines_of body)
 
--- the items that a group of n bytes asks for, where these bytes came: none, where some are missing or a line has a
--- fault
+-- the items that a group of n bytes asks for, if these bytes came: `None` if bytes are missing or a line has a fault
 abbrev pub items_asked : ℕ → List ℕ → Option (List Item)
 items_asked n came = if length came == n then result_ok (items_in came) else None
 
--- Why n bytes of an input are not in memory, where these came and the rest is left. The reader failed or ended within
--- them; or there was no memory for them, and no byte came.
+-- The reasons why n bytes of an input are not in memory, if these came and the rest is left. The reader failed or ended
+-- within them; or there was no memory for them, and no byte came.
 abbrev pub IsUnread : ℕ → Option (List ℕ) → List ℕ → Refusal → Type 0
 IsUnread n rest came NoMemory = came ≡ []
 IsUnread n rest came refusal = IsCut n rest came refusal

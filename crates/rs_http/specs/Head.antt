@@ -1,4 +1,4 @@
--- Where the head of a request ends.
+-- The end of the head of a request.
 use Rattle.std.specs.Prelude.{◌≡◌, ◌==◌, ◌&&◌, ◌||◌, ℕ, ◌-◌, ◌<◌, ◌≤◌, nat_le, Bool, true, false, List, length, slice_index}
 use Rattle.rs_http.specs.declared.head.HeadRead.{HeadRead}
 use Rattle.rs_http.specs.declared.head.HeadRead.TheVariants.{Whole, TooLong, Ended}
@@ -23,14 +23,14 @@ pub record IsHead (bytes : List ℕ) : Type 0 where
   pub ends : ends_head bytes (length bytes) ≡ true
   pub first : (k : ℕ) → k < length bytes → ends_head bytes k ≡ false
 
--- What the bytes at the front of an input are: a head within the limit; the longest head without its end; or the whole
+-- The bytes at the front of an input are a head within the limit; or the longest head without its end; or the whole
 -- input, which ended within the head.
 abbrev pub HeadIs : List ℕ → HeadRead → Type 0
 HeadIs bytes Whole = (length bytes ≤ head_limit) × IsHead bytes
 HeadIs bytes TooLong = (length bytes ≡ head_limit) × HasNoEnd bytes
 HeadIs bytes Ended = (length bytes < head_limit) × HasNoEnd bytes
 
--- how many reads of the head give no byte: one, where the input ended within it
+-- the number of reads of the head that give no byte: one, if the input ended within it
 abbrev pub head_reads : HeadRead → ℕ
 head_reads Ended = 1
 head_reads read = 0

@@ -15,7 +15,7 @@ use Rattle.rs_http.specs.Counted.{Counts, RequestRecovers}
 use Rattle.rs_http.specs.Walked.{MakesWalk, MakesNoEvent}
 use Rattle.rs_http.specs.Serving.{IsBroken}
 
--- a request is a run of its command that counts, or of none
+-- a request is a run of its command that counts, or of no command
 abbrev pub RequestsAreRuns : {D : Type 0} → (D → DiskState) → Type 0
 RequestsAreRuns device = (turn : Turn device) (plan : Result RequestPlan RequestFault) (more : List ℕ) (rest : Option (List ℕ)) (outcome : RequestOutcome)
     → RequestGives turn plan more rest outcome
@@ -26,8 +26,7 @@ abbrev pub BrokenBodiesAreRuns : {D : Type 0} → (D → DiskState) → Type 0
 BrokenBodiesAreRuns device = (turn : Turn device) (plan : Result RequestPlan RequestFault) (more : List ℕ)
     → IsBroken turn plan more → IsRunOf device turn.old [] turn.new
 
--- whatever the outcome of a request: whenever the disk stops, it holds the state before, or after the command that
--- counts
+-- for any outcome of a request: whenever the disk stops, it holds the state before, or after the command that counts
 abbrev pub RequestsRecover : {D : Type 0} → (D → DiskState) → Type 0
 RequestsRecover device = (turn : Turn device) (plan : Result RequestPlan RequestFault) (more : List ℕ) (rest : Option (List ℕ)) (outcome : RequestOutcome)
     → RequestGives turn plan more rest outcome → RequestRecovers turn plan more outcome
@@ -37,7 +36,7 @@ abbrev pub BrokenBodiesRecover : {D : Type 0} → (D → DiskState) → Type 0
 BrokenBodiesRecover device = (turn : Turn device) (plan : Result RequestPlan RequestFault) (more : List ℕ)
     → IsBroken turn plan more → Recovers device turn.old [] turn.new
 
--- each request that the bytes of a head ask for makes a walk, whatever its outcome
+-- every request that the bytes of a head ask for makes a walk, with any outcome
 abbrev pub RequestsMakeWalks : {D : Type 0} → (D → DiskState) → Type 0
 RequestsMakeWalks device = (turn : Turn device) (bytes : List ℕ) (read : HeadRead) (request : Request) (more : List ℕ) (rest : Option (List ℕ)) (outcome : RequestOutcome)
     → Asks bytes read (Some request) → RequestGives turn request.plan more rest outcome

@@ -62,7 +62,7 @@ pub record ReadComesTo {D : Type 0} {device : D → DiskState} (turn : Turn devi
   pub answers : AnswersBody device turn.old turn.new name result
   pub outcome_is : IsShownAs (state_of device turn.old) name result outcome
 
--- a document, where it exists
+-- a document, if it exists
 abbrev pub document_or_none : Option (List ℕ) → RequestOutcome
 document_or_none (Some bytes) = shown (codes "application/xml") bytes
 document_or_none None = faulted NoSuchDocument
@@ -88,7 +88,7 @@ BodyLacksMemory came outcome = (came ≡ []) × (outcome ≡ refused NoMemory)
 abbrev pub ItemsLackMemory : ℕ → List ℕ → RequestOutcome → Type 0
 ItemsLackMemory n came outcome = (length came ≡ n) × (outcome ≡ refused NoMemory)
 
--- why the source did not get a group of n bytes, of which these came, and the rest was left
+-- the reasons why the source did not get a group of n bytes, of which these came, and the rest was left
 abbrev pub UnaskedGroup : ℕ → List ℕ → Option (List ℕ) → RequestOutcome → Type 0
 UnaskedGroup n came rest outcome =
     BodyIsShort n came rest outcome ⊎ BodyIsFaulty n came outcome ⊎ BodyLacksMemory came outcome ⊎ ItemsLackMemory n came outcome
@@ -101,13 +101,13 @@ pub record AskedGroup {D : Type 0} {device : D → DiskState} (turn : Turn devic
   pub comes : RunComesTo turn (commands.Group items) outcome
 
 -- A group of the next n bytes of the input was read, and the reader did not fail. These bytes came, and the rest was
--- left. Either the source did not get the group, and nothing is done, or the source answered it.
+-- left. Either the source did not get the group and is unchanged, or it answered the group.
 abbrev pub GroupComesTo : {D : Type 0} {device : D → DiskState} → Turn device → ℕ → List ℕ → Option (List ℕ) → RequestOutcome → Type 0
 GroupComesTo turn n came rest outcome =
     ((turn.new ≡ turn.old) × UnaskedGroup n came rest outcome) ⊎ AskedGroup turn n came outcome
 
--- The possible outcomes of a plan, where these bytes were read past the head and the rest was left. Only a put and a
--- group read any. Where the body of a put is short, the input had ended.
+-- The possible outcomes of a plan, if these bytes were read past the head and the rest was left. Only a put and a group
+-- read any. If the body of a put is short, the input had ended.
 abbrev pub PlanGives : {D : Type 0} {device : D → DiskState} → Turn device → RequestPlan → List ℕ → Option (List ℕ) → RequestOutcome → Type 0
 PlanGives turn (ShowBody name) more rest outcome = (more ≡ []) × ReadComesTo turn name outcome
 PlanGives {device = device} turn (ShowDocument doc) more rest outcome =
@@ -118,7 +118,7 @@ PlanGives turn (Delete name) more rest outcome = (more ≡ []) × RunComesTo tur
 PlanGives turn Publish more rest outcome = (more ≡ []) × RunComesTo turn commands.Publish outcome
 PlanGives turn (Group n waits) more rest outcome = GroupComesTo turn n more rest outcome
 
--- the possible outcomes of a request; without a plan nothing is read or done
+-- the possible outcomes of a request; without a plan no byte is read and the source is unchanged
 abbrev pub RequestGives : {D : Type 0} {device : D → DiskState} → Turn device → Result RequestPlan RequestFault → List ℕ → Option (List ℕ) → RequestOutcome → Type 0
 RequestGives turn (Ok plan) more rest outcome = PlanGives turn plan more rest outcome
 RequestGives turn (Err reason) more rest outcome = (more ≡ []) × (outcome ≡ faulted reason) × (turn.new ≡ turn.old)

@@ -1,4 +1,4 @@
--- What the bytes of a head ask for.
+-- The request that the bytes of a head ask for.
 use Rattle.std.specs.Prelude.{◌≡◌, ◌⊎◌, ℕ, ◌<◌, Bool, false, List, [], length, codes, bytes_eq, Option, Some, None, Result, Ok, Err, unwrap_or}
 use Rattle.httparse.specs.Grammar.{RequestHead, ReadsRequest, HasNoRequest}
 use Rattle.rs_http.specs.declared.head.HeadRead.{HeadRead}
@@ -20,8 +20,8 @@ TakesMemory (Some (Put name kind n waits)) = Unit {0}
 TakesMemory (Some (Delete name)) = Unit {0}
 TakesMemory plan = ⊥
 
--- A request with these causes is refused for the first that applies, or has this plan. Where none applies, there may be
--- no memory for a plan that takes some.
+-- A request with these causes is refused for the first that applies, or has this plan. If no cause applies, there may
+-- be no memory for a plan that takes memory.
 abbrev pub IsPlanFor : Causes → Option RequestPlan → Result RequestPlan RequestFault → Type 0
 IsPlanFor causes plan (Ok made) = (first_fault causes ≡ None) × (plan ≡ Some made)
 IsPlanFor causes plan (Err fault) =
@@ -37,7 +37,7 @@ IsPutPlan name stated kinds expects made =
 abbrev pub IsPlanAt : Place → Parts → Result RequestPlan RequestFault → Type 0
 IsPlanAt place p made = IsPlanFor (place_causes place p) (plan_at place p) made
 
--- what this head asks for: whether its method is HEAD, and its plan
+-- this head asks for this request: whether its method is HEAD, and its plan
 pub record IsRequestOf (p : Parts) (request : Request) : Type 0 where
   pub is_head : request.is_head ≡ bytes_eq p.method (codes "HEAD")
   pub plan : IsPlanFor (causes_of p) (plan_at (place_in p) p) request.plan
@@ -46,13 +46,13 @@ pub record IsRequestOf (p : Parts) (request : Request) : Type 0 where
 abbrev pub refused_for : RequestFault → Request
 refused_for fault = record { is_head = false; plan = Err fault }
 
--- what a head asks for, by the grammar of RFC 9112
+-- the request that a head asks for, by the grammar of RFC 9112
 abbrev pub AsksFor : List ℕ → Request → Type 0
 AsksFor head request =
     (HasNoRequest head × (request ≡ refused_for BadHead))
     ⊎ ((h : RequestHead) × (after : List ℕ) × ReadsRequest head h after × IsRequestOf (head_parts h) request)
 
--- what the bytes at the front of an input ask for: nothing, where no byte came
+-- the request that the bytes at the front of an input ask for: no request, if no byte came
 abbrev pub Asks : List ℕ → HeadRead → Option Request → Type 0
 Asks bytes Whole (Some request) = AsksFor bytes request
 Asks bytes TooLong (Some request) = request ≡ refused_for HeadTooLong

@@ -44,7 +44,7 @@ fault_status TooLong = statuses.ContentTooLarge
 fault_status (Line items.NoMemory) = statuses.ServiceUnavailable
 fault_status (Line fault) = statuses.BadRequest
 
--- where a reader fails, no response is sent: no client sees the status and the word of that refusal
+-- if a reader fails, no response is sent: no client sees the status and the word of that refusal
 abbrev pub refusal_status : stored.Refusal → StatusCode
 refusal_status refusals.BadGroup = statuses.BadRequest
 refusal_status refusals.NotHeld = statuses.NotFound
@@ -99,7 +99,7 @@ reply_line word number moment = word ++ (decimal number ++ (codes " " ++ (moment
 abbrev pub published_text : ℕ → ℕ → List ℕ
 published_text number moment = reply_line (codes "published ") number moment
 
--- the body of the answer to a group: how many items it has, and the moment of the first
+-- the body of the answer to a group: the number of its items, and the moment of the first
 abbrev pub grouped_text : ℕ → ℕ → List ℕ
 grouped_text count moment = reply_line (codes "grouped ") count moment
 

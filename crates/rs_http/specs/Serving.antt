@@ -1,4 +1,4 @@
--- One request to a source: what was read, what was written, and the source after it.
+-- One request to a source: the bytes read, the bytes written, and the source after it.
 use Rattle.std.specs.Prelude.{◌≡◌, ◌⊎◌, ◌/◌, ◌<◌, ℕ, true, List, [], length, ◌++◌, Option, Some, Result, Ok, IfOk, IsErrOf}
 use Rattle.std.specs.Io.KnownBytes.{Consumes, Appends, IsAtEnd}
 use Rattle.httpdate.specs.Date.{unix_secs}
@@ -27,13 +27,13 @@ use Rattle.rs_http.specs.Outcomes.{RequestGives, Responds}
 use Rattle.rs_http.specs.Counted.{RequestRecovers}
 use Rattle.rs_http.specs.Walked.{MakesWalk, MakesNoEvent}
 
--- what is written before the source sees the request: the word to go on, where the client waits for it
+-- the bytes written before the source sees the request: the word to go on, if the client waits for it
 abbrev pub preface_of : Result RequestPlan RequestFault → List ℕ
 preface_of (Ok (Put name kind n true)) = go_on
 preface_of (Ok (Group n true)) = go_on
 preface_of plan = []
 
--- how many reads for a body may give no byte: one, where there is a body to read
+-- the number of reads for a body that may give no byte: one, if there is a body to read
 abbrev pub empty_reads_for : Result RequestPlan RequestFault → ℕ
 empty_reads_for (Ok (Put name kind n waits)) = 1
 empty_reads_for (Ok (Group n waits)) = 1
@@ -58,9 +58,9 @@ pub record TakesPart (before after : End) (first text : List ℕ) : Type 0 where
 abbrev pub bytes_of : Option (List ℕ) → Option (List ℕ)
 bytes_of bytes = bytes
 
--- How the answer to a plan ends. These bytes were read past the head, each read but one gave some, and the result is `Read` only where the reader
--- failed: then it failed in the body of a put or of a group, and nothing is written. Otherwise the outcome of the plan
--- is answered: its response is written, or a beginning of it where the writer failed.
+-- How the answer to a plan ends. These bytes were read past the head, all reads but one gave some, and the result is
+-- `Read` only if the reader failed: then it failed in the body of a put or of a group, and no byte is written.
+-- Otherwise the outcome of the plan is answered: its response is written, or a beginning of it if the writer failed.
 pub record PlanEnds {D : Type 0} {device : D → DiskState} (turn : Turn device) (plan : Result RequestPlan RequestFault) (framing : Framing)
     (ends : Ends) (result : Result StatusCode StreamFault) : Type 0 where
   pub more : List ℕ
@@ -71,7 +71,7 @@ pub record PlanEnds {D : Type 0} {device : D → DiskState} (turn : Turn device)
   pub answered : ¬ IsErrOf result Read
       → Responds bytes_of ends.before ends.after framing (RequestGives turn plan more (watched ends.rest)) result
 
--- the outcome of a request is answered: this is its status, and its response is written, behind the word to go on where
+-- the outcome of a request is answered: this is its status, and its response is written, after the word to go on if
 -- that was due
 pub record IsAnswered {D : Type 0} {device : D → DiskState} (turn : Turn device) (request : Request) (more : List ℕ) (rest : Option (List ℕ))
     (output : List ℕ) (status : StatusCode) : Type 0 where
@@ -82,8 +82,8 @@ pub record IsAnswered {D : Type 0} {device : D → DiskState} (turn : Turn devic
   pub status_is : status ≡ status_of outcome
   pub written : output ≡ preface_of request.plan ++ response_text (record { date = date; is_head = request.is_head }) outcome
 
--- the outcome of a request stands, and the writer failed in its response: it took a beginning of it, behind the word to
--- go on where that was due
+-- a request had its outcome, and the writer failed in the response: it took a beginning of it, after the word to go on
+-- if that was due
 pub record IsCutOff {D : Type 0} {device : D → DiskState} (turn : Turn device) (request : Request) (more : List ℕ) (ends : Ends) : Type 0 where
   pub outcome : RequestOutcome
   pub date : HttpDate
@@ -91,14 +91,14 @@ pub record IsCutOff {D : Type 0} {device : D → DiskState} (turn : Turn device)
   pub gives : RequestGives turn request.plan more (watched ends.rest) outcome
   pub took : TakesPart ends.before ends.after (preface_of request.plan) (response_text (record { date = date; is_head = request.is_head }) outcome)
 
--- the writer failed in the word to go on or in its flush, and nothing is done
+-- the writer failed in the word to go on or in its flush; no byte of a body was read, and the source is unchanged
 abbrev pub IsUnsaid : {D : Type 0} {device : D → DiskState} → Turn device → Request → List ℕ → Ends → Type 0
 IsUnsaid turn request more ends =
     (preface_of request.plan ≡ go_on) × (more ≡ []) × (turn.new ≡ turn.old) × TakesPart ends.before ends.after [] go_on
 
--- How the answer to a request ends. These bytes were read past the head, and the result is `Read` or `Write` only where
+-- How the answer to a request ends. These bytes were read past the head, and the result is `Read` or `Write` only if
 -- that end failed. The outcome of the request is answered. Or the reader failed in a body, and at most the word to go
--- on is written. Or the writer failed: in that word, or in the response to an outcome that stands.
+-- on is written. Or the writer failed: in that word, or in the response after the request had its outcome.
 pub record RequestEnds {D : Type 0} {device : D → DiskState} (turn : Turn device) (request : Request) (ends : Ends) (result : Result StatusCode StreamFault) : Type 0 where
   pub more : List ℕ
   pub came : Consumes (watched ends.left) (watched ends.rest) more
@@ -111,8 +111,8 @@ pub record RequestEnds {D : Type 0} {device : D → DiskState} (turn : Turn devi
       → Appends (watched ends.before) (watched ends.after) (preface_of request.plan) × IsBroken turn request.plan more
   pub stands : IsErrOf result Write → IsUnsaid turn request more ends ⊎ IsCutOff turn request more ends
 
--- An input is the bytes of a head, which ask for this request, and the bytes that were read past it. `behind` is what
--- the reader had left after the head: nothing, where the input ended within it.
+-- An input is the bytes of a head, which ask for this request, and the bytes that were read past it. `behind` is the
+-- rest that the reader had after the head: empty, if the input ended within the head.
 pub record Reads (ends : Ends) (input more : List ℕ) (request : Request) : Type 0 where
   pub bytes : List ℕ
   pub read : HeadRead
@@ -124,9 +124,9 @@ pub record Reads (ends : Ends) (input more : List ℕ) (request : Request) : Typ
   pub passed : Consumes behind (watched ends.rest) more
   pub asks : Asks bytes read (Some request)
 
--- What was written for an input: nothing for an empty one, and otherwise the response to the request at its front.
+-- The bytes written for an input: none for an empty input, and otherwise the response to the request at its front.
 -- Whenever the disk stops, it holds the state before, or after the command that counts; and the request makes a walk of
--- one event or none.
+-- at most one event.
 abbrev pub IsResponse : {D : Type 0} {device : D → DiskState} → Turn device → Ends → List ℕ → List ℕ → Served → Type 0
 IsResponse turn ends input output Nothing = (input ≡ []) × IsAtEnd (watched ends.rest) × (output ≡ []) × (turn.new ≡ turn.old)
 IsResponse turn ends input output (Answered status) =
@@ -134,8 +134,8 @@ IsResponse turn ends input output (Answered status) =
     × (answered : IsAnswered turn request more (watched ends.rest) output status)
     × RequestRecovers turn request.plan more answered.outcome × MakesWalk turn request more answered.outcome
 
--- A request was served: no call of either end failed, and the response to the input was written. `sparing`: each read but one
--- gave a byte of the input.
+-- A request was served: no call of either end failed, and the response to the input was written. `sparing`: all reads
+-- but one gave a byte of the input.
 pub record Serves {D : Type 0} {device : D → DiskState} (turn : Turn device) (ends : Ends) (served : Served) : Type 0 where
   pub input : List ℕ
   pub output : List ℕ
@@ -146,15 +146,16 @@ pub record Serves {D : Type 0} {device : D → DiskState} (turn : Turn device) (
   pub writer : failures ends.after ≡ failures ends.before
   pub responds : IsResponse turn ends input output served
 
--- What was written and done where the reader failed within an input. In the head: nothing. In the body of a put or of a
--- group: at most the word to go on was written; the request is not done, whenever the disk stops, and is no event.
+-- The bytes written and the effect, if the reader failed within an input. In the head: no byte and no effect. In the
+-- body of a put or of a group: at most the word to go on was written; the request is not done, whenever the disk stops,
+-- and is no event.
 abbrev pub BreaksWithin : {D : Type 0} {device : D → DiskState} → Turn device → Ends → List ℕ → List ℕ → Type 0
 BreaksWithin {device = device} turn ends input output =
     (HasNoEnd input × (length input < head_limit) × (output ≡ []) × (turn.new ≡ turn.old))
     ⊎ ((more : List ℕ) × (request : Request) × Reads ends input more request × (output ≡ preface_of request.plan)
     × IsBroken turn request.plan more × Recovers device turn.old [] turn.new × MakesNoEvent turn)
 
--- a call of the reader failed within the input, and none of the writer
+-- a call of the reader failed within the input, and no call of the writer
 pub record Breaks {D : Type 0} {device : D → DiskState} (turn : Turn device) (ends : Ends) : Type 0 where
   pub input : List ℕ
   pub output : List ℕ
@@ -165,14 +166,14 @@ pub record Breaks {D : Type 0} {device : D → DiskState} (turn : Turn device) (
   pub writer : failures ends.after ≡ failures ends.before
   pub within : BreaksWithin turn ends input output
 
--- The outcome of a request stands, and the writer failed in its response. Whenever the disk stops, it holds the state
--- before, or after the command that counts; and the request makes a walk.
+-- A request had its outcome, and the writer failed in the response. Whenever the disk stops, it holds the state before,
+-- or after the command that counts; and the request makes a walk.
 abbrev pub Stands : {D : Type 0} {device : D → DiskState} → Turn device → Request → List ℕ → Ends → Type 0
 Stands turn request more ends =
     (cut : IsCutOff turn request more ends) × RequestRecovers turn request.plan more cut.outcome × MakesWalk turn request more cut.outcome
 
--- A call of the writer failed, and none of the reader: in the word to go on, and nothing is done; or in the response to
--- the request at the front of the input, whose outcome stands.
+-- A call of the writer failed, and no call of the reader: in the word to go on, and the source is unchanged; or in the
+-- response to the request at the front of the input, after the request had its outcome.
 pub record Halts {D : Type 0} {device : D → DiskState} (turn : Turn device) (ends : Ends) : Type 0 where
   pub input : List ℕ
   pub came : Consumes (watched ends.left) (watched ends.rest) input

@@ -1,4 +1,4 @@
--- What the target of a request names.
+-- The place that the target of a request names.
 use Rattle.std.specs.Prelude.{ℕ, nat_eq, ◌==◌, List, drop, take, codes, bytes_eq, Option, Some, None, if◌then◌else◌}
 use Rattle.std.specs.List.{starts_with, position}
 use Rattle.std.specs.Str.{str_eq_ignore_ascii_case}
@@ -15,7 +15,7 @@ scheme_length target =
     else if str_eq_ignore_ascii_case (take 8 target) (codes "https://") then 8
     else 0
 
--- all from this place on, or `/` where there is none
+-- the bytes from this index on, or `/` without an index
 abbrev pub from_slash : List ℕ → Option ℕ → List ℕ
 from_slash rest None = codes "/"
 from_slash rest (Some i) = drop i rest
@@ -28,7 +28,7 @@ after_authority rest = from_slash rest (position (λ c. c == 47) rest)
 abbrev pub path_of_target : List ℕ → List ℕ
 path_of_target target = if nat_eq (scheme_length target) 0 then target else after_authority (drop (scheme_length target) target)
 
--- what the name of a resource names
+-- the place of a resource by its name, or `Unlawful`
 abbrev pub resource_place : List ℕ → Place
 resource_place name = if is_name name then Resource name else Unlawful
 
@@ -36,7 +36,7 @@ abbrev pub document_place : Option Doc → Place
 document_place (Some doc) = Document doc
 document_place None = Nowhere
 
--- what a path names
+-- the place that a path names
 abbrev pub place_of : List ℕ → Place
 place_of path =
     if starts_with nat_eq path (codes "/resource/") then resource_place (drop 10 path)

@@ -3,8 +3,8 @@ use Rattle.std.specs.Prelude.{ℕ}
 use Rattle.rs_disk.specs.Medium.{DiskState}
 use Rattle.rs_store.specs.Source.{Stored}
 
--- A source gets a request at a moment: the source before, the moment, and the source after. `device` is what contracts
--- see of the device.
+-- A source gets a request at a moment: the source before, the moment, and the source after. `device` gives the view of
+-- the device that contracts have.
 pub record Turn {D : Type 0} (device : D → DiskState) : Type 0 where
   pub old : Stored D
   pub now : ℕ

@@ -28,23 +28,23 @@ RunEvents s command now (replied reply) events = CommandEvents s command now (Ok
 RunEvents s command now (refused refusal) events = CommandEvents s command now (Err refusal) events
 RunEvents s command now outcome events = events ≡ []
 
--- the event of a put: none where its body did not come whole
+-- the event of a put: no event if its body did not come whole
 abbrev pub PutEvents : Source → Command → ℕ → RequestOutcome → List Event → Type 0
 PutEvents s command now (refused ReadFault) events = events ≡ []
 PutEvents s command now (refused ShortBody) events = events ≡ []
 PutEvents s command now outcome events = RunEvents s command now outcome events
 
--- the event of a group, one for all its items: none where it asks for no items
+-- the event of a group, one for all its items: no event if it asks for no items
 abbrev pub GroupEvents : Source → Option (List Item) → ℕ → RequestOutcome → List Event → Type 0
 GroupEvents s None now outcome events = events ≡ []
 GroupEvents s (Some items) now outcome events = RunEvents s (commands.Group items) now outcome events
 
--- a GET fetches what its response shows, the bytes that are answered at its path; a HEAD fetches nothing
+-- a GET fetches the bytes that its response shows, which are answered at its path; a HEAD makes no event
 abbrev pub ShowEvents : Bool → Source → List ℕ → RequestOutcome → List Event → Type 0
 ShowEvents false s path (shown kind bytes) events = (answer s path ≡ Some bytes) × (events ≡ Fetch ∷ [])
 ShowEvents is_head s path outcome events = events ≡ []
 
--- the event of a plan in a state and at a moment, or none; a put has this body, and these bytes of a group came
+-- the event of a plan in a state and at a moment, if any; a put has this body, and these bytes of a group came
 abbrev pub PlanEvents : Bool → Source → ℕ → Result RequestPlan RequestFault → List ℕ → RequestOutcome → (List Event → Type 0)
 PlanEvents is_head s now (Ok (Put name kind n waits)) body outcome = PutEvents s (commands.Put name kind body) now outcome
 PlanEvents is_head s now (Ok (Delete name)) body outcome = RunEvents s (commands.Delete name) now outcome
@@ -54,15 +54,15 @@ PlanEvents is_head s now (Ok (ShowBody name)) body outcome = ShowEvents is_head 
 PlanEvents is_head s now (Ok (ShowDocument doc)) body outcome = ShowEvents is_head s (path_of doc) outcome
 PlanEvents is_head s now (Err reason) body outcome = (λ events. events ≡ [])
 
--- a put may have this body, where these bytes of it came; the body of a group is the bytes that came
+-- a put may have this body, if these bytes of it came; the body of a group is the bytes that came
 abbrev pub IsBodyFor : Result RequestPlan RequestFault → List ℕ → List ℕ → Type 0
 IsBodyFor (Ok (Put name kind n waits)) more body = IsBodyOf n more body
 IsBodyFor (Ok (Group n waits)) more body = body ≡ more
 IsBodyFor plan more body = Unit {0}
 
--- The source held a state, and its device has followed the model: then the request leaves a walk of its one event or
--- none. Where a put was answered before its whole body was read, this holds for each body that begins so, and there is
--- one.
+-- The source held a state, and its device has followed the model: then the request leaves a walk of its one event or of
+-- no event. If a put was answered before its whole body was read, this holds for every body that begins so, and there
+-- is one.
 pub record MakesWalk {D : Type 0} {device : D → DiskState} (turn : Turn device) (request : Request) (more : List ℕ) (outcome : RequestOutcome) : Type 0 where
   pub some_body : (body : List ℕ) × IsBodyFor request.plan more body
   pub walks : (s : Source) (body : List ℕ) → Holds device turn.old s → IsTrue (device turn.new.disk).honest → IsBodyFor request.plan more body

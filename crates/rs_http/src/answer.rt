@@ -46,7 +46,7 @@ fn write_put<W: Write>(
     }
 }
 
-/// Does what the lines of a body ask for, in one command, and writes the response.
+/// Runs the items of a body's lines as one command, and writes the response.
 fn ask_group<D: Disk, W: Write>(
     source: &mut Source<D>,
     body: &[u8],
@@ -65,7 +65,7 @@ fn ask_group<D: Disk, W: Write>(
     run(source, &command, writer, exchange)
 }
 
-/// Reads the next `body_length` bytes of the input, does what their lines ask for, and writes the response.
+/// Reads the next `body_length` bytes of the input, runs the items of their lines, and writes the response.
 fn group<D: Disk, R: Read, W: Write>(
     source: &mut Source<D>,
     body_length: u64,
@@ -87,7 +87,7 @@ fn group<D: Disk, R: Read, W: Write>(
     }
 }
 
-/// Does what a request asks for, and writes the response.
+/// Runs the plan of a request, and writes the response.
 fn respond<D: Disk, R: Read, W: Write>(
     source: &mut Source<D>,
     reader: &mut Watched<R>,
@@ -133,7 +133,7 @@ fn write_go_on<W: Write>(writer: &mut Watched<W>) -> Result<(), WriteFault>
     writer.flush()
 }
 
-/// Writes what goes out before the source is asked.
+/// Writes the bytes that are due before the source is asked.
 fn write_preface<W: Write>(
     writer: &mut Watched<W>,
     plan: &Result<RequestPlan, RequestFault>,
@@ -162,7 +162,7 @@ fn date_of(now: Moment) -> HttpDate
     }
 }
 
-/// Flushes the writer, and gives the status.
+/// Flushes the writer, and returns the status.
 fn finish<W: Write>(writer: &mut Watched<W>, status: StatusCode) -> Result<StatusCode, StreamFault>
     ensures value { MatchResult result
         (λ given. given ≡ status) (λ fault. fault ≡ StreamFault.Write) }
@@ -176,12 +176,12 @@ fn finish<W: Write>(writer: &mut Watched<W>, status: StatusCode) -> Result<Statu
     Ok(status)
 }
 
-/// Does what a request asks for, writes the response, and gives its status.
+/// Runs a request, writes the response, and returns its status.
 ///
 /// # Errors
 ///
-/// - [`StreamFault::Read`] where a read failed in the body of a put or of a group. The request is not done.
-/// - [`StreamFault::Write`] where a call of the writer failed. What was done stands.
+/// - [`StreamFault::Read`] if a read failed in the body of a put or of a group. The request is not done.
+/// - [`StreamFault::Write`] if a call of the writer failed. The effect of the request remains.
 pub(crate) fn answer<D: Disk, R: Read, W: Write>(
     alloc: Global,
     source: &mut Source<D>,

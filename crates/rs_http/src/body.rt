@@ -15,9 +15,9 @@ use std::io::Read;
 ///
 /// # Errors
 ///
-/// - [`Refusal::ReadFault`] where a read failed,
-/// - [`Refusal::ShortBody`] where the input ended within them,
-/// - [`Refusal::NoMemory`] where there is no memory for them. Nothing is read then.
+/// - [`Refusal::ReadFault`] if a read failed,
+/// - [`Refusal::ShortBody`] if the input ended within them,
+/// - [`Refusal::NoMemory`] if there is no memory for them. No byte is read then.
 pub(crate) fn read_body<R: Read>(
     alloc: Global,
     reader: &mut Watched<R>,

@@ -14,7 +14,7 @@ const MOST_FIELDS: usize = 32;
 /// The most digits of a length.
 const LENGTH_DIGITS: usize = 18;
 
-/// Whether there is more than one Host, or none in HTTP/1.1.
+/// Returns whether there is more than one Host, or no Host in HTTP/1.1.
 fn is_bad_host(minor: u8, host: Lone<'_>) -> bool
     ensures { (hosts : List (List ℕ)) → LoneIs host.entry hosts
         → result ≡ has_bad_host minor hosts }
@@ -26,7 +26,7 @@ fn is_bad_host(minor: u8, host: Lone<'_>) -> bool
     }
 }
 
-/// Whether there is a field.
+/// Returns whether there is a field.
 fn is_there(lone: Lone<'_>) -> bool
     ensures { (values : List (List ℕ)) → LoneIs lone.entry values → result ≡ has_one values }
 {
@@ -36,7 +36,7 @@ fn is_there(lone: Lone<'_>) -> bool
     }
 }
 
-/// The length that the fields of a head state, or `BadLength`.
+/// Returns the length that the fields of a head state, or `BadLength`.
 fn body_length(lone: Lone<'_>) -> Result<Option<u64>, RequestFault>
     ensures ok { IfOk result (λ length. (values : List (List ℕ)) → LoneIs lone.entry values
         → (is_bad_length values ≡ false) × (length ≡ stated_length values)) }
@@ -53,7 +53,7 @@ fn body_length(lone: Lone<'_>) -> Result<Option<u64>, RequestFault>
     }
 }
 
-/// Checks the fields of any request, and gives the length that they state.
+/// Checks the fields of any request, and returns the length that they state.
 ///
 /// # Errors
 ///

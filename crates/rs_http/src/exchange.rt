@@ -1,16 +1,16 @@
-//! What the answer to a request needs.
+//! The inputs of the answer to a request.
 
 use crate::response::Framing;
 use rs_time::Moment;
 use std::alloc::Global;
 
-/// What the answer to a request needs beside the source and the two ends.
+/// The inputs of the answer to a request, apart from the source and the two ends.
 #[derive(Clone, Copy)]
 pub(crate) struct Exchange {
-    /// Where memory comes from.
+    /// The allocator.
     pub(crate) alloc: Global,
     /// The moment at which a command comes.
     pub(crate) moment: Moment,
-    /// What the responses have in common.
+    /// The common part of the responses.
     pub(crate) framing: Framing,
 }

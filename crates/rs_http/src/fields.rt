@@ -12,22 +12,22 @@ use std::marker::Model;
 /// The fields of one name.
 #[derive(Clone, Copy, Debug)]
 pub(crate) enum Lone<'a> {
-    /// There is none.
+    /// No field has the name.
     Absent,
-    /// There is one, with this value.
+    /// One field has the name, with this value.
     One(&'a [u8]),
-    /// There are more.
+    /// Several fields have the name.
     Many,
 }
 
-/// Whether two texts are the same, apart from case.
+/// Returns whether two texts are the same, apart from case.
 pub(crate) fn is_same(a: &[u8], b: &[u8]) -> bool
     ensures { result ≡ str_eq_ignore_ascii_case a.now b.now }
 {
     a.eq_ignore_ascii_case(b)
 }
 
-/// Whether a field has this name.
+/// Returns whether a field has this name.
 fn is_named(head: &[u8], header: &HeaderSpan, name: &[u8]) -> bool
     requires { IsHeaderWithin (length head.now) header.now }
     ensures { result ≡ str_eq_ignore_ascii_case (span_bytes head.now header.now.name) name.now }
@@ -35,7 +35,7 @@ fn is_named(head: &[u8], header: &HeaderSpan, name: &[u8]) -> bool
     is_same(header.name.of(head), name)
 }
 
-/// The fields of a name.
+/// Returns the fields of a name.
 fn find_lone<'a>(head: &'a [u8], headers: &[HeaderSpan], name: &[u8]) -> Lone<'a>
     requires { All (IsHeaderWithin (length head.now)) headers.now }
     ensures { LoneIs result (values_of name.now (map (header_bytes head.now) headers.now)) }
@@ -52,7 +52,7 @@ fn find_lone<'a>(head: &'a [u8], headers: &[HeaderSpan], name: &[u8]) -> Lone<'a
     found
 }
 
-/// Whether an `Expect` says `100-continue`.
+/// Returns whether an `Expect` says `100-continue`.
 fn is_continue(head: &[u8], headers: &[HeaderSpan]) -> bool
     requires { All (IsHeaderWithin (length head.now)) headers.now }
     ensures { result
@@ -90,7 +90,7 @@ impl<'a> Model for HeadParts<'a> {
 }
 
 impl<'a> HeadParts<'a> {
-    /// The parts at these spans and headers of a head.
+    /// Returns the parts at these spans and headers of a head.
     pub(crate) fn new(
         head: &'a [u8],
         spans: RequestSpans,
@@ -108,56 +108,56 @@ impl<'a> HeadParts<'a> {
         }
     }
 
-    /// Whether its method has this name.
+    /// Returns whether its method has this name.
     pub(crate) fn has_method(&self, name: &[u8]) -> bool
         ensures { result ≡ bytes_eq self.now.method name.now }
     {
         self.spans.method.of(self.head) == name
     }
 
-    /// Whether its method is `GET` or `HEAD`.
+    /// Returns whether its method is `GET` or `HEAD`.
     pub(crate) fn is_get(&self) -> bool
         ensures { result ≡ gets self.now.method }
     {
         self.has_method(b"GET") || self.has_method(b"HEAD")
     }
 
-    /// Whether its method is `POST`.
+    /// Returns whether its method is `POST`.
     pub(crate) fn is_post(&self) -> bool
         ensures { result ≡ posts self.now.method }
     {
         self.has_method(b"POST")
     }
 
-    /// Its target.
+    /// Returns its target.
     pub(crate) fn target(&self) -> &'a [u8]
         ensures { result.now ≡ self.now.target }
     {
         self.spans.path.of(self.head)
     }
 
-    /// The minor number of its version.
+    /// Returns the minor number of its version.
     pub(crate) fn minor(&self) -> u8
         ensures { result ≡ self.now.minor }
     {
         self.spans.version
     }
 
-    /// How many fields it has.
+    /// Returns the number of its fields.
     pub(crate) fn field_count(&self) -> usize
         ensures { result ≡ length self.now.fields }
     {
         self.headers.len()
     }
 
-    /// Its fields of a name.
+    /// Returns whether it has no field of a name, one with its value, or several.
     pub(crate) fn fields(&self, name: &[u8]) -> Lone<'a>
         ensures { LoneIs result (values_of name.now self.now.fields) }
     {
         find_lone(self.head, self.headers, name)
     }
 
-    /// Whether it is of HTTP/1.1 and expects the word to go on.
+    /// Returns whether it is of HTTP/1.1 and expects the word to go on.
     pub(crate) fn expects_word(&self) -> bool
         ensures { result ≡ says_word self.now }
     {

@@ -11,11 +11,11 @@ use rs_items::{ItemFault, item_of};
 use rs_model::{Item, MOST_GROUPED};
 use std::alloc::{AllocError, Global};
 
-/// How many items are kept: one more than a group may have. The source refuses them as it would refuse
-/// all of them.
+/// The number of items that are kept: one more than a group may have. The source refuses them as it would refuse all of
+/// them.
 const MOST_KEPT: usize = MOST_GROUPED + 1;
 
-/// A line without its line feed and without a carriage return before that.
+/// Returns a line without its line feed and without a carriage return before that.
 fn cut_return(raw: &[u8]) -> &[u8]
     ensures { result.now ≡ without_return raw.now }
 {
@@ -25,14 +25,14 @@ fn cut_return(raw: &[u8]) -> &[u8]
     }
 }
 
-/// Where the first line feed stands.
+/// Returns the index of the first line feed.
 fn first_break(bytes: &[u8]) -> Option<usize>
     ensures { result ≡ position is_break bytes.now }
 {
     bytes.iter().position(|b| *b == b'\n')
 }
 
-/// The first line of some bytes and what follows its line feed, or `None` where there is no line feed.
+/// Returns the first line of some bytes and the bytes after its line feed, or `None` without a line feed.
 fn split_line(bytes: &[u8]) -> Option<(&[u8], &[u8])>
     ensures some { IfSome result (λ parts.
         lines_of bytes.now ≡ parts.0.now ∷ lines_of parts.1.now) }
@@ -70,7 +70,7 @@ fn add_item(alloc: Global, items: &mut Vec<Item>, line: &[u8]) -> Result<(), Ite
     Ok(())
 }
 
-/// Reads the bytes behind the last line feed. They are a line unless they are empty.
+/// Reads the bytes after the last line feed. They are a line unless they are empty.
 fn add_last(alloc: Global, items: &mut Vec<Item>, bytes: &[u8]) -> Result<(), ItemFault>
     requires { length items.old.items ≤ 17 }
     ensures ok { OnOk result ((last : List Item) × (items_of_lines (last_line bytes.now) ≡ Ok last)
@@ -84,11 +84,11 @@ fn add_last(alloc: Global, items: &mut Vec<Item>, bytes: &[u8]) -> Result<(), It
     add_item(alloc, items, bytes)
 }
 
-/// The first 17 items of a body. Every line is read, those after the kept items too.
+/// Reads the first 17 items of a body. Every line is read, those after the kept items too.
 ///
 /// # Errors
 ///
-/// The fault of the first line that has one, or [`ItemFault::NoMemory`] where the memory for an item is refused.
+/// The fault of the first line that has one, or [`ItemFault::NoMemory`] if the memory for an item is refused.
 pub(crate) fn first_items(alloc: Global, body: &[u8]) -> Result<Vec<Item>, ItemFault>
     ensures ok { IfOk result (λ items. (all : List Item) × (items_in body.now ≡ Ok all)
         × (items.items ≡ take 17 all)) }

@@ -12,7 +12,7 @@ use std::io::Read;
 /// The longest head, in bytes.
 pub(crate) const HEAD_LIMIT: usize = 8192;
 
-/// How the reading of a head ended.
+/// The result of reading a head.
 #[derive(Clone, Copy, Debug, PartialEq, Eq)]
 pub(crate) enum HeadRead {
     /// The head came whole.
@@ -23,7 +23,7 @@ pub(crate) enum HeadRead {
     Ended,
 }
 
-/// Whether the bytes end as a head does.
+/// Returns whether the bytes end as a head does.
 #[tactic(auto, unfolding(crate::specs::Head::ends_head))]
 fn is_end(bytes: &[u8]) -> bool
     ensures { result ≡ ends_head bytes.now (length bytes.now) }
@@ -34,11 +34,11 @@ fn is_end(bytes: &[u8]) -> bool
         && (bytes[n - 2] == b'\n' || (n >= 3 && bytes[n - 2] == b'\r' && bytes[n - 3] == b'\n'))
 }
 
-/// The next byte of the input, or `None` at its end.
+/// Returns the next byte of the input, or `None` at its end.
 ///
 /// # Errors
 ///
-/// [`ReadFault`] where the read failed.
+/// [`ReadFault`] if the read failed.
 pub(crate) fn read_byte<R: Read>(reader: &mut Watched<R>) -> Result<Option<u8>, ReadFault>
     ensures ok { IfOk result (λ byte.
         Took R.remaining reader.old reader.new (option_to_list byte)) }
@@ -57,11 +57,11 @@ pub(crate) fn read_byte<R: Read>(reader: &mut Watched<R>) -> Result<Option<u8>, 
     Ok(Some(byte[0]))
 }
 
-/// Reads the head of a request and no byte after it, and gives the number of bytes read.
+/// Reads the head of a request and no byte after it, and returns the number of bytes read.
 ///
 /// # Errors
 ///
-/// [`ReadFault`] where a read failed, within the head and before its limit.
+/// [`ReadFault`] if a read failed, within the head and before its limit.
 pub(crate) fn read_head<R: Read>(
     reader: &mut Watched<R>,
     buf: &mut [u8],

@@ -18,7 +18,7 @@ use rs_store::Refusal;
 use rs_time::Moment;
 use std::io::Write;
 
-/// The status of a request that is refused before the source sees it.
+/// Returns the status of a request that is refused before the source sees it.
 fn fault_status(fault: RequestFault) -> StatusCode
     ensures { result ≡ status_of_fault fault }
 {
@@ -38,7 +38,7 @@ fn fault_status(fault: RequestFault) -> StatusCode
     }
 }
 
-/// The word of such a refusal.
+/// Returns the word of a fault.
 fn fault_word(fault: RequestFault) -> &'static str
     ensures { result.now ≡ word_of_fault fault }
 {
@@ -57,7 +57,7 @@ fn fault_word(fault: RequestFault) -> &'static str
     }
 }
 
-/// The field `Allow`, where the method is not allowed, else nothing.
+/// Returns the field `Allow` if the method is not allowed, else the empty text.
 fn allow_text(fault: RequestFault) -> &'static str
     ensures { result.now ≡ allow_of fault }
 {
@@ -69,7 +69,7 @@ fn allow_text(fault: RequestFault) -> &'static str
     }
 }
 
-/// The status of a request that the source refuses.
+/// Returns the status of a request that the source refuses.
 fn refusal_status(refusal: Refusal) -> StatusCode
     ensures { result ≡ status_of_refusal refusal }
 {
@@ -90,7 +90,7 @@ fn refusal_status(refusal: Refusal) -> StatusCode
     }
 }
 
-/// Writes the response to a request that is refused before the source sees it, and gives its status.
+/// Writes the response to a request that is refused before the source sees it, and returns its status.
 pub(crate) fn write_fault<W: Write>(
     writer: &mut Watched<W>,
     framing: Framing,
@@ -105,7 +105,7 @@ pub(crate) fn write_fault<W: Write>(
     Ok(status)
 }
 
-/// Writes the response to a request that the source refuses, and gives its status.
+/// Writes the response to a request that the source refuses, and returns its status.
 pub(crate) fn write_refusal<W: Write>(
     writer: &mut Watched<W>,
     framing: Framing,
@@ -119,7 +119,7 @@ pub(crate) fn write_refusal<W: Write>(
     Ok(status)
 }
 
-/// Writes the response with the bytes of a resource, and gives its status.
+/// Writes the response with the bytes of a resource, and returns its status.
 pub(crate) fn write_shown<W: Write>(
     writer: &mut Watched<W>,
     framing: Framing,
@@ -159,7 +159,7 @@ fn write_line<W: Write>(
     write_response(writer, framing, StatusCode::Ok, &lines, &body)
 }
 
-/// Writes the response to an accepted command, and gives its status.
+/// Writes the response to an accepted command, and returns its status.
 pub(crate) fn write_reply<W: Write>(
     writer: &mut Watched<W>,
     framing: Framing,

@@ -1,4 +1,4 @@
-//! What a request asks for.
+//! The request that a head asks for.
 
 ghost use Rattle.std.specs.Prelude.{◌≡◌, ◌≤◌, ℕ, List, length, IfSome, IfNone, IsTrue, Some, true, false, unwrap_or};
 ghost use Rattle.httparse.specs.Grammar.{HasNoRequest};
@@ -19,7 +19,7 @@ use rs_items::ItemFault;
 use rs_record::{LONGEST_BODY, MediaType};
 use std::alloc::Global;
 
-/// The media type that the fields state for a body, unless it is unlawful or a second one.
+/// Returns the media type that the fields state for a body, unless it is unlawful or a second one.
 fn stated_kind(lone: Lone<'_>) -> Option<&[u8]>
     ensures some { IfSome result (λ kind. (kinds : List (List ℕ)) → LoneIs lone.entry kinds
         → (is_bad_type kinds ≡ false) × (kind.now ≡ stated_type kinds)) }
@@ -34,7 +34,7 @@ fn stated_kind(lone: Lone<'_>) -> Option<&[u8]>
     }
 }
 
-/// The plan of a put with the length that the fields state.
+/// Returns the plan of a put with the length that the fields state.
 fn put_plan(
     alloc: Global,
     head: &HeadParts<'_>,
@@ -56,7 +56,7 @@ fn put_plan(
     })
 }
 
-/// The plan of a group, with the length that the fields state.
+/// Returns the plan of a group, with the length that the fields state.
 fn group_plan(stated: Option<u64>, expects: bool) -> Result<RequestPlan, RequestFault>
     ensures { IsPlanFor (group_head_causes stated)
         (Some (plan_of_group (unwrap_or stated 0) expects)) result }
@@ -71,7 +71,7 @@ fn group_plan(stated: Option<u64>, expects: bool) -> Result<RequestPlan, Request
     })
 }
 
-/// The plan of a request for a resource.
+/// Returns the plan of a request for a resource.
 fn resource_plan(
     alloc: Global,
     head: &HeadParts<'_>,
@@ -93,7 +93,7 @@ fn resource_plan(
     Err(RequestFault::BadMethod(Methods::OfResources))
 }
 
-/// The plan of a request for a place.
+/// Returns the plan of a request for a place.
 fn plan_at(
     alloc: Global,
     head: &HeadParts<'_>,
@@ -115,7 +115,7 @@ fn plan_at(
     }
 }
 
-/// The plan of a head with these parts.
+/// Returns the plan of a head with these parts.
 fn plan_request(alloc: Global, head: &HeadParts<'_>) -> Result<RequestPlan, RequestFault>
     ensures { IsPlanFor (causes_of head.now) (plan_there (place_in head.now) head.now) result }
 {
@@ -141,7 +141,7 @@ fn parse_head(head: &[u8], headers: &mut [HeaderSpan]) -> Option<RequestSpans>
     }
 }
 
-/// A request that is refused before its head is known.
+/// Returns a request that is refused before its head is known.
 fn refused_request(fault: RequestFault) -> Request
     ensures { result ≡ refused_for fault }
 {
@@ -151,7 +151,7 @@ fn refused_request(fault: RequestFault) -> Request
     }
 }
 
-/// What a head asks for, with room for its fields.
+/// Returns the request that a head asks for, with room for its fields.
 fn read_with(alloc: Global, head: &[u8], headers: &mut [HeaderSpan]) -> Request
     requires short { length head.now ≤ 8192 }
     requires room { length headers.old ≡ 2731 }
@@ -167,7 +167,7 @@ fn read_with(alloc: Global, head: &[u8], headers: &mut [HeaderSpan]) -> Request
     }
 }
 
-/// What a head asks for.
+/// Returns the request that a head asks for.
 fn read_whole(alloc: Global, head: &[u8]) -> Request
     requires { length head.now ≤ 8192 }
     ensures { AsksFor head.now result }
@@ -176,7 +176,7 @@ fn read_whole(alloc: Global, head: &[u8]) -> Request
     read_with(alloc, head, &mut headers)
 }
 
-/// What the bytes at the front of an input ask for, or `None` where no byte came.
+/// Returns the request that the bytes at the front of an input ask for, or `None` if no byte came.
 pub(crate) fn read_request(alloc: Global, bytes: &[u8], read: HeadRead) -> Option<Request>
     requires { length bytes.now ≤ 8192 }
     ensures { Asks bytes.now read result }

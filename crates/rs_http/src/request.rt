@@ -1,4 +1,4 @@
-//! What a request asks for, or why it is refused before the source sees it.
+//! The plan of a request, or the reason why it is refused before the source sees it.
 
 ghost use Rattle.std.specs.Prelude.{◌≡◌};
 
@@ -8,8 +8,8 @@ use rs_lists::Doc;
 use rs_record::{MediaType, Name};
 use std::alloc::AllocError;
 
-/// Why a request is refused before the source sees it. The first cause in this order counts. Causes in the lines of a
-/// group come after all causes in its head, and there the first line with a cause counts.
+/// The fault of a request that is refused before the source sees it. The first cause in this order counts. Causes in
+/// the lines of a group come after all causes in its head, and there the first line with a cause counts.
 #[derive(Clone, Copy, Debug, PartialEq, Eq)]
 pub(crate) enum RequestFault {
     /// The head has not ended in 8,192 bytes.
@@ -18,7 +18,7 @@ pub(crate) enum RequestFault {
     BadHead,
     /// The head has more than 32 fields.
     ManyFields,
-    /// There is more than one Host, or none in HTTP/1.1.
+    /// There is more than one Host, or no Host in HTTP/1.1.
     BadHost,
     /// There is a Transfer-Encoding.
     TransferEncoding,
@@ -36,7 +36,7 @@ pub(crate) enum RequestFault {
     Line(ItemFault),
 }
 
-/// What a request asks for.
+/// The plan of a request.
 #[derive(Debug, Drop)]
 pub(crate) enum RequestPlan {
     /// The body of a resource.
@@ -88,6 +88,6 @@ impl From<AllocError> for RequestFault {
 pub(crate) struct Request {
     /// Whether its method is known to be HEAD. Its response then has no body.
     pub(crate) is_head: bool,
-    /// What it asks for.
+    /// Its plan, or the reason why it is refused.
     pub(crate) plan: Result<RequestPlan, RequestFault>,
 }

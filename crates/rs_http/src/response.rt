@@ -12,7 +12,7 @@ use itoa::Buffer;
 use rs_io::{Watched, WriteFault};
 use std::io::Write;
 
-/// What the responses to one request have in common.
+/// The common part of the responses to one request.
 #[derive(Clone, Copy, Debug)]
 pub(crate) struct Framing {
     /// Their date.
@@ -44,8 +44,8 @@ fn write_first<W: Write>(
     ])
 }
 
-/// Writes a response: header lines in pieces, the empty line included, and a body in pieces, left out where the method
-/// is HEAD.
+/// Writes a response: header lines in pieces, the empty line included, and a body in pieces, left out if the method is
+/// HEAD.
 pub(crate) fn write_response<W: Write>(
     writer: &mut Watched<W>,
     framing: Framing,

@@ -21,17 +21,17 @@ use rs_time::Moment;
 use std::alloc::Global;
 use std::io::{Read, Write};
 
-/// How a connection ended.
+/// The result of serving a connection.
 #[derive(Clone, Copy, Debug, PartialEq, Eq)]
 pub enum Served {
     /// A request was answered with this status.
     Answered(StatusCode),
-    /// The input ended before a byte came, and nothing was written.
+    /// The input ended before a byte came, and no byte was written.
     Nothing,
 }
 
-/// Reads one request, does what it asks for, and writes the response (RFC 9110 and RFC 9112). The date of the response
-/// is `now`, cut to its second. A command comes at `now`.
+/// Reads one request, runs it, and writes the response (RFC 9110 and RFC 9112). The date of the response is `now`, cut
+/// to its second. A command comes at `now`.
 ///
 /// It reads the head byte by byte and takes no byte after the request: give it a buffered reader. It reads the whole
 /// body of a group into memory, at most 16,777,216 bytes. It flushes the writer after the word to go on, and at the
@@ -39,15 +39,15 @@ pub enum Served {
 ///
 /// # Errors
 ///
-/// - [`StreamFault::Read`] where a read failed in this call. The request is not done, and at most the word to go on is
+/// - [`StreamFault::Read`] if a read failed in this call. The request is not done, and at most the word to go on is
 ///   written.
-/// - [`StreamFault::Write`] where a call of the writer failed in this call. Where the word to go on was due and was not
-///   flushed, the request is not done. Otherwise an accepted command stands. The writer took a beginning of the text,
-///   and no other byte.
+/// - [`StreamFault::Write`] if a call of the writer failed in this call. If the word to go on was due and was not
+///   flushed, the request is not done. Otherwise an accepted command remains applied. The writer took a beginning of
+///   the text, and no other byte.
 ///
 /// Whenever the disk stops within the call, it holds the state before, or the state after the request's one command.
-/// The call makes a walk of one event or none: the command as it was answered, or the fetch of what a GET was shown. At
-/// its end each image of the disk represents the state after the walk.
+/// The call makes a walk of at most one event: the command as it was answered, or the fetch of the bytes that a GET was
+/// shown. At its end every image of the disk represents the state after the walk.
 pub fn serve_one<D: Disk, R: Read, W: Write>(
     alloc: Global,
     source: &mut Source<D>,
@@ -55,7 +55,7 @@ pub fn serve_one<D: Disk, R: Read, W: Write>(
     writer: &mut Watched<W>,
     now: Moment,
 ) -> Result<Served, StreamFault>
-    // What is written is the response to what was read.
+    // The bytes written are the response to the bytes read.
     ensures ok { IfOk result (Serves (turn D.state source.old now source.new)
         (ends_of R.remaining reader.old reader.new W.contents writer.old writer.new)) }
 
@@ -64,8 +64,8 @@ pub fn serve_one<D: Disk, R: Read, W: Write>(
         → Breaks (turn D.state source.old now source.new)
         (ends_of R.remaining reader.old reader.new W.contents writer.old writer.new) }
 
-    // A call of the writer failed, and none of the reader. A write failed within the text, or a flush
-    // after it. What was done stands.
+    // A call of the writer failed, and no call of the reader. A write failed within the text, or a flush after it. The
+    // effect of the request remains.
     ensures write { IsErrOf result StreamFault.Write
         → Halts (turn D.state source.old now source.new)
         (ends_of R.remaining reader.old reader.new W.contents writer.old writer.new) }
@@ -76,14 +76,14 @@ pub fn serve_one<D: Disk, R: Read, W: Write>(
     ensures flushed { OnOk result (StaysFlushed writer.old writer.new) }
     ensures waits { IsErrOf result StreamFault.Read → StaysFlushed writer.old writer.new }
 
-    // Whatever the result, one command at most changes the held state, while the source is open.
+    // With any result, at most one command changes the held state, while the source is open.
     ensures goes_on { GoesOnOnce D.state source.old now source.new }
 
-    // Whatever the result, the call is a run of at most one counted command.
+    // With any result, the call is a run of at most one counted command.
     ensures run { RunsAtMost D.state source.old 1 source.new }
 
-    // Whatever the result, the source got one command at most, the one that the request asks for, and what
-    // the writer took tells its answer. To anything but a GET or a HEAD a 200 is such an answer.
+    // With any result, the source got at most one command, the one that the request asks for, and the bytes that the
+    // writer took report its answer. To any request but a GET or a HEAD a 200 is such an answer.
     ensures answered { TellsRequest (turn D.state source.old now source.new)
         (ends_of R.remaining reader.old reader.new W.contents writer.old writer.new) }
 {

@@ -6,7 +6,7 @@ ghost use Rattle.rs_http.specs.Statuses.{code_of, phrase_of};
 /// The status of a response (RFC 9110, section 15; 507 is of RFC 4918, section 11.5).
 #[derive(Clone, Copy, Debug, PartialEq, Eq)]
 pub enum StatusCode {
-    /// 200: the response has what was asked for.
+    /// 200: the response has the requested value.
     Ok,
     /// 201: a put made the resource.
     Created,
@@ -14,7 +14,7 @@ pub enum StatusCode {
     NoContent,
     /// 400: the request is malformed.
     BadRequest,
-    /// 404: nothing is there.
+    /// 404: no resource or document is at the path.
     NotFound,
     /// 405: the place does not allow the method.
     MethodNotAllowed,
@@ -35,7 +35,7 @@ pub enum StatusCode {
 }
 
 impl StatusCode {
-    /// Its number, of three digits.
+    /// Returns its number, of three digits.
     pub fn code(self) -> u16
         ensures { result ≡ code_of self }
     {
@@ -56,7 +56,7 @@ impl StatusCode {
         }
     }
 
-    /// Its reason phrase.
+    /// Returns its reason phrase.
     pub(crate) fn phrase(self) -> &'static str
         ensures { result.now ≡ phrase_of self }
     {

@@ -1,4 +1,4 @@
-//! What the target of a request names.
+//! The place that the target of a request names.
 
 ghost use Rattle.std.specs.Prelude.{◌≡◌, ◌==◌, ◌≤◌, length, IfOk};
 ghost use Rattle.std.specs.List.{position};
@@ -12,7 +12,7 @@ use rs_record::Name;
 use std::alloc::{AllocError, Global};
 use std::marker::Model;
 
-/// A lawful name as it stands in a head, seen as the list of its bytes.
+/// A lawful name as it is written in a head, seen as the list of its bytes.
 #[derive(Debug, Drop)]
 pub(crate) struct NameInHead<'a> {
     bytes: &'a [u8],
@@ -30,7 +30,7 @@ impl<'a> Model for NameInHead<'a> {
 }
 
 impl<'a> NameInHead<'a> {
-    /// The name, with memory of its own.
+    /// Returns the name, with memory of its own.
     pub(crate) fn to_name(&self, alloc: Global) -> Result<Name, AllocError>
         ensures { IfOk result (λ name. name ≡ self.now) }
     {
@@ -38,7 +38,7 @@ impl<'a> NameInHead<'a> {
     }
 }
 
-/// What a path names.
+/// The place that a path names.
 #[derive(Debug, Drop)]
 pub(crate) enum Place<'a> {
     /// The resource of this name, whether it is held or not.
@@ -47,11 +47,11 @@ pub(crate) enum Place<'a> {
     Unlawful,
     /// This document, whether it exists or not.
     Document(Doc),
-    /// Where clients ask for a publication.
+    /// The place at which clients ask for a publication.
     Publishing,
-    /// Where clients ask for a group.
+    /// The place at which clients ask for a group.
     Grouping,
-    /// Nothing.
+    /// No place.
     Nowhere,
 }
 
@@ -66,7 +66,7 @@ pub(crate) enum Methods {
     OfPosts,
 }
 
-/// The length of the scheme at the front of a target: `http://` or `https://`, in any case.
+/// Returns the length of the scheme at the front of a target: `http://` or `https://`, in any case.
 fn scheme_length(target: &[u8]) -> usize
     ensures value { result ≡ length_of_scheme target.now }
     ensures fits { result ≤ length target.now }
@@ -80,14 +80,14 @@ fn scheme_length(target: &[u8]) -> usize
     0
 }
 
-/// Where the first `/` stands.
+/// Returns the index of the first `/`.
 fn first_slash(bytes: &[u8]) -> Option<usize>
     ensures { result ≡ position (λ b. b == 47) bytes.now }
 {
     bytes.iter().position(|b| *b == b'/')
 }
 
-/// The path after an authority, or `/` where none is written.
+/// Returns the path after an authority, or `/` if the target has no path.
 fn after_authority(rest: &[u8]) -> &[u8]
     ensures { result.now ≡ path_after rest.now }
 {
@@ -97,7 +97,7 @@ fn after_authority(rest: &[u8]) -> &[u8]
     }
 }
 
-/// The path of a target, which may begin with a scheme and an authority.
+/// Returns the path of a target, which may begin with a scheme and an authority.
 pub(crate) fn path_of_target(target: &[u8]) -> &[u8]
     ensures { result.now ≡ path_in target.now }
 {
@@ -108,7 +108,7 @@ pub(crate) fn path_of_target(target: &[u8]) -> &[u8]
     after_authority(&target[length..])
 }
 
-/// The resource of this name, where it is lawful.
+/// Returns the resource of this name, or `Unlawful` if the name is not lawful.
 fn resource_place(name: &[u8]) -> Place<'_>
     ensures { result ≡ resource_at name.now }
 {
@@ -118,7 +118,7 @@ fn resource_place(name: &[u8]) -> Place<'_>
     Place::Resource(NameInHead { bytes: name })
 }
 
-/// What a path names.
+/// Returns the place that a path names.
 pub(crate) fn place_of(path: &[u8]) -> Place<'_>
     ensures { result ≡ place_at path.now }
 {

@@ -26,7 +26,7 @@ one_more : (o : Option PageRef) (refs : List PageRef) → length (cons_option o 
 one_more None refs = omega arith
 one_more (Some ref) refs = omega arith
 
--- where each page has items, there are no more references than items
+-- where every page has items, there are no more references than items
 fewer_refs : {T : Type 0} (pages : List (Page T)) → All (λ page. 1 ≤ length page.items) pages → length (stored_refs pages) ≤ length (items_of pages)
 fewer_refs [] some = omega arith
 fewer_refs {T} (page ∷ pages) some =
@@ -46,14 +46,14 @@ refs_fit pages refs some room is =
     let same : length refs ≡ length (stored_refs pages) = ap length is in
     omega (arith, same, fewer_refs pages some, room)
 
--- a directory of three such lists has fewer bytes than 32 bits count
+-- a directory of three lists of at most 50,000 items has fewer bytes than 32 bits count
 pub fits : {E : Type 0} (result : Result (Vec ℕ Global) E) (h : Header) (n : ℕ) (catalogue changes published : List PageRef) → n ≤ 150000
     → IfOk result (λ out. vec_len out ≡ directory_length h n) → IfOk result (λ out. IsDirectory written_format out.items h catalogue changes published)
     → IfOk result (λ out. vec_len out < 2 ^ 32)
 fits (Ok out) h n catalogue changes published few size is = omega (arith, size, short_base h.base is.lawful.of_header.base)
 fits (Err e) h n catalogue changes published few size is = tt
 
--- and exactly its length, where each page is stored
+-- and exactly its length, where all pages are stored
 pub sized : {E : Type 0} (result : Result (Vec ℕ Global) E) (c : Contents) (n : ℕ) → (AreAllStored c → n ≡ pages_in_all c)
     → IfOk result (λ out. vec_len out ≡ directory_length c.header n) → IfOk result (λ out. AreAllStored c → vec_len out ≡ directory_bytes_of c)
 sized (Ok out) c n same size = λ stored. size ∙ ap (directory_length c.header) (same stored)

@@ -31,7 +31,7 @@ count_one : (o : Option PageRef) (refs : List PageRef) → IsSome o → length (
 count_one None refs h = cc
 count_one (Some ref) refs h = omega arith
 
--- as many references as pages, where each is stored
+-- as many references as pages, where all pages are stored
 pub count_refs : {T : Type 0} (pages : List (Page T)) → All IsStored pages → length (stored_refs pages) ≡ length pages
 count_refs [] h = refl
 count_refs (page ∷ pages) h =

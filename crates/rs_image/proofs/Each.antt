@@ -1,4 +1,4 @@
--- A fact of each element, as a loop reaches it.
+-- A fact of all elements, as a loop reaches them.
 use Rattle.std.proofs.Common.{◌≡◌, ℕ, ◌+◌, ◌≤◌, List, length, take, sym, subst, Some}
 use Rattle.std.specs.Prelude.{All, slice_get}
 use Rattle.std.proofs.lemmas.List.{take_all}

@@ -1,4 +1,4 @@
--- What a loader of a root's lists finds.
+-- The lists that a loader of a root finds.
 use Rattle.std.proofs.Common.{◌≡◌, ℕ, ◌+◌, ◌-◌, ◌<◌, ◌≤◌, true, List, [], ◌∷◌, ◌++◌, length, refl, subst, arith, sym, ◌∙◌, ap, Ok, Err}
 use Rattle.std.specs.Prelude.{IsErrOf, All, IsTrue}
 use Rattle.std.proofs.lemmas.List.Elements.{All-nil, All-cons, All-append, All-take, All-drop}
@@ -38,7 +38,7 @@ use Rattle.rs_image.proofs.ListsRead.{went_well}
 use Rattle.rs_image.proofs.Reaching.{reaches_catalogue, reaches_history, reaches_published}
 use Rattle.rs_image.proofs.Once.{listable_lawful, pages_once, catalogue_held_once, history_held_once}
 
--- whether both ends of an extent are inside
+-- an extent with blocks lies inside exactly where both its ends do
 pub ends_inside : (e : Extent) (n : ℕ) → 2 ≤ e.first → e.first + e.blocks ≤ n → (b : ℕ) → within e b ≡ true → (2 ≤ b) × (b < n)
 ends_inside e n low high b is = let inside = within_is e b is in (omega (arith, inside.0), omega (arith, inside.1))
 
@@ -50,7 +50,7 @@ high_inside e n some inside =
     let last = inside (e.first + (e.blocks - 1)) (within_true e (e.first + (e.blocks - 1)) (omega arith) (omega arith)) in
     omega (arith, last.1)
 
--- A disk on which an extent of some bytes lies behind the slots has more than the slots.
+-- A disk on which an extent of some bytes lies after the slots has more than the slots.
 pub has_slots : (e : Extent) (n size : ℕ) → 0 < n → IsSized e n → ((b : ℕ) → within e b ≡ true → (2 ≤ b) × (b < blocks_of_disk size)) → 1024 ≤ size
 has_slots e n size some sized inside =
     let blocks : 0 < e.blocks = omega (arith, sized.0, some) in
@@ -79,11 +79,11 @@ pub body_read : (root : Root) (sha256 items bytes : List ℕ) (x : Unit {0}) (ol
     → part root.directory root.length new.now.seen ≡ bytes
 body_read root sha256 items bytes x old new body is honest = still_read root bytes old new body.runs (sym (is ∙ body.found honest))
 
--- .. of a disk whose size is the number of bytes that reads give
+-- .. of a disk whose size is the number of bytes that reads return
 pub size_seen : (size : ℕ) (m : Medium) → IsMedium size m → size ≡ length m.seen
 size_seen size m is = sym (is.image.size ∙ is.settled)
 
--- The lists that a root tells are those of the directory that was read.
+-- The lists that a root describes are those of the directory that was read.
 pub told_of : (root : Root) (d : Directory) (c : Contents) (image : List ℕ) (s : Source) → IsLawfulDirectory root.version d → part root.directory root.length image ≡ spelled root.version d
     → Tells root c image s → AreOf d c
 told_of root d c image s lawful found tells =
@@ -120,7 +120,7 @@ same_lists d a b image of_a of_b hold_a hold_b =
     (catalogue_held_once d.published.items image (items_by_page a.published) (items_by_page b.published) hold_a.published hold_b.published) in
     λ i. record { header = header i; catalogue = catalogue i; history = record { first = first i; pages = changes i }; published = published i }
 
--- The root tells the lists of its directory where they are whole, ..
+-- The root describes the lists of its directory where they are whole, ..
 pub are_told : (root : Root) (d : Directory) (c : Contents) (image : List ℕ) (size : ℕ) → IsLawfulDirectory root.version d → (digests (spelled root.version d)).sha256 ≡ root.sha256
     → part root.directory root.length image ≡ spelled root.version d → AreOf d c → HoldLists d image c → size ≡ length image → IsWhole size root c
     → Tells root c image (state_in image c)
@@ -142,7 +142,7 @@ are_told root d c image size lawful digest found of hold long whole =
       state = refl;
     }
 
--- .. and tells nothing where they are not.
+-- .. and describes no lists where they are not.
 pub none_told : (root : Root) (d : Directory) (c : Contents) (image : List ℕ) (size : ℕ) → IsLawfulDirectory root.version d → part root.directory root.length image ≡ spelled root.version d
     → AreOf d c → HoldLists d image c → size ≡ length image → ¬ IsWhole size root c → TellsNothing root image
 none_told root d c image size lawful found of hold long broken other s tells =
@@ -160,7 +160,7 @@ are_pages_placed format size (ref ∷ refs) image (items ∷ pages) are inside =
     (record { sized = are.0.blocks.sized; inside = λ b is. inside b (some_first ref.extent (extents_of refs) b is) })
     (are_pages_placed format size refs image pages are.1 (λ b is. inside b (some_rest ref.extent (extents_of refs) b is)))
 
--- The pages of lists that a root tells are placed.
+-- The pages of lists that a root describes are placed.
 pub told_placed : (root : Root) (c : Contents) (image : List ℕ) (s : Source) (size : ℕ) → Tells root c image s → size ≡ length image
     → All (IsPagePlaced size) (stored_refs c.catalogue ++ (stored_refs c.history.pages ++ stored_refs c.published))
 told_placed root c image s size tells long =
@@ -171,7 +171,7 @@ told_placed root c image s size tells long =
     (are_pages_placed change_format size (stored_refs c.history.pages) image (items_by_page c.history.pages) tells.history.hold (λ b is. inside b (reaches_history root c b is)))
     (are_pages_placed record_format size (stored_refs c.published) image (items_by_page c.published) tells.published.hold (λ b is. inside b (reaches_published root c b is))))
 
--- The bytes of a directory whose lists the root tells name these pages, ..
+-- The bytes of a directory whose lists the root describes name these pages, ..
 pub names_told : (root : Root) (c : Contents) (image : List ℕ) (s : Source) (bytes : List ℕ) → Tells root c image s → bytes ≡ part root.directory root.length image
     → Names root.version bytes (stored_refs c.catalogue ++ (stored_refs c.history.pages ++ stored_refs c.published))
 names_told root c image s bytes tells read = record {
@@ -209,7 +209,7 @@ named_placed size root d bytes named lawful is =
       published = all_back (IsPagePlaced size) d.changes.items d.published.items rest;
     }
 
--- What was found once the bytes of a directory were read: it is placed, and so are all pages that they name.
+-- Facts after the bytes of a directory were read: it is placed, and so are all pages that they name.
 module _ (root : Root) (items bytes : List ℕ) (x : Unit {0}) (old new : DiskState) (body : ReadsBody (record { extent = root.directory; length = root.length; sha256 = root.sha256 }) old new items (Ok x))
     (is : bytes ≡ items) (size later : ℕ) (long : size ≡ old.size) (long_too : later ≡ new.size) (placed : IsPlaced size root.directory root.length)
     (named : (pages : List PageRef) → Names root.version bytes pages → All (IsPagePlaced later) pages) where
@@ -241,7 +241,7 @@ module _ (root : Root) (items bytes : List ℕ) (x : Unit {0}) (old new : DiskSt
         found = λ honest. body_read root root.sha256 items bytes x old new body is honest ∙ same;
       }
 
--- A directory that was read names what each one with its bytes names.
+-- A directory that was read names the same pages as all directories with its bytes.
 pub names_placed : (size : ℕ) (root : Root) (image : List ℕ) (d : Directory) → IsLawfulDirectory root.version d → part root.directory root.length image ≡ spelled root.version d → ArePlaced size d
     → NamesPlaced size root image
 names_placed size root image d lawful found placed other lawful_too reads =
@@ -253,7 +253,7 @@ names_placed size root image d lawful found placed other lawful_too reads =
       published = subst (All (IsPagePlaced size)) same.3 placed.published;
     }
 
--- A root tells nothing where its bytes are no directory, ..
+-- A root describes no lists where its bytes are no directory, ..
 pub untold : (root : Root) (bytes image : List ℕ) → part root.directory root.length image ≡ bytes → IsNoDirectory root.version bytes → TellsNothing root image
 untold root bytes image read none c s tells =
     none c.header _ _ _ (record { lawful = listable_lawful root.version c tells.listable; spelled = sym read ∙ tells.directory })
@@ -263,12 +263,12 @@ pub untold_pages : (root : Root) (bytes image : List ℕ) (size : ℕ) → part 
     → ((pages : List PageRef) → Names root.version bytes pages → ¬ All (IsPagePlaced size) pages) → TellsNothing root image
 untold_pages root bytes image size read long unplaced c s tells = unplaced _ (names_told root c image s bytes tells (sym read)) (told_placed root c image s size tells long)
 
--- .. or where they are a directory whose history can't begin with the first part that it names.
+-- .. or where they are a directory whose history cannot begin with the first part that it names.
 pub untold_first : (root : Root) (d : Directory) (image : List ℕ) → IsLawfulDirectory root.version d → part root.directory root.length image ≡ spelled root.version d
     → ¬ HasFirstPart d.header → TellsNothing root image
 untold_first root d image lawful found none c s tells = none (subst HasFirstPart (told_of root d c image s lawful found tells).header tells.whole.moments.history)
 
--- What holds once the lists of a directory were read.
+-- Facts after the lists of a directory were read.
 module _ {A T : Type 0} (old mid new : DiskState) (root : Root) (d : Directory) (read : IsReadBehind root mid d) (x : T)
     (first : RunsReading (IsErrOf {T = T} {E = LoadFault} (Ok x) Device) old mid) (one : CallsAtMost 1 old mid) (lists : ReadsLists d A mid new) where
   -- the disk still has the bytes of the directory
@@ -299,6 +299,6 @@ module _ {A T : Type 0} (old mid new : DiskState) (root : Root) (d : Directory) 
     placed = reads_behind.placed;
   }
 
-  -- the root tells nothing where the pages hold no lists
+  -- the root describes no lists where the pages hold no lists
   pub untold_lists : IsTrue new.honest → HoldNoLists d new.now.seen → TellsNothing root new.now.seen
   untold_lists honest none c s tells = none _ _ _ (told_hold root d c new.now.seen s (told_of root d c new.now.seen s read.lawful (found_still honest) tells) tells)

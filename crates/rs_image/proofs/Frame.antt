@@ -1,4 +1,4 @@
--- What a root tells depends only on the blocks that it reaches.
+-- The lists that a root describes depend only on the blocks that it reaches.
 use Rattle.std.proofs.Common.{◌≡◌, ℕ, ◌+◌, ◌*◌, ◌-◌, ◌≤◌, Bool, true, List, [], ◌∷◌, map, get_or, refl, sym, ◌∙◌, ap, ap₂, subst, arith}
 use Rattle.std.specs.Prelude.{nat_le, All}
 use Rattle.std.proofs.lemmas.Bool.Decides.{nat_tests}
@@ -45,7 +45,7 @@ held_stays kept low high (r ∷ records) old new sound all keeps =
     (held_stays kept low high records old new (All-tail (IsSoundRecord low high) r records sound)
     (λ b is. all b (some_rest r.extent (bodies_of records) b is)) keeps)
 
--- What a root tells stays the same while the blocks that it reaches do.
+-- A root describes the same lists while the blocks that it reaches stay the same.
 pub tells_stays : TellsStays
 tells_stays kept root c old new s all keeps told =
     let directory : part root.directory root.length new ≡ part root.directory root.length old =
@@ -65,7 +65,7 @@ tells_stays kept root c old new s all keeps told =
       state = state ∙ told.state;
     }
 
--- the blocks behind the slots
+-- the blocks after the slots
 abbrev pub is_behind : ℕ → Bool
 is_behind b = nat_le 2 b
 
@@ -75,7 +75,7 @@ behind_true b le = grind (arith, nat_tests)
 behind_from : (b : ℕ) → is_behind b ≡ true → 2 ≤ b
 behind_from b is = grind (arith, nat_tests)
 
--- they hold the same where everything behind the slots is the same
+-- they hold the same where all blocks after the slots are the same
 pub keeps_behind : (one two : List ℕ) → SameBehind one two → Keeps is_behind one two
 keeps_behind one two same = record { size = sym same.size; same = λ b i is lt. let above : 2 ≤ b = behind_from b is in there (512 * b + i) (omega arith) }
   where
@@ -86,7 +86,7 @@ keeps_behind one two same = record { size = sym same.size; same = λ b i is lt. 
         sym (get_or-drop 1024 two (k - 1024) 0) ∙ ap (λ (bytes : List ℕ). get_or bytes (k - 1024) 0) (sym same.bytes) ∙ get_or-drop 1024 one (k - 1024) 0 in
         subst (λ (j : ℕ). get_or two j 0 ≡ get_or one j 0) place at
 
--- So it stays the same while everything behind the slots does.
+-- So it describes the same lists while all blocks after the slots stay the same.
 pub tells_behind : TellsBehind
 tells_behind root c one two s same told =
     tells_stays is_behind root c one two s (λ b is. behind_true b (told.whole.inside b is).0) (keeps_behind one two same) told

@@ -1,4 +1,4 @@
--- What reading the lists of a directory leaves, one after the other.
+-- Facts about reading the lists of a directory, one after the other.
 use Rattle.std.proofs.Common.{true≢false, is_ok, ◌≡◌, List, length, ap, sym, ◌∙◌, arith, Result, Ok, Err}
 use Rattle.std.specs.Prelude.{IsErrOf}
 use Rattle.std.specs.Result.{IsErrAnd}

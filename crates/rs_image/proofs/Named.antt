@@ -8,7 +8,7 @@ use Rattle.rs_directory.specs.Directory.{ref_bytes, IsLawfulRef, AreEntries, Beg
 use Rattle.rs_image.proofs.FromBelow.{length-ref_bytes, length-entries, same_entry}
 use Rattle.rs_image.specs.Loading.{IsPagePlaced}
 
--- What is left of entries: those of pages on which it depends whether all are placed.
+-- The remaining entries: those of pages on which it depends whether all are placed.
 pub record Left (size : ℕ) (pages : List PageRef) (rest : List ℕ) : Type 0 where
   pub more : List PageRef
   pub are : AreEntries rest more
@@ -25,7 +25,7 @@ none_left size pages rest short left = by_more left.more left.are left.same
     by_more [] are same = same.1 (All-nil (IsPagePlaced size))
     by_more (page ∷ more) are same = absurd (omega (arith, short, ap length are.spelled, length-entries (page ∷ more) are.lawful))
 
--- One entry more was looked at: where its page is placed, it depends on those behind it; where it is not, not all are.
+-- One more entry was checked: where its page is placed, it depends on the later entries; where it is not, not all are.
 pub one_seen : (size : ℕ) (pages : List PageRef) (rest after : List ℕ) (page : PageRef) → BeginsWith rest page after → Left size pages rest
     → (All (IsPagePlaced size) pages → IsPagePlaced size page) × (IsPagePlaced size page → Left size pages after)
 one_seen size pages rest after page begins left = by_more left.more left.are left.same

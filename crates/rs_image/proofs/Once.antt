@@ -40,7 +40,7 @@ one_place (Stored ref) (Stored other) more others is_a is_b same =
     let rests : more ≡ others = cc in
     (ap Stored refs, rests)
 
--- Stored pages are what the references to them and the items of each say.
+-- The references to stored pages, and the items of every page, determine the pages.
 pub pages_once : {T : Type 0} (a b : List (Page T)) → All IsStored a → All IsStored b → stored_refs a ≡ stored_refs b
     → items_by_page a ≡ items_by_page b → a ≡ b
 pages_once [] [] of_a of_b refs items = refl
@@ -62,11 +62,11 @@ lists_once Holds once a b image of_a of_b refs holds_a holds_b =
     pages_once a b of_a of_b refs
     (once (stored_refs b) image (items_by_page a) (items_by_page b) (subst (λ (of : List PageRef). Holds of image (items_by_page a)) refs holds_a) holds_b)
 
--- a directory can have what can be listed
+-- listable lists are lawful in a directory
 pub listable_lawful : (version : ℕ) (c : Contents) → AreListable version c → AreLawful version c.header (stored_refs c.catalogue) (stored_refs c.history.pages) (stored_refs c.published)
 listable_lawful version c listable = record { of_header = listable.header; of_catalogue = listable.catalogue; of_changes = listable.history; of_published = listable.published }
 
--- A root tells at most one set of lists in an image.
+-- A root describes at most one set of lists in an image.
 pub tells_once : TellsOnce
 tells_once root c d image s t one two =
     let same = one_directory root.version c.header d.header (stored_refs c.catalogue) (stored_refs d.catalogue) (stored_refs c.history.pages) (stored_refs d.history.pages)

@@ -1,4 +1,4 @@
--- What a root reaches, taken from the bodies on: its lists of extents are a directory, catalogue pages, change pages,
+-- The extents that a root reaches, taken from the bodies on: they are a directory, catalogue pages, change pages,
 -- published pages and bodies.
 use Rattle.std.proofs.Common.{◌≡◌, ℕ, ◌+◌, ◌<◌, Bool, true, false, List, [], ◌∷◌, ◌++◌, length, take, get_or, append-nil, sym, ◌∙◌, ap, subst}
 use Rattle.std.specs.Prelude.{cond, not}
@@ -46,7 +46,7 @@ pub none_pushed : (old before after : List PageRef) (ref : PageRef) (shared : Bo
 none_pushed old before after ref true was is more = was ∙ sym (append-nil before) ∙ sym more
 none_pushed old before after ref false was is more = absurd cc
 
--- What a root reaches, taken from its bodies to its pages and to its directory.
+-- The extents that a root reaches, taken from its bodies to its pages and to its directory.
 module _ (root : Root) (c : Contents) (pages : List PageRef)
     (are : pages ≡ stored_refs c.catalogue ++ stored_refs c.history.pages ++ unshared (stored_refs c.published) (stored_refs c.catalogue)) (old : List Bool) where
   abbrev bodies : List Extent

@@ -1,4 +1,4 @@
--- Which blocks a root reaches: those of each part of what stands behind it.
+-- The blocks that a root reaches: those of all parts of its lists.
 use Rattle.std.proofs.Common.{◌≡◌, ◌⊎◌, inl, inr, ⊎_elim, ℕ, Bool, true, false, List, [], ◌∷◌, ◌++◌, refl, arith}
 use Rattle.std.specs.Prelude.{nat_eq, not, bytes_eq, cond, ◌&&◌}
 use Rattle.std.specs.List.{list_any}
@@ -57,7 +57,7 @@ published_either (ref ∷ refs) catalogue b is =
     one_published ref (unshared refs catalogue) catalogue b (list_any (same_page ref) catalogue) refl
     (⊎_elim (λ here. inl here) (λ there. inr (published_either refs catalogue b there)) (some_split ref.extent (extents_of refs) b is))
 
--- the parts of what a root reaches
+-- the parts of the extents that a root reaches
 abbrev catalogue_pages : Contents → List Extent
 catalogue_pages c = extents_of (stored_refs c.catalogue)
 
@@ -74,7 +74,7 @@ abbrev all_pages : Contents → List Extent
 all_pages c = catalogue_pages c ++ history_pages c ++ own_pages c
 
 module _ (root : Root) (c : Contents) (b : ℕ) where
-  -- each of them
+  -- all of the parts
   pub reaches_directory : within root.directory b ≡ true → in_some (reach root c) b ≡ true
   reaches_directory is = some_first root.directory (all_pages c ++ bodies c) b is
 

@@ -1,5 +1,5 @@
--- Words of the loader's contracts: where a directory and its pages may lie, a directory that was read, and the lists
--- that its pages hold.
+-- Terms of the loader's contracts: the places where a directory and its pages may lie, a directory that was read, and
+-- the lists that its pages hold.
 use Rattle.std.specs.Prelude.{◌≡◌, ◌<◌, ◌≤◌, ◌+◌, List, length, ℕ, true, All, IsTrue}
 use Rattle.rs_disk.specs.Medium.{DiskState}
 use Rattle.rs_disk.specs.Runs.{RunsReading, CallsAtMost}
@@ -22,7 +22,7 @@ use Rattle.rs_image.specs.declared.contents.Contents.{Contents}
 use Rattle.rs_image.specs.Reach.{blocks_of_disk}
 use Rattle.rs_image.specs.StateOfImage.{AreAllStored}
 
--- each block of an extent is behind the slots, among the usable blocks of a disk of this many bytes
+-- all blocks of an extent are after the slots, among the usable blocks of a disk of this many bytes
 abbrev pub IsInside : ℕ → Extent → Type 0
 IsInside size extent = (b : ℕ) → within extent b ≡ true → (2 ≤ b) × (b < blocks_of_disk size)
 
@@ -49,7 +49,7 @@ pub record ArePlaced (size : ℕ) (d : Directory) : Type 0 where
 abbrev pub spelled : ℕ → Directory → List ℕ
 spelled version d = directory_bytes version d.header d.catalogue.items d.changes.items d.published.items
 
--- what every directory of a version that was read keeps
+-- the rules that every directory of a version that was read keeps
 abbrev pub IsLawfulDirectory : ℕ → Directory → Type 0
 IsLawfulDirectory version d = AreLawful version d.header d.catalogue.items d.changes.items d.published.items
 
@@ -67,28 +67,28 @@ pub record AreOf (d : Directory) (c : Contents) : Type 0 where
   pub published : stored_refs c.published ≡ d.published.items
   pub stored : AreAllStored c
 
--- the number of pages that are read with a directory: each that it names, but no published page that is also a
+-- the number of pages that are read with a directory: all pages that it names, but no published page that is also a
 -- catalogue page
 abbrev pub pages_read : Directory → ℕ
 pages_read d = length d.catalogue.items + (length d.changes.items + length (unshared d.published.items d.catalogue.items))
 
--- What reading the lists behind a root leaves, whatever it answers.
--- `runs`: nothing changes but what the disk counts.
--- `once`: the directory costs one call at most, and each page that it names one more.
--- `placed`: of a device that has followed the model, none of these pages is read unless all of them are placed.
+-- Facts about reading the lists of a root, for every answer.
+-- `runs`: only the counts of the disk change.
+-- `once`: the directory costs one call at most, and every page that it names one more.
+-- `placed`: of a device that has followed the model, no page of the lists is read unless all of them are placed.
 pub record ReadsBehind (root : Root) (told : Type 0) (old new : DiskState) : Type 0 where
   pub runs : RunsReading told old new
   pub once : old.calls + 1 < new.calls → (d : Directory) × ((digests (spelled root.version d)).sha256 ≡ root.sha256) × CallsAtMost (1 + pages_read d) old new
   pub placed : old.calls + 1 < new.calls → IsTrue new.honest → NamesPlaced new.size root new.now.seen
 
--- What holds of the disk where memory is refused to a reader of a root: it checks the places before it asks for memory.
+-- Facts about the disk where memory is refused to a reader of a root: it checks the places before it asks for memory.
 -- `directory`: the directory is placed.
--- `pages`: of a device that has followed the model, once the directory was read, each page that it names is placed.
+-- `pages`: of a device that has followed the model, once the directory was read, every page that it names is placed.
 pub record RefusesMemory (root : Root) (old new : DiskState) : Type 0 where
   pub directory : IsDirectoryPlaced new.size root
   pub pages : IsTrue new.honest → old.calls < new.calls → NamesPlaced new.size root new.now.seen
 
--- A directory that was read behind a root, in the root's version.
+-- A directory that was read for a root, in the root's version.
 -- `placed`, `room`, `pages`: it is placed, so that the disk has the slots, and so are all pages that it names.
 -- `lawful`, `first`: it keeps the rules of its version, and its first part has a number that a history can have.
 -- `digest`, `found`: its bytes have the root's digest, and a device that has followed the model holds them.
@@ -101,14 +101,14 @@ pub record IsReadBehind (root : Root) (disk : DiskState) (d : Directory) : Type 
   pub digest : (digests (spelled root.version d)).sha256 ≡ root.sha256
   pub found : IsTrue disk.honest → part root.directory root.length disk.now.seen ≡ spelled root.version d
 
--- What reading the lists of a directory leaves, whatever it answers.
--- `runs`: nothing changes but what the disk counts.
--- `calls`: each page that the directory names costs one call at most.
+-- Facts about reading the lists of a directory, for every answer.
+-- `runs`: only the counts of the disk change.
+-- `calls`: every page that the directory names costs one call at most.
 pub record ReadsLists (d : Directory) (told : Type 0) (old new : DiskState) : Type 0 where
   pub runs : RunsReading told old new
   pub calls : CallsAtMost (pages_read d) old new
 
--- What the pages of a directory hold in an image: these records, changes and published records, page for page.
+-- The pages of a directory hold these records, changes and published records in an image, page for page.
 pub record Hold (d : Directory) (image : List ℕ) (records : List (List Record)) (moves : List (List Change)) (listed : List (List Record)) : Type 0 where
   pub catalogue : HoldsCatalogue d.catalogue.items image records
   pub changes : HoldsHistory d.changes.items image moves

@@ -1,4 +1,4 @@
--- Which blocks of a disk a root reaches.
+-- The blocks of a disk that a root reaches.
 use Rattle.std.specs.Prelude.{◌<◌, ◌≤◌, ◌/◌, ◌≡◌, ℕ, Bool, true, ◌||◌, nat_lt, min, List, ◌∷◌, ◌++◌, map}
 use Rattle.rs_extent.specs.Blocks.{block_size}
 use Rattle.rs_extent.specs.declared.Extent.{Extent}
@@ -18,9 +18,9 @@ blocks_of_disk size = min (size / block_size) 8388608
 abbrev pub bodies_of : List Record → List Extent
 bodies_of records = map (λ r. r.extent) records
 
--- What a root reaches beside the slots: its directory, the catalogue pages, the change pages, the published pages, of
--- which one that is also a catalogue page counts once, and the bodies of the catalogue's records. It does not reach a
--- body that only a published record names.
+-- The extents that a root reaches, other than the slots: its directory, the catalogue pages, the change pages, the
+-- published pages, of which one that is also a catalogue page counts once, and the bodies of the catalogue's records.
+-- It does not reach a body that only a published record names.
 abbrev pub reach : Root → Contents → List Extent
 reach root c =
     root.directory
@@ -31,6 +31,6 @@ reach root c =
 abbrev pub is_kept : Root → Contents → ℕ → Bool
 is_kept root c b = nat_lt b 2 || in_some (reach root c) b
 
--- each block of the extents is behind the slots, among the usable blocks of a disk of this many bytes
+-- all blocks of the extents are after the slots, among the usable blocks of a disk of this many bytes
 abbrev pub AreInside : ℕ → List Extent → Type 0
 AreInside size extents = (b : ℕ) → in_some extents b ≡ true → (2 ≤ b) × (b < blocks_of_disk size)

@@ -1,4 +1,4 @@
--- A root of a disk, with the lists behind it.
+-- A root of a disk, with its lists.
 use Rattle.std.specs.Prelude.{◌≡◌, ◌<◌, ◌≤◌, ℕ, Bool, List, length}
 use Rattle.rs_extent.specs.Blocks.{is_used}
 use Rattle.rs_commit.specs.declared.root.Root.{Root}
@@ -7,7 +7,7 @@ use Rattle.rs_image.specs.Reach.{blocks_of_disk, is_kept}
 use Rattle.rs_image.specs.StateOfImage.{AreListable}
 use Rattle.rs_image.specs.Whole.{IsWhole}
 
--- a root of a disk of this many bytes, and the lists behind it
+-- a root of a disk of this many bytes, and its lists
 pub record Rooted : Type 0 where
   pub size : ℕ
   pub root : Root
@@ -16,7 +16,7 @@ pub record Rooted : Type 0 where
 abbrev pub rooted : ℕ → Root → Contents → Rooted
 rooted size root c = record { size = size; root = root; contents = c }
 
--- The disk has blocks 0 and 1, what the root reaches keeps all rules, and the lists can be those of a directory.
+-- The disk has blocks 0 and 1, the root with its lists keeps all rules, and the lists can be those of a directory.
 pub record IsRooted (r : Rooted) : Type 0 where
   pub room : 1024 ≤ r.size
   pub whole : IsWhole r.size r.root r.contents
@@ -27,7 +27,7 @@ pub record AreUsed (r : Rooted) (used : List Bool) : Type 0 where
   pub blocks : length used ≡ blocks_of_disk r.size
   pub each : (b : ℕ) → b < blocks_of_disk r.size → is_used used b ≡ is_kept r.root r.contents b
 
--- What is in memory of a root is sound: the root with its lists keeps all rules, and exactly the blocks of the disk
+-- The parts of a root in memory are sound: the root with its lists keeps all rules, and exactly the blocks of the disk
 -- that it reaches are used.
 pub record MemoryIsSound (r : Rooted) (set : List Bool) : Type 0 where
   pub rooted : IsRooted r

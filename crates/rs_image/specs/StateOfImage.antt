@@ -49,13 +49,13 @@ pages_in_all c = length c.catalogue + length c.history.pages + length c.publishe
 abbrev pub directory_bytes_of : Contents → ℕ
 directory_bytes_of c = directory_length c.header (pages_in_all c)
 
--- each page is stored
+-- all pages are stored
 pub record AreAllStored (c : Contents) : Type 0 where
   pub catalogue : All IsStored c.catalogue
   pub history : All IsStored c.history.pages
   pub published : All IsStored c.published
 
--- The lists are those of a catalogue, of a history and of what a catalogue had when it was published.
+-- The lists are those of a catalogue, of a history and of a catalogue at the time of its publication.
 pub record AreLists (c : Contents) : Type 0 where
   pub catalogue : IsCatalogue c.catalogue
   pub history : IsHistory c.history.pages
@@ -68,9 +68,9 @@ pub record AreListable (version : ℕ) (c : Contents) : Type 0 where
   pub history : AreLawfulRefs (stored_refs c.history.pages)
   pub published : AreLawfulRefs (stored_refs c.published)
 
--- A root tells these lists in an image: the directory's bytes are theirs in the root's version and have the root's
--- digest, the pages that it names hold them, and each rule of the lists and their blocks is kept. So the image tells
--- their state.
+-- A root describes these lists in an image: the directory's bytes are theirs in the root's version and have the root's
+-- digest, the pages that it names hold them, and all rules of the lists and their blocks are kept. So the image
+-- determines their state.
 pub record Tells (root : Root) (c : Contents) (image : List ℕ) (s : Source) : Type 0 where
   pub listable : AreListable root.version c
   pub directory : part root.directory root.length image ≡ listing root.version c
@@ -81,10 +81,10 @@ pub record Tells (root : Root) (c : Contents) (image : List ℕ) (s : Source) : 
   pub whole : IsWhole (length image) root c
   pub state : state_in image c ≡ s
 
--- a root tells nothing in an image: no lists, of no state
+-- a root describes no lists in an image, of any state
 abbrev pub TellsNothing : Root → List ℕ → Type 0
 TellsNothing root image = (c : Contents) (s : Source) → ¬ Tells root c image s
 
--- An image stands for a state: it opens to a root, which tells lists of this state in it.
+-- An image represents a state: it opens to a root, which describes lists of this state in it.
 abbrev pub StandsFor : List ℕ → Source → Type 0
 StandsFor image s = (root : Root) × OpensTo root image × ((c : Contents) × Tells root c image s)

@@ -1,4 +1,4 @@
--- What a root and the lists behind it keep, whatever the disk holds.
+-- The rules that a root and its lists keep, for every content of the disk.
 use Rattle.std.specs.Prelude.{◌≡◌, ◌<◌, ◌≤◌, ◌-◌, ℕ, max, All, IfSome, MatchOption}
 use Rattle.rs_body.specs.Blocks.{IsSized}
 use Rattle.rs_commit.specs.declared.root.Root.{Root}
@@ -24,13 +24,13 @@ pub record IsSoundRecord (low high : ℕ) (r : Record) : Type 0 where
   pub body : r.length ≤ longest_body
   pub sized : IsSized r.extent r.length
 
--- A change is within these moments, and its body no longer than one may be.
+-- A change is within these moments, and its body is at most as long as a body may be.
 pub record IsSoundChange (low high : ℕ) (c : Change) : Type 0 where
   pub moment : IsWithin low high c.moment
   pub body : IfSome c.facts (λ facts. facts.length ≤ longest_body)
 
--- The kept history begins at formatting or later. No more parts were dropped than moments lie between. Where none was
--- dropped, it begins at formatting.
+-- The kept history begins at formatting or later. No more parts were dropped than moments lie between. Where no part
+-- was dropped, it begins at formatting.
 pub record HasFirstPart (h : Header) : Type 0 where
   pub begun : h.start ≤ h.begin
   pub first : h.first ≤ h.begin - h.start
@@ -46,10 +46,11 @@ pub record AreMoments (h : Header) (c : Contents) : Type 0 where
   pub kept : h.begin ≤ h.at
   pub history : HasFirstPart h
 
--- What a root and the lists behind it keep: all pages are stored; the moments are in order; the history has the
--- header's first number; each record and each change is sound, where a change is after the begin of the history, and
--- what was published is up to the publication; the directory has exactly its blocks; and what the root reaches lies on
--- a disk of this many bytes behind the slots, no two things with a block in common, nor two published pages.
+-- The rules that a root and its lists keep: all pages are stored; the moments are in order; the history has the
+-- header's first number; every record and every change is sound, where a change is after the begin of the history, and
+-- the published records are up to the publication; the directory has exactly its blocks; and the extents that the root
+-- reaches lie on a disk of this many bytes after the slots, no two of them with a block in common, nor two published
+-- pages.
 pub record IsWhole (size : ℕ) (root : Root) (c : Contents) : Type 0 where
   pub catalogue : All IsStored c.catalogue
   pub history : All IsStored c.history.pages

@@ -1,4 +1,4 @@
-//! What a root leads to, in memory.
+//! The lists of a root, in memory.
 
 ghost use Rattle.std.specs.Prelude.{◌≡◌, ◌<◌, ◌≤◌, ◌*◌, ◌^◌, vec_len, IfOk, OnOk};
 ghost use Rattle.rs_record.specs.Limits.{most_items};
@@ -11,10 +11,10 @@ use rs_directory::{Header, directory_bytes};
 use rs_extent::Used;
 use std::alloc::{AllocError, Global};
 
-/// What a root leads to: the header of its directory, and the lists in its pages.
+/// The header of the directory of a root, and the lists in its pages.
 #[derive(Debug, Drop)]
 pub struct Contents {
-    /// What the source keeps beside its lists.
+    /// The facts that the source keeps in addition to its lists.
     pub header: Header,
     /// The resources that are held, in the ascending order of their names.
     pub catalogue: Catalogue,
@@ -25,7 +25,7 @@ pub struct Contents {
 }
 
 impl Contents {
-    /// The number of pages of all lists: at most 150,000.
+    /// Returns the number of pages of all lists: at most 150,000.
     pub fn page_count(&self) -> usize
         ensures pages { result ≡ pages_in_all self.now }
         ensures most { result ≤ 3 * most_items }
@@ -36,8 +36,8 @@ impl Contents {
         catalogue + history + self.published.as_pages().page_count()
     }
 
-    /// The bytes of the directory of these lists, in version 2 of the disk's format. It names the
-    /// stored pages, in their order.
+    /// Returns the bytes of the directory of these lists, in version 2 of the disk's format. It
+    /// names the stored pages, in their order.
     ///
     /// # Errors
     ///
@@ -57,10 +57,10 @@ impl Contents {
     }
 }
 
-/// What a root leads to, as it was read, and the blocks of the disk that are in use.
+/// The lists of a root, as they were read, and the blocks of the disk that are in use.
 #[derive(Debug, Drop)]
 pub struct Loaded {
-    /// What the root leads to.
+    /// The header and the lists of the root.
     pub contents: Contents,
     /// Exactly the blocks of the slots and those that the root reaches.
     pub used: Used,

@@ -1,7 +1,7 @@
 //! Laws of the state that an image holds, over the definitions alone.
 //!
-//! Each function here does nothing: its contract is the law, which the check proves. Proofs cite
-//! the lemmas behind them, in `proofs/Once.antt` and `proofs/Frame.antt`.
+//! Every function here has an empty body: its contract is the law, which the check proves. Proofs
+//! cite the lemmas for these laws, in `proofs/Once.antt` and `proofs/Frame.antt`.
 ghost use Rattle.rs_image.specs.Laws.{StandsOnce, TellsOnce, TellsStays, TellsBehind};
 
 /// An image holds at most one state.
@@ -9,18 +9,18 @@ pub fn stands_once()
     ensures { StandsOnce }
 {}
 
-/// A root leads to at most one set of lists in an image.
+/// A root describes at most one set of lists in an image.
 pub fn tells_once()
     ensures { TellsOnce }
 {}
 
-/// What a root leads to depends only on the blocks that it reaches: it stays the same while these
-/// blocks do.
+/// The lists that a root describes depend only on the blocks that it reaches: they stay the same
+/// while these blocks do.
 pub fn tells_stays()
     ensures { TellsStays }
 {}
 
-/// What a root leads to stays the same while everything behind the slots does.
+/// The lists that a root describes stay the same while all blocks after the slots do.
 pub fn tells_behind()
     ensures { TellsBehind }
 {}

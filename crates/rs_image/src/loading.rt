@@ -1,4 +1,4 @@
-//! Reading what a root leads to.
+//! Reading the lists of a root.
 
 ghost use Rattle.std.specs.Prelude.{◌≤◌, IfOk, IsErrOf, IsTrue};
 ghost use Rattle.rs_disk.specs.Runs.{RunsReading, CallsAtMost};
@@ -19,20 +19,21 @@ use rs_disk::Disk;
 use rs_page::fault_of_fields;
 use std::alloc::Global;
 
-/// Reads what a root leads to, whatever the root and the disk hold, and checks each rule of the
-/// format. The root says which version its directory has. The disk stays as it is.
+/// Reads the directory and the lists of a root, for any root and any content of the disk, and
+/// checks all rules of the format. The root says which version its directory has. The disk stays as
+/// it is.
 ///
 /// Before it reads the directory or asks for its memory, it checks the place of the directory: the
-/// extent lies behind the slots, among the usable blocks of the disk, and has exactly the blocks of
-/// its length. Before it reads the first page or asks for any other memory, it checks the place of
-/// each page that the directory names.
+/// extent lies after the slots, among the usable blocks of the disk, and has exactly the blocks of
+/// its length. Before it reads the first page or asks for any other memory, it checks the places of
+/// all pages that the directory names.
 ///
 /// # Errors
 ///
 /// - [`LoadFault::Device`] where the device fails.
-/// - [`LoadFault::Damaged`] where the root leads to no lists on this disk: the bytes of the directory
-///   or of a page do not match their digest or their format, or a rule of the lists or of their
-///   blocks is broken.
+/// - [`LoadFault::Damaged`] where the root describes no lists on this disk: the bytes of the
+///   directory or of a page do not match their digest or their format, or a rule of the lists or of
+///   their blocks is broken.
 /// - [`LoadFault::NoMemory`] where the memory is refused.
 pub fn load<D: Disk>(alloc: Global, disk: &mut D, root: &Root) -> Result<Loaded, LoadFault>
     ensures sound { IfOk result (λ found.

@@ -10,16 +10,16 @@ use rs_body::is_sized;
 use rs_directory::{entries_of, entry_at};
 use rs_extent::Extent;
 
-/// Whether an extent has exactly the blocks of `length` bytes, all of them behind the slots, among the
-/// usable blocks of a disk of `size` bytes.
+/// Returns whether an extent has exactly the blocks of `length` bytes, all of them after the slots,
+/// among the usable blocks of a disk of `size` bytes.
 pub(crate) fn is_placed(extent: Extent, length: u32, size: u64) -> bool
     ensures { IsTrue result ↔ IsPlaced size extent length }
 {
     is_sized(extent, length) && is_inside(extent, size)
 }
 
-/// Whether each block of an extent is behind the slots, among the usable blocks of a disk of `size`
-/// bytes.
+/// Returns whether all blocks of an extent are after the slots, among the usable blocks of a disk
+/// of `size` bytes.
 fn is_inside(extent: Extent, size: u64) -> bool
     ensures { IsTrue result ↔ IsInside size extent }
 {
@@ -27,8 +27,9 @@ fn is_inside(extent: Extent, size: u64) -> bool
     extent.blocks == 0 || 2 <= extent.first && end <= block_count(size) as u64
 }
 
-/// Whether each page that a directory of a version names is placed like this. It finds them in the
-/// directory's bytes, without memory. Where the bytes are no lawful directory, it may answer either.
+/// Returns whether all pages that a directory of a version names are placed like this. It finds
+/// them in the directory's bytes, without memory. Where the bytes are no lawful directory, it may
+/// answer either.
 pub(crate) fn names_placed(version: u8, bytes: &[u8], size: u64) -> bool
     ensures { (pages : List PageRef)
         → Names version bytes.now pages
@@ -37,7 +38,7 @@ pub(crate) fn names_placed(version: u8, bytes: &[u8], size: u64) -> bool
     are_placed(entries_of(version, bytes), size)
 }
 
-/// Whether each page of these entries is placed like this.
+/// Returns whether all pages of these entries are placed like this.
 fn are_placed(entries: &[u8], size: u64) -> bool
     ensures { (pages : List PageRef)
         → AreEntries entries.now pages

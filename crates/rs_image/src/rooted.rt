@@ -1,4 +1,4 @@
-//! A root with the lists behind it.
+//! A root with its lists.
 
 ghost use Rattle.std.specs.Prelude.{◌≡◌};
 ghost use Rattle.rs_image.specs.Rooted.{IsRooted, rooted};
@@ -7,8 +7,8 @@ use crate::Contents;
 use rs_commit::Root;
 use std::marker::Model;
 
-/// A root of a disk of some bytes, with the lists behind it: what the root reaches keeps all rules of an image of that
-/// disk, and the lists can be those of a directory. It borrows the lists and copies nothing.
+/// A root of a disk of some bytes, with its lists: the root with its lists keeps all rules of an image of that disk,
+/// and the lists can be those of a directory. It borrows the lists and copies no part of them.
 #[derive(Drop)]
 pub struct Rooted<'a> {
     size: u64,
@@ -27,7 +27,7 @@ impl<'a> Model for Rooted<'a> {
 }
 
 impl<'a> Rooted<'a> {
-    /// A root of a disk of `size` bytes, with the lists behind it, as [`load`](crate::load) or a commit left them.
+    /// Makes a root of a disk of `size` bytes, with its lists, as [`load`](crate::load) or a commit left them.
     pub fn new(size: u64, root: Root, contents: &'a Contents) -> Rooted<'a>
         requires { IsRooted (rooted size root contents.now) }
         ensures { result ≡ rooted size root contents.now }
@@ -39,7 +39,7 @@ impl<'a> Rooted<'a> {
         }
     }
 
-    /// The size of the disk in bytes.
+    /// Returns the size of the disk in bytes.
     pub fn size(&self) -> u64
         ensures size { result ≡ self.now.size }
         ensures sound { IsRooted self.now }
@@ -47,14 +47,14 @@ impl<'a> Rooted<'a> {
         self.size
     }
 
-    /// The root.
+    /// Returns the root.
     pub fn root(&self) -> &Root
         ensures { result.now ≡ self.now.root }
     {
         &self.root
     }
 
-    /// The lists behind it.
+    /// Returns the lists of the root.
     pub fn contents(&self) -> &'a Contents
         ensures contents { result.now ≡ self.now.contents }
         ensures sound { IsRooted self.now }

@@ -20,12 +20,12 @@ use std::alloc::{AllocError, Global};
 /// The greatest number of usable blocks of a disk.
 const MOST_BLOCKS: u64 = 8_388_608;
 
-/// The blocks of a disk that are in use: those of the slots, and those that the root reaches. All
-/// others are free.
+/// Returns the blocks of a disk that are in use: those of the slots, and those that the root
+/// reaches. All others are free.
 ///
-/// It takes time for each record and for each block that the root reaches, and for sorting the
-/// entries of the catalogue's pages and searching each published page among them. It asks for memory
-/// of one bit a block, and for the page entries.
+/// It takes time for every record and for every block that the root reaches, for sorting the
+/// entries of the catalogue's pages, and for searching the published pages among them. It asks for
+/// memory of one bit a block, and for the page entries.
 ///
 /// # Errors
 ///
@@ -38,9 +38,9 @@ pub fn used_of(alloc: Global, rooted: &Rooted<'_>) -> Result<Used, AllocError>
     Ok(reached.unwrap())
 }
 
-/// The blocks of the slots and those that the root reaches, on a disk of `size` bytes. `None` where
-/// something that it reaches does not lie on the disk behind the slots, or shares a block with
-/// something else that it reaches.
+/// Returns the blocks of the slots and those that the root reaches, on a disk of `size` bytes.
+/// Returns `None` where a part that the root reaches does not lie on the disk after the slots, or
+/// shares a block with another part that it reaches.
 ///
 /// The root and the lists may hold anything.
 ///
@@ -75,8 +75,8 @@ pub(crate) fn reached(
     }
 }
 
-/// Whether no two of these pages share a block. All of them lie behind the slots of a disk of `size`
-/// bytes.
+/// Returns whether no two of these pages share a block. All of them lie after the slots of a disk
+/// of `size` bytes.
 ///
 /// # Errors
 ///
@@ -90,14 +90,16 @@ pub(crate) fn are_apart(alloc: Global, size: u64, pages: &[PageRef]) -> Result<b
     Ok(take_pages(&mut used, pages))
 }
 
-/// The number of usable blocks of a disk of `size` bytes: whole ones, and at most 8,388,608.
+/// Returns the number of usable blocks of a disk of `size` bytes: whole ones, and at most
+/// 8,388,608.
 pub(crate) fn block_count(size: u64) -> u32
     ensures { result ≡ blocks_of_disk size }
 {
     (size / BLOCK_SIZE as u64).min(MOST_BLOCKS) as u32
 }
 
-/// Takes all that a root reaches, and stops at an extent that is not free. Says whether it took all.
+/// Takes all extents that a root reaches, and stops at an extent that is not free. Returns whether
+/// it took all.
 fn take_reached(
     alloc: Global,
     used: &mut Used,
@@ -120,9 +122,9 @@ fn take_reached(
     Ok(take(used, root.directory))
 }
 
-/// The published pages that are not also catalogue pages, in the order of the publication.
+/// Returns the published pages that are not also catalogue pages, in the order of the publication.
 ///
-/// It sorts the catalogue's pages once, and finds each published page among them by binary search.
+/// It sorts the catalogue's pages once, and finds the published pages among them by binary search.
 /// It asks for the memory of three lists of page entries.
 ///
 /// # Errors
@@ -144,7 +146,8 @@ pub fn unshared_pages(alloc: Global, contents: &Contents) -> Result<Vec<PageRef>
     Ok(pages)
 }
 
-/// The pages that a root reaches: a published page that is also a catalogue page counts once.
+/// Returns the pages that a root reaches: a published page that is also a catalogue page counts
+/// once.
 fn reached_pages(alloc: Global, contents: &Contents) -> Result<Vec<PageRef>, AllocError>
     ensures { IfOk result (λ pages. pages.items ≡ stored_refs contents.now.catalogue
         ++ stored_refs contents.now.history.pages
@@ -158,7 +161,7 @@ fn reached_pages(alloc: Global, contents: &Contents) -> Result<Vec<PageRef>, All
     Ok(pages)
 }
 
-/// Takes an extent, if each of its blocks is on the disk and free.
+/// Takes an extent, if all its blocks are on the disk and free. Returns whether it took it.
 fn take(used: &mut Used, extent: Extent) -> bool
     ensures taken { result ≡ true → AreTaken used.old used.new (extent ∷ []) }
     ensures refused { result ≡ false → CanTake used.old (extent ∷ []) → ⊥ }
@@ -170,7 +173,8 @@ fn take(used: &mut Used, extent: Extent) -> bool
     is_free
 }
 
-/// Takes the bodies of a catalogue's records, and stops at one that is not free.
+/// Takes the bodies of a catalogue's records, and stops at one that is not free. Returns whether it
+/// took all.
 fn take_bodies(used: &mut Used, catalogue: &Catalogue) -> bool
     ensures taken { result ≡ true
         → AreTaken used.old used.new (bodies_of (records_of catalogue.now)) }
@@ -186,7 +190,7 @@ fn take_bodies(used: &mut Used, catalogue: &Catalogue) -> bool
     true
 }
 
-/// Takes pages, and stops at one that is not free.
+/// Takes pages, and stops at one that is not free. Returns whether it took all.
 fn take_pages(used: &mut Used, pages: &[PageRef]) -> bool
     ensures taken { result ≡ true → AreTaken used.old used.new (extents_of pages.now) }
     ensures refused { result ≡ false → CanTake used.old (extents_of pages.now) → ⊥ }
@@ -201,7 +205,7 @@ fn take_pages(used: &mut Used, pages: &[PageRef]) -> bool
     true
 }
 
-/// Whether a page is one of these pages, which are sorted.
+/// Returns whether a page is one of these pages, which are sorted.
 fn is_among(page: &PageRef, sorted: &[PageRef]) -> bool
     requires { IsSorted ⟦<PageRef as Ord>⟧.cmp sorted.now }
     ensures { result ≡ list_any (same_page page.now) sorted.now }

@@ -1,4 +1,4 @@
-//! Checking that a root and the lists behind it keep the rules of an image.
+//! Checking that a root and its lists keep the rules of an image.
 ghost use Rattle.std.specs.Prelude.{◌≡◌, ◌≤◌, ◌↔◌, IsTrue, true, false, max, All, IfOk, IfSome, IfNone, MatchOption};
 ghost use Rattle.rs_catalogue.specs.Catalogue.{records_of};
 ghost use Rattle.rs_changes.specs.History.{changes_of, last_of};
@@ -18,11 +18,11 @@ use rs_record::{Change, LONGEST_BODY, Record};
 use rs_time::Moment;
 use std::alloc::{AllocError, Global};
 
-/// The blocks of the slots and those that a root reaches. `None` where the root and the lists behind
-/// it, which may hold anything, break a rule of an image of `size` bytes. The moments are in order,
-/// each record and each change is sound, the directory has exactly its blocks, and all that the root
-/// reaches lies on the disk behind the slots. No two things that it reaches share a block, nor do two
-/// published pages.
+/// Returns the blocks of the slots and those that a root reaches. Returns `None` where the root and
+/// its lists, which may hold anything, break a rule of an image of `size` bytes. The rules are: the
+/// moments are in order, every record and every change is sound, the directory has exactly its
+/// blocks, all extents that the root reaches lie on the disk after the slots, and no two of them
+/// share a block, nor do two published pages.
 ///
 /// All pages of the lists are on the disk, and the history has the header's first number.
 ///
@@ -64,9 +64,9 @@ pub(crate) fn whole_set(
     }
 }
 
-/// Whether formatting, the begin of the history, the latest publication and the last command are in
-/// order, the last command is the publication or the last change, and the first part has a possible
-/// number.
+/// Returns whether formatting, the begin of the history, the latest publication and the last
+/// command are in order, the last command is the publication or the last change, and the first part
+/// has a possible number.
 fn are_moments(contents: &Contents) -> bool
     ensures yes { result ≡ true → AreMoments contents.now.header contents.now }
     ensures no { result ≡ false → ¬ AreMoments contents.now.header contents.now }
@@ -78,8 +78,8 @@ fn are_moments(contents: &Contents) -> bool
         && has_first_part(header)
 }
 
-/// Whether the kept history begins at formatting or later, no more parts were dropped than moments
-/// lie between, and where none was dropped, it begins at formatting.
+/// Returns whether the kept history begins at formatting or later, no more parts were dropped than
+/// moments lie between, and where no part was dropped, it begins at formatting.
 pub(crate) fn has_first_part(header: &Header) -> bool
     ensures { IsTrue result ↔ HasFirstPart header.now }
 {
@@ -88,7 +88,7 @@ pub(crate) fn has_first_part(header: &Header) -> bool
         && (header.first != 0 || header.begin == header.start)
 }
 
-/// The later moment of the latest publication and of the last change, if there is one.
+/// Returns the later moment of the latest publication and of the last change, if there is one.
 fn latest(contents: &Contents) -> Moment
     ensures { MatchOption (last_of (changes_of contents.now.history.pages))
         (result ≡ contents.now.header.at)
@@ -103,7 +103,7 @@ fn latest(contents: &Contents) -> Moment
     }
 }
 
-/// Whether each record of a catalogue is sound.
+/// Returns whether all records of a catalogue are sound.
 fn are_sound_records(low: Moment, high: Moment, catalogue: &Catalogue) -> bool
     ensures yes { result ≡ true → All (IsSoundRecord low high) (records_of catalogue.now) }
     ensures no { result ≡ false → ¬ All (IsSoundRecord low high) (records_of catalogue.now) }
@@ -116,7 +116,7 @@ fn are_sound_records(low: Moment, high: Moment, catalogue: &Catalogue) -> bool
     true
 }
 
-/// Whether each change of a history is sound.
+/// Returns whether all changes of a history are sound.
 fn are_sound_changes(low: Moment, high: Moment, history: &History) -> bool
     ensures yes { result ≡ true → All (IsSoundChange low high) (changes_of history.now.pages) }
     ensures no { result ≡ false → ¬ All (IsSoundChange low high) (changes_of history.now.pages) }
@@ -129,8 +129,8 @@ fn are_sound_changes(low: Moment, high: Moment, history: &History) -> bool
     true
 }
 
-/// Whether the moment of a record is within these, its body is not too long, and its extent has the
-/// size of its body.
+/// Returns whether the moment of a record is within these, its body is not too long, and its extent
+/// has the size of its body.
 fn is_sound_record(low: Moment, high: Moment, item: &Record) -> bool
     ensures yes { result ≡ true → IsSoundRecord low high item.now }
     ensures no { result ≡ false → ¬ IsSoundRecord low high item.now }
@@ -140,7 +140,8 @@ fn is_sound_record(low: Moment, high: Moment, item: &Record) -> bool
         && is_sized(item.extent, item.length)
 }
 
-/// Whether the moment of a change is within these, and its body, if it has one, is not too long.
+/// Returns whether the moment of a change is within these, and its body, if it has one, is not too
+/// long.
 fn is_sound_change(low: Moment, high: Moment, change: &Change) -> bool
     ensures yes { result ≡ true → IsSoundChange low high change.now }
     ensures no { result ≡ false → ¬ IsSoundChange low high change.now }
@@ -152,7 +153,7 @@ fn is_sound_change(low: Moment, high: Moment, change: &Change) -> bool
     is_short && is_within(low, high, change.moment)
 }
 
-/// Whether a moment is after the first one and at most the second one.
+/// Returns whether a moment is after the first one and at most the second one.
 fn is_within(low: Moment, high: Moment, moment: Moment) -> bool
     ensures yes { result ≡ true → IsWithin low high moment }
     ensures no { result ≡ false → ¬ IsWithin low high moment }

@@ -1,5 +1,5 @@
--- Faults of writers of several pieces. The pieces before a fault and those after it make the text of the whole run:
--- `failed_first` is for the first piece, `failed_then` for one after others, `failed_each` for a loop over a list.
+-- Faults of writers of several pieces. The pieces before and after a fault make up the text of the whole run:
+-- `failed_first` is for the first piece, `failed_then` for a piece after others, `failed_each` for a loop over a list.
 use Rattle.std.proofs.Common.{◌≡◌, ℕ, ◌+◌, ◌<◌, List, [], ◌++◌, take, drop, length, Option, get_or, refl, sym, ap, ◌∙◌, subst, inl, inr, append_assoc, take-append-drop, arith}
 use Rattle.std.specs.Prelude.{Result, Ok, Err, OnOk, OnErr}
 use Rattle.std.specs.List.{flat_map}
@@ -17,11 +17,11 @@ pub later_fault : {T : Type 0} (a b c : Watched T) → failures b ≡ failures a
 later_fault a b c same (inl rose) = inl (omega (arith, ap (λ f. f.all) same, rose))
 later_fault a b c same (inr last) = inr last
 
--- the same of a put
+-- the same for a put
 pub later_put_fault : {T : Type 0} (a b c : Watched T) → failures b ≡ failures a → PutFailed b c → PutFailed a c
 later_put_fault a b c same fault = (later_fault a b c same fault.0, fault.1 ∙ ap (λ f. f.flushes) same)
 
--- of a call that failed
+-- a proved fact, as a clause on a failed call
 pub on_fault : {X E P : Type 0} (r : Result X E) → P → OnErr r P
 on_fault (Ok v) p = tt
 on_fault (Err e) p = p
@@ -31,7 +31,7 @@ module _ {W : Type 0} (contents : W → Option (List ℕ)) where
   pub failed_same : (a b : Watched W) (x y : List ℕ) → FailedWithin contents a b x → x ≡ y → FailedWithin contents a b y
   failed_same a b x y h e = subst (FailedWithin contents a b) e h
 
-  -- a call failed and took nothing
+  -- a call failed and took no byte
   pub failed_at_once : (a b : Watched W) (text : List ℕ) → Keeps (contents (watched a)) (contents (watched b)) → PutFailed a b → FailedWithin contents a b text
   failed_at_once a b text kept fault =
       record { failed = fault; part = []; left_out = text; bytes_are = refl; took = Appends-kept _ _ _ [] (Appends-nil (contents (watched a))) kept }
@@ -68,7 +68,7 @@ module _ {W : Type 0} (contents : W → Option (List ℕ)) where
   pub failed_then : (a b c : Watched W) (x y rest t : List ℕ) → Wrote contents a b x → FailedWithin contents b c y → x ++ (y ++ rest) ≡ t → FailedWithin contents a c t
   failed_then a b c x y rest t whole h e = failed_last a b c x (y ++ rest) t whole (failed_first b c y rest (y ++ rest) h refl) e
 
-  -- a loop over a list that writes what each element gives, and fails at one of them
+  -- a loop over a list that writes a text for every element, and fails at one of them
   pub failed_each : {A : Type 0} (f : A → List ℕ) (xs : List A) (i : ℕ) (x : A) (a b c : Watched W) → i < length xs → x ≡ get_or xs i x
       → Wrote contents a b (flat_map f (take i xs)) → FailedWithin contents b c (f x) → FailedWithin contents a c (flat_map f xs)
   failed_each f xs i x a b c h e whole fault =
@@ -76,7 +76,7 @@ module _ {W : Type 0} (contents : W → Option (List ℕ)) where
       (failed_last a b c (flat_map f (take i xs)) (f x) _ whole fault (flat_map-next f xs i x h e))
       (sym (flat_map-append f (take (i + 1) xs) (drop (i + 1) xs)) ∙ ap (flat_map f) (take-append-drop (i + 1) xs))
 
-  -- of a call that may fail: it took the whole text, or failed within it
+  -- a call that may fail took the whole text, or failed within it
   pub writes_either : {X E : Type 0} (r : Result X E) (a b : Watched W) (text : List ℕ) → OnOk r (Wrote contents a b text) → OnErr r (FailedWithin contents a b text)
       → WritesOut contents a b r text
   writes_either (Ok v) a b text whole fault = whole

@@ -17,7 +17,7 @@ appends_same a b x y h e = subst (Appends a b) e h
 pub appends_then : (a b c : Option (List ℕ)) (x y z : List ℕ) → Appends a b x → Appends b c y → x ++ y ≡ z → Appends a c z
 appends_then a b c x y z p q e = appends_same a c (x ++ y) z (Appends-trans a b c x y p q) e
 
--- one element more of what the first ones give
+-- the texts of the first elements, and the text of one more
 pub flat_map-next : {A : Type 0} (f : A → List ℕ) (xs : List A) (i : ℕ) (x : A) → i < length xs → x ≡ get_or xs i x
     → flat_map f (take i xs) ++ f x ≡ flat_map f (take (i + 1) xs)
 flat_map-next f xs i x h e =

@@ -1,5 +1,5 @@
--- What contracts see of a watched reader or writer. The words on bytes take the function that gives them: W.contents of
--- a writer, R.remaining of a reader.
+-- The state of a watched reader or writer, as contracts see it. The definitions on bytes take the function that returns
+-- them: W.contents of a writer, R.remaining of a reader.
 use Rattle.std.specs.Prelude.{◌≡◌, ◌⊎◌, ℕ, ◌+◌, ◌<◌, ◌≤◌, ◌^◌, ◌==◌, Bool, true, not, List, ◌++◌, Option, Result, MatchResult}
 use Rattle.std.specs.Result.{IsErr}
 use Rattle.std.specs.Io.KnownBytes.{Consumes, Appends}
@@ -10,11 +10,11 @@ use Rattle.rs_io.specs.Counted.{IsCounted}
 abbrev pub watched : {T : Type 0} → Watched T → T
 watched w = w.inner.end
 
--- how many calls it has made of the end inside
+-- the number of calls it has made of the end inside
 abbrev pub calls : {T : Type 0} → Watched T → ℕ
 calls w = w.inner.calls
 
--- How many faults it has answered: in all, and by a flush.
+-- The number of faults it has answered: in all, and by flushes.
 pub record Failures : Type 0 where
   pub all : ℕ
   pub flushes : ℕ
@@ -23,15 +23,15 @@ pub record Failures : Type 0 where
 abbrev pub failures : {T : Type 0} → Watched T → Failures
 failures w = record { all = w.failures; flushes = w.failed_flushes }
 
--- a call of it has failed, so that each later one fails too
+-- a call of it has failed, so that every later call fails too
 abbrev pub is_broken : {T : Type 0} → Watched T → Bool
 is_broken w = not (w.failures == 0)
 
--- nothing was put into it since its last successful flush
+-- no put was made since its last successful flush
 abbrev pub is_flushed : {T : Type 0} → Watched T → Bool
 is_flushed w = not w.holds_back
 
--- the same end, but with only what `told` gives of the reader or the writer inside
+-- the same end, with only the result of `told` in place of the reader or the writer inside
 abbrev pub seen_by : {T X : Type 0} → (T → X) → Watched T → Watched X
 seen_by told w = record {
   inner = record { end = told w.inner.end; calls = w.inner.calls };
@@ -40,7 +40,7 @@ seen_by told w = record {
   holds_back = w.holds_back;
 }
 
--- what was put into it in between was flushed as well
+-- if it was flushed before, it is flushed after: all bytes put into it in between were flushed as well
 abbrev pub StaysFlushed : {T : Type 0} → Watched T → Watched T → Type 0
 StaysFlushed old new = is_flushed old ≡ true → is_flushed new ≡ true
 
@@ -52,21 +52,22 @@ EndFailed old new = ((failures old).all < (failures new).all) ⊎ (2 ^ 64 ≤ (f
 abbrev pub FlushFailed : {T : Type 0} → Watched T → Watched T → Type 0
 FlushFailed old new = ((failures old).flushes < (failures new).flushes) ⊎ (2 ^ 64 ≤ (failures new).flushes + 1)
 
--- a put failed in between, and no flush
+-- a put failed in between, and no flush failed
 abbrev pub PutFailed : {T : Type 0} → Watched T → Watched T → Type 0
 PutFailed old new = EndFailed old new × ((failures new).flushes ≡ (failures old).flushes)
 
--- An answer reports an end only where a call of it failed in between, or the count has reached its last value. Where it
--- doesn't report it, no call failed.
+-- An answer reports an end only if a call of the end failed in between, or the count has reached its last value. If the
+-- answer does not report it, no call failed.
 pub record TellsEnd {T : Type 0} (told : Type 0) (old new : Watched T) : Type 0 where
   pub failed : told → EndFailed old new
   pub sound : ¬ told → failures new ≡ failures old
 
--- an end, seen by the bytes that it has left or holds
+-- an end, with the bytes that it has left or holds in place of the reader or the writer inside
 abbrev pub End : Type 0
 End = Watched (Option (List ℕ))
 
--- The two ends of a call: what the reader has left before and after it, and what the writer holds before and after it.
+-- The two ends of a call: the bytes that the reader has left before and after it, and the bytes that the writer holds
+-- before and after it.
 pub record Ends : Type 0 where
   pub left : End
   pub rest : End

@@ -7,8 +7,8 @@ use std::io::{self, Read, Write};
 
 /// A reader or a writer that counts its calls. The count stays at `u64::MAX` once it gets there.
 ///
-/// Only the functions of this file reach the end inside, and each call of it counts: no other code can
-/// make a call that is not counted.
+/// Only the functions of this file reach the end inside, and they count every call of it: no other code can make a call
+/// that is not counted.
 #[derive(Debug, Drop)]
 pub struct Counted<T> {
     end: T,
@@ -16,28 +16,28 @@ pub struct Counted<T> {
 }
 
 impl<T> Counted<T> {
-    /// No call of `end` is counted yet.
+    /// Wraps `end`, with no call counted yet.
     pub fn new(end: T) -> Counted<T>
         ensures { result ≡ record { end = end; calls = 0 } }
     {
         Counted { end, calls: 0 }
     }
 
-    /// How many calls it has made.
+    /// Returns the number of calls it has made.
     pub fn calls(&self) -> u64
         ensures { result ≡ self.now.calls }
     {
         self.calls
     }
 
-    /// The reader or the writer, to look at.
+    /// Returns a reference to the reader or the writer.
     pub fn get_ref(&self) -> &T
         ensures { result.now ≡ self.now.end }
     {
         &self.end
     }
 
-    /// Gives the reader or the writer back. The count is lost.
+    /// Returns the reader or the writer itself. The count is lost.
     pub fn into_inner(self) -> T
         ensures { result ≡ self.end }
     {
@@ -49,7 +49,7 @@ impl<R: Read> Counted<R> {
     ghost use Rattle.std.specs.Io.KnownBytes.{ReadConsumes};
     ghost use Rattle.std.specs.Io.{ReadsAtMost};
 
-    /// One read.
+    /// Reads once.
     pub fn read(&mut self, buf: &mut [u8]) -> io::Result<usize>
         ensures bound { ReadsAtMost result buf.new }
         ensures bytes { ReadConsumes (R.remaining self.old.end) (R.remaining self.new.end) result buf.new }
@@ -64,7 +64,7 @@ impl<W: Write> Counted<W> {
     ghost use Rattle.std.specs.Io.KnownBytes.{Keeps, WriteAppends};
     ghost use Rattle.std.specs.Io.{WritesAtMost};
 
-    /// One write.
+    /// Writes once.
     pub fn write(&mut self, bytes: &[u8]) -> io::Result<usize>
         ensures bound { WritesAtMost result bytes.now }
         ensures bytes { WriteAppends (W.contents self.old.end) (W.contents self.new.end) result bytes.now }
@@ -74,7 +74,7 @@ impl<W: Write> Counted<W> {
         self.end.write(bytes)
     }
 
-    /// One flush.
+    /// Flushes once.
     pub fn flush(&mut self) -> io::Result<()>
         ensures bytes { Keeps (W.contents self.old.end) (W.contents self.new.end) }
         ensures counted { IsCounted self.old self.new }

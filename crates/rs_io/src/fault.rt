@@ -4,7 +4,7 @@ ghost use Rattle.std.specs.Prelude.{◌≡◌};
 
 use thiserror::Error;
 
-/// Which end of a stream failed, the reader or the writer. Each caller says what stands then.
+/// The end of a stream that failed, the reader or the writer. The callers document the state after the failure.
 #[derive(Clone, Copy, Debug, PartialEq, Eq, Error)]
 pub enum StreamFault {
     /// The reader failed.

@@ -1,5 +1,5 @@
 //! A reader or a writer that counts its calls and its faults, stays failed once it has failed, and knows whether all
-//! that it took was flushed.
+//! bytes that it took were flushed.
 ghost use Rattle.std.specs.Prelude.{◌≡◌, ◌+◌, ◌<◌, ◌≤◌, [], true, false, length, take, decimal, IfOk, OnOk, OnErr, IfSome, IsTrue, MatchOption};
 ghost use Rattle.std.specs.List.{flat_map};
 ghost use Rattle.std.specs.Io.KnownBytes.{IsAtEnd, Keeps};
@@ -12,16 +12,15 @@ use std::io::{ErrorKind, Read, Write};
 // The most bytes of one write. A socket takes a large body faster in pieces of this size than at once.
 const LARGEST_WRITE: usize = 262_144;
 
-// How often an interrupted write is tried again in one call.
+// The number of times that one call retries an interrupted write.
 const MOST_INTERRUPTIONS: u32 = 100;
 
-/// A reader or a writer that counts its calls and its faults, and knows whether all that was put into
-/// it has been flushed.
+/// A reader or a writer that counts its calls and its faults, and knows whether all bytes put into it have been
+/// flushed.
 ///
-/// An end that has failed stays failed: each later call answers the fault, and makes no call of the
-/// reader or writer inside. It counts each call that answers an error once. A count stays at
-/// `u64::MAX` once it gets there. Only an interrupted write is tried again: [`Watched::put`] tries 100
-/// of them again in one call, and the next one is a failure.
+/// An end that has failed stays failed: every later call answers the fault, and makes no call of the reader or writer
+/// inside. A call that answers an error counts once. A count stays at `u64::MAX` once it gets there. Only an
+/// interrupted write is retried: [`Watched::put`] retries 100 of them in one call, and the next one is a failure.
 #[derive(Debug, Drop)]
 pub struct Watched<T> {
     inner: Counted<T>,
@@ -33,8 +32,7 @@ pub struct Watched<T> {
 impl<T> Watched<T> {
     ghost use Rattle.rs_io.specs.Watch.{watched, calls, failures, is_broken, is_flushed, PutFailed, IsCalledOnce};
 
-    /// Watches `inner` from here on. Earlier failures do not count, and what was written before counts
-    /// as flushed.
+    /// Watches `inner` from here on. Earlier failures do not count, and bytes written before count as flushed.
     pub fn new(inner: T) -> Watched<T>
         ensures inner { watched result ≡ inner }
         ensures calls { calls result ≡ 0 }
@@ -49,43 +47,43 @@ impl<T> Watched<T> {
         }
     }
 
-    /// How many calls it has made of the reader or writer inside, `u64::MAX` at most.
+    /// Returns the number of calls it has made of the reader or writer inside, `u64::MAX` at most.
     pub fn calls(&self) -> u64
         ensures { result ≡ calls self.now }
     {
         self.inner.calls()
     }
 
-    /// How many calls have answered a fault, `u64::MAX` at most.
+    /// Returns the number of calls that have answered a fault, `u64::MAX` at most.
     pub fn failures(&self) -> u64
         ensures { result ≡ (failures self.now).all }
     {
         self.failures
     }
 
-    /// Whether a call has failed, so that each later one fails too.
+    /// Returns whether a call has failed, so that every later call fails too.
     pub fn is_broken(&self) -> bool
         ensures { result ≡ is_broken self.now }
     {
         self.failures != 0
     }
 
-    /// Whether a flush has succeeded since the last put, or there was no put since [`Watched::new`]. A
-    /// put counts even if it fails, since it may leave bytes.
+    /// Returns whether a flush has succeeded since the last put, or there was no put since [`Watched::new`]. A put
+    /// counts even if it fails, since it may leave bytes.
     pub fn is_flushed(&self) -> bool
         ensures { result ≡ is_flushed self.now }
     {
         !self.holds_back
     }
 
-    /// The reader or the writer, to look at.
+    /// Returns a reference to the reader or the writer.
     pub fn get_ref(&self) -> &T
         ensures { result.now ≡ watched self.now }
     {
         self.inner.get_ref()
     }
 
-    /// Gives the reader or the writer back. The counts are lost.
+    /// Returns the reader or the writer itself. The counts are lost.
     pub fn into_inner(self) -> T
         ensures { result ≡ watched self }
     {
@@ -107,13 +105,13 @@ impl<T> Watched<T> {
 impl<R: Read> Watched<R> {
     ghost use Rattle.rs_io.specs.Watch.{watched, calls, failures, is_broken, is_flushed, EndFailed, IsCalledOnce, IsRefused, Took};
 
-    /// Reads once into the front of `buf`, and says how many bytes came.
+    /// Reads once into the front of `buf`, and returns the number of bytes read.
     ///
-    /// It gives no byte only at the end of the input, or where `buf` has no room.
+    /// It reads no byte only at the end of the input, or if `buf` has no room.
     ///
     /// # Errors
     ///
-    /// [`ReadFault`] where the read fails, or one failed before. Then no byte is lost.
+    /// [`ReadFault`] if the read fails, or an earlier call failed. No byte is lost then.
     pub fn read(&mut self, buf: &mut [u8]) -> Result<usize, ReadFault>
         ensures bound { IfOk result (λ n. n ≤ length buf.new) }
         ensures ok { IfOk result (λ n. Took R.remaining self.old self.new (take n buf.new)) }
@@ -146,13 +144,12 @@ impl<W: Write> Watched<W> {
 
     /// Writes all of `bytes`.
     ///
-    /// An interrupted write is tried again, up to 100 times in one call.
+    /// It retries an interrupted write, up to 100 times in one call.
     ///
     /// # Errors
     ///
-    /// [`WriteFault`] where a write fails, takes no byte, or is interrupted once too often, or a call
-    /// of the writer failed before. The writer has then taken a beginning of the bytes, and no other
-    /// byte.
+    /// [`WriteFault`] if a write fails, takes no byte, or is interrupted once too often, or an earlier call of the
+    /// writer failed. The writer has then taken a beginning of the bytes, and no other byte.
     pub fn put(&mut self, bytes: &[u8]) -> Result<(), WriteFault>
         ensures ok { OnOk result (Wrote W.contents self.old self.new bytes.now) }
         ensures fault { OnErr result (FailedWithin W.contents self.old self.new bytes.now) }
@@ -183,8 +180,8 @@ impl<W: Write> Watched<W> {
         Ok(())
     }
 
-    /// Writes once, at most `LARGEST_WRITE` of the bytes, and gives how many of them the writer took, or
-    /// `None` where the write was interrupted.
+    /// Writes once, at most `LARGEST_WRITE` of the bytes. Returns the number of bytes that the writer took, or `None`
+    /// if the write was interrupted.
     fn put_some(&mut self, bytes: &[u8]) -> Result<Option<usize>, WriteFault>
         requires { 0 < length bytes.now }
         ensures some { IfOk result (λ took. IfSome took (λ count. 0 < count)) }
@@ -249,11 +246,11 @@ impl<W: Write> Watched<W> {
         Ok(())
     }
 
-    /// Flushes the writer. That neither adds nor drops a byte, also where it fails.
+    /// Flushes the writer. A flush neither adds nor drops a byte, even if it fails.
     ///
     /// # Errors
     ///
-    /// [`WriteFault`] where the flush fails, or a call of the writer failed before.
+    /// [`WriteFault`] if the flush fails, or an earlier call of the writer failed.
     pub fn flush(&mut self) -> Result<(), WriteFault>
         ensures bytes { Keeps (W.contents (watched self.old)) (W.contents (watched self.new)) }
         ensures sound { OnOk result (failures self.new ≡ failures self.old) }

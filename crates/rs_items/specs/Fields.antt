@@ -14,7 +14,7 @@ first_field bytes = before_first is_space bytes
 abbrev pub after_field : List ℕ → List ℕ
 after_field bytes = drop (position_or_len is_space bytes) bytes
 
--- what follows a space, cut this way; no field where there is no space
+-- the bytes after a space, cut this way; no field if there is no space
 abbrev pub after_space : (List ℕ → List (List ℕ)) → List ℕ → List (List ℕ)
 after_space cut [] = []
 after_space cut (space ∷ bytes) = cut bytes

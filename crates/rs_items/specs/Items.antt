@@ -41,6 +41,6 @@ item_of_fields (word ∷ name ∷ []) = if bytes_eq word (codes "delete") then d
 item_of_fields (word ∷ name ∷ hex ∷ kind ∷ []) = if bytes_eq word (codes "put") then put_item name hex kind else Err BadLine
 item_of_fields _ = Err BadLine
 
--- the item of a line, or why it is none: TYPE is the rest of the line, with all its spaces
+-- the item of a line, or the fault of the line: TYPE is the rest of the line, with all its spaces
 unfoldable pub item_of_line : List ℕ → Result Item ItemFault
 item_of_line line = item_of_fields (fields 3 line)

@@ -4,14 +4,15 @@ ghost use Rattle.std.specs.Prelude.{◌≡◌, ◌≤◌, ◌∷◌, [], ℕ, su
 ghost use Rattle.std.specs.List.{position, starts_with};
 ghost use Rattle.rs_items.specs.Fields.{fields as fields_of, is_space};
 
-/// The place of the first space, or `None` if there is none.
+/// Returns the place of the first space, or `None` if there is no space.
 fn first_space(bytes: &[u8]) -> Option<usize>
     ensures { result ≡ position is_space bytes.now }
 {
     bytes.iter().position(|b| *b == b' ')
 }
 
-/// The first field of `bytes`, and what follows the space after it. `None` if `bytes` has no space.
+/// Returns the first field of `bytes`, and the bytes after the space that ends it, or `None` if
+/// `bytes` has no space.
 pub fn split_field(bytes: &[u8]) -> Option<(&[u8], &[u8])>
     ensures none { IfNone result ((spaces : ℕ)
         → fields_of (suc spaces) bytes.now ≡ bytes.now ∷ []) }
@@ -24,7 +25,7 @@ pub fn split_field(bytes: &[u8]) -> Option<(&[u8], &[u8])>
     }
 }
 
-/// What follows `prefix`, or `None` where the bytes do not begin with it.
+/// Returns the bytes after `prefix`, or `None` if the bytes do not begin with it.
 pub fn after<'a>(prefix: &[u8], bytes: &'a [u8]) -> Option<&'a [u8]>
     ensures { MatchOption result (starts_with nat_eq bytes.now prefix.now ≡ false)
         (λ rest. (starts_with nat_eq bytes.now prefix.now ≡ true)

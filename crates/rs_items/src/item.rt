@@ -11,7 +11,7 @@ use rs_record::{MediaType, Name, ValueFault};
 use std::alloc::{AllocError, Global};
 use thiserror::Error;
 
-/// Why a line is no item.
+/// The reason why a line is no item.
 #[derive(Clone, Copy, Debug, PartialEq, Eq, Error)]
 pub enum ItemFault {
     /// The line is neither `put NAME HEX TYPE` nor `delete NAME`.
@@ -34,7 +34,7 @@ pub enum ItemFault {
 impl ItemFault {
     ghost use Rattle.rs_items.specs.Items.{fault_word};
 
-    /// The word for a fault in a script and over HTTP: the name of its variant.
+    /// Returns the word for a fault in a script and over HTTP: the name of its variant.
     pub fn word(self) -> &'static str
         ensures { result.now ≡ fault_word self }
     {
@@ -58,8 +58,8 @@ impl From<AllocError> for ItemFault {
     }
 }
 
-/// The item of `line`, which comes without its end: `put NAME HEX TYPE` or `delete NAME`. Single spaces separate the
-/// fields, and TYPE is the rest of the line.
+/// Returns the item of `line`, which comes without its end: `put NAME HEX TYPE` or `delete NAME`. Single spaces
+/// separate the fields, and TYPE is the rest of the line.
 ///
 /// # Errors
 ///
@@ -81,7 +81,7 @@ pub fn item_of(alloc: Global, line: &[u8]) -> Result<Item, ItemFault>
     Err(ItemFault::BadLine)
 }
 
-/// The item of a `delete`, from the fields after that word: NAME.
+/// Returns the item of a `delete`, from the fields after that word: NAME.
 fn delete_field(alloc: Global, fields: &[u8]) -> Result<Item, ItemFault>
     ensures { (result ≡ item_of_fields (codes "delete" ∷ fields_of 2 fields.now))
         ⊎ (result ≡ Err ItemFault.NoMemory) }
@@ -92,7 +92,7 @@ fn delete_field(alloc: Global, fields: &[u8]) -> Result<Item, ItemFault>
     }
 }
 
-/// The delete of this name.
+/// Returns the delete of this name.
 fn delete_item(alloc: Global, name: &[u8]) -> Result<Item, ItemFault>
     ensures { (result ≡ delete name.now) ⊎ (result ≡ Err ItemFault.NoMemory) }
 {
@@ -103,7 +103,7 @@ fn delete_item(alloc: Global, name: &[u8]) -> Result<Item, ItemFault>
     }
 }
 
-/// The item of a `put`, from the fields after that word: NAME, HEX and TYPE, which is the rest.
+/// Returns the item of a `put`, from the fields after that word: NAME, HEX and TYPE, which is the rest.
 fn put_fields(alloc: Global, fields: &[u8]) -> Result<Item, ItemFault>
     ensures { (result ≡ item_of_fields (codes "put" ∷ fields_of 2 fields.now))
         ⊎ (result ≡ Err ItemFault.NoMemory) }
@@ -117,7 +117,7 @@ fn put_fields(alloc: Global, fields: &[u8]) -> Result<Item, ItemFault>
     }
 }
 
-/// The put of these fields.
+/// Returns the put of these fields.
 fn put_item(alloc: Global, name: &[u8], hex: &[u8], kind: &[u8]) -> Result<Item, ItemFault>
     ensures { (result ≡ put name.now hex.now kind.now) ⊎ (result ≡ Err ItemFault.NoMemory) }
 {
@@ -137,7 +137,7 @@ fn put_item(alloc: Global, name: &[u8], hex: &[u8], kind: &[u8]) -> Result<Item,
     }
 }
 
-/// The bytes of a HEX, in one buffer of their number.
+/// Returns the bytes of a HEX, in one buffer of their number.
 fn decoded(alloc: Global, hex: &[u8]) -> Result<Vec<u8>, ItemFault>
     ensures ok { IfOk result (λ bytes. bytes_of hex.now ≡ Some bytes.items) }
     ensures err { IfErr result (λ fault. (fault ≡ ItemFault.NoMemory)

@@ -56,7 +56,7 @@ length-escape (c ∷ bytes) =
     let both = length-append (escaped c) (escape bytes) in
     omega arith
 
--- what is lawful is short
+-- lawful texts are short
 at_most : (a b : ℕ) → IsTrue (nat_le a b) → a ≤ b
 at_most a b h = let e : nat_le a b ≡ true = h in grind (arith, nat_tests)
 
@@ -185,7 +185,7 @@ lines_small m n before next after e h k =
     let d : m * (n + 1) ≡ m * n + m = grind arith in
     omega arith
 
--- lines that are each short
+-- a text of short lines
 pub children_small : (m : ℕ) (xs : List (List ℕ)) → All (λ x. length (line x) ≤ m) xs → length (joined xs) ≤ m * length xs
 children_small m [] h = omega arith
 children_small m (x ∷ xs) h =
@@ -195,7 +195,7 @@ children_small m (x ∷ xs) h =
     let d : m * suc (length xs) ≡ m * length xs + m = grind arith in
     omega arith
 
--- the same of the items from one place up to another
+-- the same for the items from one place up to another
 pub items_small : (m from i : ℕ) (before next after : List ℕ) → from ≤ i → before ++ next ≡ after → length before ≤ m * (i - from) → length next ≤ m → length after ≤ m * (i + 1 - from)
 items_small m from i before next after order e h k =
     let n : i + 1 - from ≡ i - from + 1 = omega arith in

@@ -1,4 +1,4 @@
--- Parts: none is empty, none is too long, all but the last are full, and together they are the list.
+-- Parts are not empty and not too long, all but the last are full, and together they are the list.
 use Rattle.std.proofs.Common.{◌≡◌, ℕ, suc, zero, ◌+◌, ◌-◌, ◌*◌, ◌<◌, ◌≤◌, List, ◌++◌, length, drop, refl, sym, ap, ◌∙◌, arith, length-drop, length-take}
 use Rattle.std.proofs.lemmas.List.{take-append-drop, drop-drop, drop_all}
 use Rattle.rs_lists.specs.Chunks.{parts_of, part_at}

@@ -1,4 +1,4 @@
--- Which text a document has.
+-- The texts of documents.
 use Rattle.std.proofs.Common.{◌≡◌, ℕ, ◌+◌, ◌-◌, ◌*◌, ◌≤◌, ◌<◌, List, [], ◌∷◌, take, length, map, Bool, true, false, cond, nat_le, nat_lt, refl, ap, sym, subst, ◌∙◌, ◌⊎◌, inl, inr, arith, Option, Some, None}
 use Rattle.std.specs.Prelude.{codes, IsTrue, ◌==◌, ◌&&◌, IsSome, option_map}
 use Rattle.std.proofs.lemmas.Bool.Decides.{nat_tests}
@@ -70,7 +70,7 @@ pub change_part_is : (s : Shown) (doc : Doc) (number first : ℕ) → doc ≡ Ch
     → (first ≤ number) × (number - first < parts_in changes s) × (list_text s doc ≡ Some (part_text changes s (number - first)))
 change_part_is s doc number first e f h = rw (e, f) (change_part s number (rw e at h))
 
--- what is made of a place, where there is one
+-- the value made from a place, if the place exists
 placed : {A : Type 0} (b : Bool) (k : ℕ) (f : ℕ → A) (x : A) (o : Option ℕ) → f k ≡ x → o ≡ cond b (Some k) None → option_map f o ≡ cond b (Some x) None
 placed true k f x o same e = ap (option_map f) e ∙ ap Some same
 placed false k f x o same e = ap (option_map f) e

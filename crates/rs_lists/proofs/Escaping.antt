@@ -31,7 +31,7 @@ reference_written a b d e bytes reference start i h r run p q s =
     ap (λ l. l ++ reference) (sym run) ∙ ap (λ l. escape (take i bytes) ++ l) (sym r) ∙ sym (escape-next bytes i h) in
     subst (Appends a e) whole (Appends-trans a d e _ _ (Appends-trans a b d _ _ p q) s)
 
--- nothing is left of the run
+-- the run is empty
 pub run_over : (bytes : List ℕ) (j : ℕ) → escape (take j bytes) ≡ escape (take j bytes) ++ take (j - j) (drop j bytes)
 run_over bytes j =
     let none : j - j ≡ 0 = omega arith in sym (ap (λ n. escape (take j bytes) ++ take n (drop j bytes)) none ∙ append-nil (escape (take j bytes)))
@@ -45,7 +45,7 @@ run_on bytes start i k h r run =
     escape-next bytes i h ∙ ap (λ l. l ++ escaped (get_or bytes i 0)) run ∙ ap (λ l. (escape (take start bytes) ++ run_before) ++ l) r
     ∙ append_assoc (escape (take start bytes)) run_before (get_or bytes i 0 ∷ []) ∙ ap (λ l. escape (take start bytes) ++ l) (sym (run-next bytes start i k h))
 
--- what was written, and the rest of the bytes with a run before it
+-- the bytes written, and a run followed by the rest of the bytes
 pub run_within : (bytes : List ℕ) (start i : ℕ) → escape (take i bytes) ≡ escape (take start bytes) ++ take (i - start) (drop start bytes)
     → escape (take start bytes) ++ (take (i - start) (drop start bytes) ++ escape (drop i bytes)) ≡ escape bytes
 run_within bytes start i run =

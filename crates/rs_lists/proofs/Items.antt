@@ -25,7 +25,7 @@ item_line f b base xs i x e h = ap (λ y. line (f y x)) e ∙ ap line (found (f 
     found f (y ∷ xs) zero x h = let e : y ≡ x = cc in ap f (sym e)
     found f (y ∷ xs) (suc i) x h = found f xs i x h
 
--- what follows the URI in the line of a resource
+-- the text after the URI in the line of a resource
 resource_rest : Record → List ℕ → List ℕ
 resource_rest r kind =
     concat (codes "</loc><lastmod>" ∷ moment_text r.moment ∷ codes "</lastmod><rs:md hash=\"" ∷ hash_text_of r.digests ∷ codes "\" length=\"" ∷ decimal r.length ∷ codes "\" type=\"" ∷ escape kind ∷ codes "\"/></url>" ∷ [])
@@ -49,7 +49,7 @@ last_moment-take t [] n c h = cc
 last_moment-take t (x ∷ changes) zero c h = let e : x ≡ c = cc in ap (λ (y : Change). y.moment) e
 last_moment-take t (x ∷ changes) (suc n) c h = last_moment-take x.moment changes n c h
 
--- what follows the URI in the line of a change that created or updated a resource
+-- the text after the URI in the line of a change that created or updated a resource
 bound_rest : Change → Facts → List ℕ → List ℕ → List ℕ
 bound_rest c f word kind =
     concat (codes "</loc><lastmod>" ∷ moment_text c.moment ∷ codes "</lastmod><rs:md change=\"" ∷ word ∷ codes "\" datetime=\"" ∷ moment_text c.moment ∷ codes "\" hash=\"" ∷ hash_text_of f.digests ∷ codes "\" length=\"" ∷ decimal f.length ∷ codes "\" type=\"" ∷ escape kind ∷ codes "\"/></url>" ∷ [])
@@ -67,7 +67,7 @@ bound_pieces base c f b n w k h e p q r s =
     rw (p, q, r, s) (ap (λ x. line (codes "<url><loc>" ++ x)) (sym (escape-uri base c.name (bound_rest c f (what_text c.what) f.kind) h)))
     ∙ ap (λ x. line (change_line_with base c x)) (sym e)
 
--- what follows the URI in the line of a change that deleted a resource
+-- the text after the URI in the line of a change that deleted a resource
 unbound_rest : Change → List ℕ → List ℕ
 unbound_rest c word = concat (codes "</loc><rs:md change=\"" ∷ word ∷ codes "\" datetime=\"" ∷ moment_text c.moment ∷ codes "\"/></url>" ∷ [])
 

@@ -1,4 +1,4 @@
--- Texts that escaping leaves unchanged: a base is one.
+-- Texts that escaping leaves unchanged, for example a base.
 use Rattle.std.proofs.Common.{◌≡◌, ℕ, List, [], ◌∷◌, ◌++◌, length, take, drop, refl, ap, ◌∙◌, arith, Bool, true, false, nat_lt, nat_eq, subst}
 use Rattle.std.specs.Prelude.{codes, IsTrue, ◌==◌, ◌||◌, not, if◌then◌else◌}
 use Rattle.std.specs.List.{list_all, ends_with}
@@ -65,7 +65,7 @@ base_characters base h =
 pub escape-base : (base : List ℕ) → IsTrue (is_base base) → escape base ≡ base
 escape-base base h = escape-plain is_base_char refl refl refl refl refl base (base_characters base h)
 
--- a URI, with what follows it
+-- a URI, and the text after it
 pub escape-uri : (base name rest : List ℕ) → IsTrue (is_base base) → escape (uri base name) ++ rest ≡ base ++ (codes "/resource/" ++ (escape name ++ rest))
 escape-uri base name rest h =
     ap (λ l. l ++ rest) (flat_map-append escaped (base ++ codes "/resource/") name ∙ ap (λ l. l ++ escape name) (flat_map-append escaped base (codes "/resource/") ∙ ap (λ l. l ++ codes "/resource/") (escape-base base h)))

@@ -81,12 +81,12 @@ part_small l s k n b p m h few = document_small (codes "urlset") (part_links s l
 pub index_small : (l : Listed) (s : Shown) (n : ℕ) → length s.base ≤ 128 → length (line (l.bounds s)) ≤ 160 → length (joined (entries l s)) ≤ 276 * n → n ≤ 25000 → IsSmall (index_text l s)
 index_small l s n b m h few = document_small (codes "sitemapindex") (up_line s.base ∷ []) (l.bounds s) (entries l s) (omega arith) (up_small s.base b) m (omega arith)
 
--- the same where a call succeeds
+-- a proved fact, as a clause on a successful call
 pub on_value : {X E : Type 0} {P : Type 0} (r : Result X E) → P → OnOk r P
 on_value (Ok v) p = p
 on_value (Err v) p = tt
 
--- what a meter counted of a document
+-- the bytes that a meter counted for a document
 pub measured : (before after total : ℕ) (d : Option (List ℕ)) → before ≡ 0 → total ≡ after → ¬ (d ≡ None) → IfSome d (CountGrowsBy before after) → IfSome d IsSmall → Some total ≡ option_map (length {A = ℕ}) d
 measured before after total None e f there counts small = absurd (there refl)
 measured before after total (Some text) e f there counts small =

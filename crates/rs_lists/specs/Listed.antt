@@ -1,11 +1,11 @@
--- What the Resource List and the Change List share: a document of all items, an index of parts, and a part.
+-- The common form of the Resource List and the Change List: a document of all items, an index of parts, and a part.
 use Rattle.std.specs.Prelude.{ℕ, ◌-◌, nat_le, if◌then◌else◌, List, [], ◌∷◌, length, take, drop, map, get_or, codes, None}
 use Rattle.rs_lists.specs.Chunks.{parts_of, part_at}
 use Rattle.rs_lists.specs.Shown.{Shown}
 use Rattle.rs_lists.specs.Text.{joined, document, up_line, part_links, numbers_from, from_of, until_of, resource_md, resource_line, resource_entry, change_md, change_line, change_entry}
 
--- What a list has of its own: the path of its head, its `rs:md` as a whole and of a part, its items, and the entry of a
--- part in its index.
+-- The differences between the lists: the path of the head, the `rs:md` of the whole list and of a part, the items, and
+-- the entry of a part in the index.
 pub record Listed : Type 0 where
   pub path : List ℕ
   pub bounds : Shown → List ℕ
@@ -33,11 +33,11 @@ changes = record {
   entry = change_entry;
 }
 
--- the item at a place, which is below their number
+-- the item at a place, which is below the number of items
 abbrev pub item_at : Listed → Shown → ℕ → List ℕ
 item_at l s i = get_or (l.items s) i []
 
--- how many parts a list has
+-- the number of parts of a list
 abbrev pub parts_in : Listed → Shown → ℕ
 parts_in l s = parts_of (length (l.items s)) s.limit
 
@@ -57,7 +57,7 @@ whole_text l s = document (codes "urlset") (up_line s.base ∷ []) (l.bounds s) 
 abbrev pub index_text : Listed → Shown → List ℕ
 index_text l s = document (codes "sitemapindex") (up_line s.base ∷ []) (l.bounds s) (entries l s)
 
--- the head: the whole list where it makes one part at most, else the index
+-- the head: the whole list if it makes at most one part, else the index
 abbrev pub head_text : Listed → Shown → List ℕ
 head_text l s = if nat_le (parts_in l s) 1 then whole_text l s else index_text l s
 

@@ -1,11 +1,11 @@
--- What a document is of its list, and the text that it has.
+-- A document as a section of its list, and the text of the section.
 use Rattle.std.specs.Prelude.{ℕ, ◌<◌, List}
 use Rattle.rs_lists.specs.declared.document.Section.{Section}
 use Rattle.rs_lists.specs.declared.document.Section.TheVariants.{ResourceHead, ResourcePart, ChangeHead, ChangePart}
 use Rattle.rs_lists.specs.Listed.{resources, changes, parts_in, head_text, part_text}
 use Rattle.rs_lists.specs.Shown.{Shown}
 
--- its text
+-- the text of the section
 abbrev pub section_text : Shown → Section → List ℕ
 section_text s ResourceHead = head_text resources s
 section_text s (ResourcePart k) = part_text resources s k

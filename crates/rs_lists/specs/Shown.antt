@@ -1,4 +1,4 @@
--- What a view shows of a source.
+-- The data of a source that a view shows.
 use Rattle.std.specs.Prelude.{ℕ, ◌≤◌, List, length}
 use Rattle.rs_record.specs.Limits.{most_items}
 use Rattle.rs_record.specs.declared.record.Record.{Record}
@@ -18,7 +18,7 @@ pub record Shown : Type 0 where
   pub first : ℕ
   pub begin : ℕ
 
--- the bounds of what is shown
+-- the bounds of the data
 pub record IsShown (s : Shown) : Type 0 where
   pub low : 2 ≤ s.limit
   pub high : s.limit ≤ 4000
@@ -26,10 +26,10 @@ pub record IsShown (s : Shown) : Type 0 where
   pub changes : length s.changes ≤ most_items
   pub first : s.first ≤ 253402300799999
 
--- how many parts the published records have
+-- the number of parts that the published records have
 abbrev pub resource_parts_of : Shown → ℕ
 resource_parts_of s = parts_of (length s.published) s.limit
 
--- how many parts the kept changes have
+-- the number of parts that the kept changes have
 abbrev pub change_parts_of : Shown → ℕ
 change_parts_of s = parts_of (length s.changes) s.limit

@@ -1,4 +1,4 @@
--- A writer and a meter are sinks: what their `impl`s of `Sink` cite.
+-- A writer and a meter are sinks: their `impl`s of `Sink` cite these laws.
 use Rattle.std.specs.Prelude.{◌≡◌, ℕ, ◌+◌, ◌<◌, ◌^◌, List, ◌++◌, Option, length}
 use Rattle.std.proofs.Common.{arith, refl, sym, ap, ◌∙◌, inl, inr, append_assoc, length-append}
 use Rattle.std.proofs.KnownBytes.{Appends-nil, Appends-trans}
@@ -6,7 +6,7 @@ use Rattle.rs_io.specs.declared.watch.Watched.{Watched}
 use Rattle.rs_io.specs.Watch.{watched, failures, EndFailed, FailedWithin, Wrote}
 use Rattle.rs_lists.specs.Sinks.{CountGrowsBy, IsSink}
 
--- where the first calls did not fail, a later fault is a fault of all of them
+-- if the first calls did not fail, a later fault is a fault of all of them
 fails_later : {T : Type 0} (a b c : Watched T) → failures b ≡ failures a → EndFailed b c → EndFailed a c
 fails_later a b c same (inl rose) = inl (omega (arith, ap (λ f. f.all) same, rose))
 fails_later a b c same (inr last) = inr last

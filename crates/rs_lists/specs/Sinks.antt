@@ -1,7 +1,7 @@
--- What a sink takes, and what a meter of texts takes.
+-- The texts that a sink takes, and the texts that a meter takes.
 use Rattle.std.specs.Prelude.{◌≡◌, ℕ, ◌+◌, ◌<◌, ◌^◌, List, [], ◌++◌, length, Result, OnOk, OnErr}
 
--- Two texts in a row are one text. The sink took nothing; it took one text after another; it failed within the first;
+-- Two texts in a row are one text. The sink took no byte; it took one text after another; it failed within the first;
 -- it failed within the second.
 pub record IsSink {S : Type 0} (takes fails : S → S → List ℕ → Type 0) : Type 0 where
   pub nothing : (a : S) → takes a a []

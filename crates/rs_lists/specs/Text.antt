@@ -55,7 +55,7 @@ document tag links md children = joined (xml_line ∷ open_line tag ∷ links ++
 abbrev pub resource_md : ℕ → List ℕ
 resource_md at = concat (codes "<rs:md capability=\"resourcelist\" at=\"" ∷ moment_text at ∷ codes "\"/>" ∷ [])
 
--- ` until="T"` of a closed part, and nothing of an open one
+-- ` until="T"` of a closed part; an open part has no `until`
 abbrev pub until_parts : Option ℕ → List (List ℕ)
 until_parts None = []
 until_parts (Some until) = codes " until=\"" ∷ moment_text until ∷ codes "\"" ∷ []
@@ -85,12 +85,12 @@ what_text Created = codes "created"
 what_text Updated = codes "updated"
 what_text Deleted = codes "deleted"
 
--- the moment of a change as `lastmod`, where there is a body
+-- the moment of a change as `lastmod`, if there is a body
 abbrev pub lastmod_parts : Option Facts → ℕ → List (List ℕ)
 lastmod_parts None moment = []
 lastmod_parts (Some f) moment = codes "<lastmod>" ∷ moment_text moment ∷ codes "</lastmod>" ∷ []
 
--- the attributes of a body, where there is one
+-- the attributes of a body, if there is one
 abbrev pub some_facts_parts : Option Facts → List (List ℕ)
 some_facts_parts None = []
 some_facts_parts (Some f) = facts_parts f
@@ -160,11 +160,11 @@ part_links s path = up_line s.base ∷ link_line (codes "index") s.base path ∷
 abbrev pub change_part_text : Shown → ℕ → List ℕ
 change_part_text s k = change_list s (part_links s (codes "/changelist.xml")) (from_of s k) (until_of s k) (part_at k s.limit s.changes)
 
--- a part exists where the list has two parts at least, and one of them has this number
+-- a part exists if the list has at least two parts, and one of them has this number
 abbrev pub is_part : ℕ → ℕ → ℕ → Bool
 is_part parts first k = nat_lt 1 parts && nat_le first k && nat_lt k (first + parts)
 
--- the text of a list, an index or a part, where it exists
+-- the text of a list, an index or a part, if it exists
 unfoldable pub list_text : Shown → Doc → Option (List ℕ)
 list_text s ResourceHead =
     Some (if nat_le (resource_parts_of s) 1 then resource_list s (up_line s.base ∷ []) s.published else resource_index s)

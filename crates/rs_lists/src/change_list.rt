@@ -71,8 +71,8 @@ impl Listing for Changes {
     }
 }
 
-/// The `from` of a part: the moment of the last change before it, or the moment at which the kept
-/// changes begin.
+/// Returns the `from` of a part: the moment of the last change before it, or the moment at which the kept changes
+/// begin.
 fn part_from<V: View>(view: &V, part: u64) -> Moment
     requires { part < change_parts_of (V.shown view.now) }
     ensures { result ≡ from_of (V.shown view.now) part }
@@ -80,7 +80,7 @@ fn part_from<V: View>(view: &V, part: u64) -> Moment
     moment_after(view, part as usize * view.limit() as usize)
 }
 
-/// The `until` of a full part: the moment of its last change. An open part has none.
+/// Returns the `until` of a full part: the moment of its last change. An open part has no `until`.
 fn part_until<V: View>(view: &V, part: u64) -> Option<Moment>
     requires { part < change_parts_of (V.shown view.now) }
     ensures { result ≡ until_of (V.shown view.now) part }
@@ -94,8 +94,8 @@ fn part_until<V: View>(view: &V, part: u64) -> Option<Moment>
     }
 }
 
-/// The moment of the last of the first `count` changes. With no change it is the moment at which the
-/// kept changes begin.
+/// Returns the moment of the last of the first `count` changes. Without a change it is the moment at which the kept
+/// changes begin.
 fn moment_after<V: View>(view: &V, count: usize) -> Moment
     requires { count ≤ length (V.shown view.now).changes }
     ensures { result
@@ -213,7 +213,7 @@ fn put_deletion<'a, S: Sink>(
     )
 }
 
-/// The value of the attribute `change`.
+/// Returns the value of the attribute `change`.
 fn word(what: What) -> &'static [u8]
     ensures { result.now ≡ what_text what }
 {

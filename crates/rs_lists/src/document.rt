@@ -18,7 +18,7 @@ use rs_io::{Watched, WriteFault};
 use std::io::Write;
 use std::marker::Model;
 
-/// What a document is of its list. A part has its place here, counted from 0.
+/// A document as a section of its list. A part has its place here, counted from 0.
 #[derive(Clone, Copy)]
 enum Section {
     ResourceHead,
@@ -48,9 +48,9 @@ impl<'a, V: View> Model for ListDocument<'a, V> {
 }
 
 impl<'a, V: View> ListDocument<'a, V> {
-    /// The list, the index or the part, or `None` exactly where it does not exist.
+    /// Returns the list, the index or the part, or `None` exactly if it does not exist.
     ///
-    /// The Source Description and the Capability List are no lists: it answers `None` for them.
+    /// The Source Description and the Capability List are no lists: it returns `None` for them.
     pub fn of(view: &'a V, doc: Doc) -> Option<ListDocument<'a, V>>
         ensures { result ≡ list_text (V.shown view.now) doc }
     {
@@ -58,9 +58,9 @@ impl<'a, V: View> ListDocument<'a, V> {
         Some(ListDocument { view, section })
     }
 
-    /// How many bytes its text has.
+    /// Returns the number of bytes of its text.
     ///
-    /// Makes no text and takes no memory: one pass over the lengths of the document's items.
+    /// It makes no text and takes no memory: one pass over the lengths of the document's items.
     pub fn len(&self) -> u64
         ensures value { result ≡ length self.now }
         ensures small { IsSmall self.now }
@@ -77,8 +77,8 @@ impl<'a, V: View> ListDocument<'a, V> {
     ///
     /// # Errors
     ///
-    /// [`WriteFault`] only where a call of the writer failed in this one; a beginning of the text is
-    /// written then, and no other byte.
+    /// [`WriteFault`] only if a call of the writer failed in this call; a beginning of the text is written then, and no
+    /// other byte.
     pub fn write<W: Write>(&self, out: &mut Watched<W>) -> Result<(), WriteFault>
         ensures written { OnOk result (Wrote W.contents out.old out.new self.now) }
         ensures small { OnOk result (IsSmall self.now) }
@@ -102,7 +102,7 @@ impl<'a, V: View> ListDocument<'a, V> {
     }
 }
 
-/// What this document is of its list, if it exists.
+/// Returns the document as a section of its list, if it exists.
 fn section_of<V: View>(view: &V, doc: Doc) -> Option<Section>
     ensures text { option_map (section_text (V.shown view.now)) result
         ≡ list_text (V.shown view.now) doc }
@@ -126,8 +126,8 @@ fn section_of<V: View>(view: &V, doc: Doc) -> Option<Section>
     }
 }
 
-/// The place of the part of this number, where there are at least two parts, numbered from `first` on,
-/// and one of them has it.
+/// Returns the place of the part of this number, if there are at least two parts, numbered from `first` on, and one of
+/// them has this number.
 fn place_of(parts: u64, first: u64, number: u64) -> Option<u64>
     ensures { result ≡ (if is_part parts first number then Some (number - first) else None) }
 {

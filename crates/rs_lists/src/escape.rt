@@ -30,7 +30,7 @@ pub fn write_escaped<W: Write>(bytes: &[u8], out: &mut Watched<W>) -> Result<(),
     out.put(&bytes[start..])
 }
 
-/// How many bytes [`write_escaped`] writes, or `u64::MAX` where they are more.
+/// Returns the number of bytes that [`write_escaped`] writes, or `u64::MAX` if it writes more.
 pub fn escaped_length(bytes: &[u8]) -> u64
     ensures { result ≡ min (length (escape bytes.now)) (2 ^ 64 - 1) }
 {
@@ -45,7 +45,7 @@ pub fn escaped_length(bytes: &[u8]) -> u64
     total
 }
 
-/// The reference for a byte, or `None` where the byte stays unchanged.
+/// Returns the reference for a byte, or `None` if the byte stays unchanged.
 fn reference_of(byte: u8) -> Option<&'static [u8]>
     ensures { MatchOption result (escaped byte ≡ byte ∷ [])
         (λ reference. escaped byte ≡ reference.now) }

@@ -21,7 +21,7 @@ pub enum RootElement {
 }
 
 impl RootElement {
-    /// The name of the element.
+    /// Returns the name of the element.
     fn tag(self) -> &'static [u8]
         ensures { result.now ≡ tag_of self }
     {

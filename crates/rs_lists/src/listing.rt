@@ -1,5 +1,5 @@
-//! What the Resource List and the Change List share: a list in one document, an index of its
-//! parts, and a part.
+//! The common form of the Resource List and the Change List: a list in one document, an index of
+//! its parts, and a part.
 
 ghost use Rattle.std.specs.Prelude.{◌≡◌, ◌-◌, ◌*◌, ◌<◌, ◌≤◌, OnOk, length};
 ghost use Rattle.rs_record.specs.Limits.{most_items};
@@ -14,17 +14,17 @@ use crate::frame::{RootElement, put_closing, put_opening, put_part_opening};
 use crate::sink::Sink;
 use rs_io::WriteFault;
 
-/// What differs between the Resource List and the Change List.
+/// The differences between the Resource List and the Change List.
 pub trait Listing {
-    /// What the list shows of a view.
+    /// The texts of the list, as functions of the data that a view shows.
     ghost list: { Listed };
 
-    /// The path of its head, below the base.
+    /// Returns the path of its head, below the base.
     fn path() -> &'static [u8]
         ensures value { result.now ≡ list.path }
         ensures small { length list.path ≤ 18 };
 
-    /// How many items it has: at most 50,000.
+    /// Returns the number of its items: at most 50,000.
     fn len<V: View>(view: &V) -> usize
         ensures value { result ≡ length (list.items (V.shown view.now)) }
         ensures few { IsShown (V.shown view.now) → result ≤ most_items };
@@ -62,7 +62,7 @@ pub trait Listing {
         ensures small { length (line (list.entry (V.shown view.now) part)) ≤ 276 };
 }
 
-/// How many parts a list has, of at most [`View::limit`] items each.
+/// Returns the number of parts of a list, with at most [`View::limit`] items per part.
 pub fn parts<L: Listing, V: View>(view: &V) -> u64
     ensures value { result ≡ parts_in L.list (V.shown view.now) }
     ensures few { result ≤ 25000 }
@@ -72,7 +72,7 @@ pub fn parts<L: Listing, V: View>(view: &V) -> u64
     (L::len(view) as u64 + limit - 1) / limit
 }
 
-/// Puts the head of a list: all of it, where it has one part at most, or the index of its parts.
+/// Puts the head of a list: the whole list if it has at most one part, else the index of its parts.
 pub fn put_head<L: Listing, V: View, S: Sink>(view: &V, sink: &mut S) -> Result<(), WriteFault>
     ensures puts { Puts S.takes S.fails sink.old sink.new result
         (head_text L.list (V.shown view.now)) }

@@ -11,7 +11,7 @@ use rs_fixity::Digests;
 use rs_io::WriteFault;
 use rs_record::count_digits;
 
-/// A sink that counts the bytes of what it takes, and never fails.
+/// A sink that counts the bytes of the pieces that it takes, and never fails.
 #[derive(Drop)]
 pub struct Meter {
     total: u64,
@@ -20,14 +20,14 @@ pub struct Meter {
 impl Meter {
     ghost use Rattle.rs_lists.specs.Meters.{bytes_counted};
 
-    /// Nothing counted yet.
+    /// Returns a meter that has counted no byte.
     pub fn new() -> Meter
         ensures { bytes_counted result ≡ 0 }
     {
         Meter { total: 0 }
     }
 
-    /// How many bytes went in, or `u64::MAX` where they are more.
+    /// Returns the number of bytes that went in, or `u64::MAX` if there were more.
     pub fn total(&self) -> u64
         ensures { result ≡ bytes_counted self.now }
     {
@@ -52,7 +52,7 @@ impl Sink for Meter {
     }
 }
 
-/// How many bytes the pieces have, or `u64::MAX` where they have more. Takes no memory.
+/// Returns the number of bytes of the pieces, or `u64::MAX` if they have more. It takes no memory.
 pub fn pieces_length(pieces: &[Piece<'_>]) -> u64
     ensures { result ≡ min (length (pieces_text pieces.now)) (2 ^ 64 - 1) }
 {
@@ -63,7 +63,7 @@ pub fn pieces_length(pieces: &[Piece<'_>]) -> u64
     total
 }
 
-/// How many bytes a piece has, or `u64::MAX` where it has more.
+/// Returns the number of bytes of a piece, or `u64::MAX` if it has more.
 fn piece_length(piece: &Piece<'_>) -> u64
     ensures { result ≡ min (length (piece_text piece.now)) (2 ^ 64 - 1) }
 {
@@ -76,7 +76,7 @@ fn piece_length(piece: &Piece<'_>) -> u64
     }
 }
 
-/// How many bytes the text of the digests has.
+/// Returns the number of bytes of the text of the digests.
 pub fn hash_length(digests: &Digests) -> u64
     ensures value { result ≡ length (hash_text_of digests.now) }
     ensures constant { result ≡ 109 }

@@ -1,4 +1,4 @@
-//! The pieces that a text is made of.
+//! The pieces of a text.
 
 ghost use Rattle.std.specs.Prelude.{OnOk, OnErr};
 ghost use Rattle.rs_io.specs.Watch.{EndFailed, FailedWithin, Wrote};
@@ -13,7 +13,7 @@ use std::io::Write;
 /// A piece of a text.
 #[derive(Clone, Copy)]
 pub enum Piece<'a> {
-    /// Bytes as they stand.
+    /// Bytes that are written unchanged.
     Plain(&'a [u8]),
 
     /// Bytes with the five special characters of XML written as references.

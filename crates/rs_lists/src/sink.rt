@@ -1,6 +1,6 @@
 //! A sink takes the pieces of a text: a writer writes them, a meter counts their bytes.
 //!
-//! One code puts each document into any sink, so its measured length is the length written.
+//! The same code puts a document into any sink, so its measured length is the length written.
 
 ghost use Rattle.std.specs.Prelude.{◌≡◌, ℕ, List, OnOk, OnErr};
 ghost use Rattle.rs_lists.specs.Piece.{piece_text, pieces_text};
@@ -13,9 +13,9 @@ use rs_fixity::hash_text;
 use rs_io::{Watched, WriteFault};
 use std::io::Write;
 
-/// What takes the pieces of a text.
+/// A receiver of the pieces of a text.
 pub trait Sink {
-    /// Between these two states the sink took these bytes, and nothing failed.
+    /// Between these two states the sink took these bytes, and did not fail.
     ghost takes: { Self → Self → List ℕ → Type 0 };
 
     /// Between these two states the sink failed within these bytes. It took a beginning of them.

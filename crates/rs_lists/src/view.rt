@@ -1,4 +1,4 @@
-//! What the lists show of a source.
+//! The data of a source that its lists show.
 
 ghost use Rattle.std.specs.Prelude.{◌≡◌, ◌<◌, ◌≤◌, length, slice_get, Some};
 ghost use Rattle.rs_lists.specs.Shown.{Shown, IsShown, resource_parts_of, change_parts_of};
@@ -14,59 +14,59 @@ use rs_time::Moment;
 /// The texts of the lists are functions of the ghost member `shown` alone, which has the
 /// published records and the kept changes as whole lists.
 pub trait View {
-    /// What the lists show.
+    /// The data that the lists show.
     ghost shown: { Self → Shown };
 
-    /// The base of the source's URIs.
+    /// Returns the base of the source's URIs.
     fn base(&self) -> &Base
         ensures { result.now ≡ (shown self.now).base };
 
-    /// The greatest number of items in one document: 2 to 4,000.
+    /// Returns the greatest number of items in one document: 2 to 4,000.
     fn limit(&self) -> u16
         ensures value { result ≡ (shown self.now).limit }
         ensures bounds { IsShown (shown self.now) };
 
-    /// The moment of formatting.
+    /// Returns the moment of formatting.
     fn start(&self) -> Moment
         ensures { result ≡ (shown self.now).start };
 
-    /// The number of the latest publication, which is 0 at first.
+    /// Returns the number of the latest publication, which is 0 at first.
     fn number(&self) -> u64
         ensures { result ≡ (shown self.now).number };
 
-    /// The moment of the latest publication.
+    /// Returns the moment of the latest publication.
     fn at(&self) -> Moment
         ensures { result ≡ (shown self.now).at };
 
-    /// How many records are published: at most 50,000.
+    /// Returns the number of published records: at most 50,000.
     fn published_len(&self) -> usize
         ensures { result ≡ length (shown self.now).published };
 
-    /// The published record at a place, counted from 0, in the order of the list.
+    /// Returns the published record at a place, counted from 0, in the order of the list.
     fn published(&self, i: usize) -> &Record
         requires { i < length (shown self.now).published }
         ensures { slice_get (shown self.now).published i ≡ Some result.now };
 
-    /// How many changes are kept: at most 50,000.
+    /// Returns the number of kept changes: at most 50,000.
     fn changes_len(&self) -> usize
         ensures { result ≡ length (shown self.now).changes };
 
-    /// The kept change at a place, counted from 0, the earliest first.
+    /// Returns the kept change at a place, counted from 0, earliest first.
     fn change(&self, i: usize) -> &Change
         requires { i < length (shown self.now).changes }
         ensures { slice_get (shown self.now).changes i ≡ Some result.now };
 
-    /// The number of the first part of the Change List that is kept: at most 253,402,300,799,999.
+    /// Returns the number of the first kept part of the Change List: at most 253,402,300,799,999.
     fn first(&self) -> u64
         ensures { result ≡ (shown self.now).first };
 
-    /// The moment at which the kept changes begin: of the last change before them, or of formatting.
+    /// Returns the moment at which the kept changes begin: the moment of the last change before them, or of formatting.
     /// It is the `from` of the Change List and of its first part.
     fn begin(&self) -> Moment
         ensures { result ≡ (shown self.now).begin };
 }
 
-/// How many parts the published records have, of at most [`View::limit`] records each.
+/// Returns the number of parts that the published records have, with at most [`View::limit`] records per part.
 ///
 /// With at most one part the head document is the Resource List itself, else an index.
 pub fn resource_parts<V: View>(view: &V) -> u64
@@ -75,7 +75,7 @@ pub fn resource_parts<V: View>(view: &V) -> u64
     parts::<Resources, V>(view)
 }
 
-/// How many parts the kept changes have, of at most [`View::limit`] changes each.
+/// Returns the number of parts that the kept changes have, with at most [`View::limit`] changes per part.
 ///
 /// With at most one part the head document is the Change List itself, else an index.
 pub fn change_parts<V: View>(view: &V) -> u64

@@ -11,10 +11,10 @@ use rs_io::{Watched, WriteFault};
 use std::io::Write;
 use thiserror::Error;
 
-/// Why no list was written.
+/// The reason why a list was not written.
 #[derive(Clone, Copy, Debug, PartialEq, Eq, Error)]
 pub enum ListError {
-    /// There is no such list, index or part. Nothing was written.
+    /// The list, the index or the part does not exist. No byte was written.
     #[error("there is no such document")]
     NoSuchDocument,
 
@@ -23,16 +23,16 @@ pub enum ListError {
     WriteFault,
 }
 
-/// Writes exactly the text of a list, an index or a part: what [`ListDocument::write`] writes.
+/// Writes exactly the text of a list, an index or a part, as [`ListDocument::write`] does.
 ///
 /// This function does not write the Source Description and the Capability List: for them it answers
 /// [`ListError::NoSuchDocument`].
 ///
 /// # Errors
 ///
-/// [`ListError::NoSuchDocument`] exactly where the document does not exist; nothing is written
-/// then. [`ListError::WriteFault`] only where a call of the writer failed in this one; a beginning of
-/// the text is written then, and no other byte.
+/// [`ListError::NoSuchDocument`] exactly if the document does not exist; no byte is written then.
+/// [`ListError::WriteFault`] only if a call of the writer failed in this call; a beginning of the text is written then,
+/// and no other byte.
 pub fn write_list<V: View, W: Write>(
     view: &V,
     doc: Doc,
@@ -57,8 +57,8 @@ pub fn write_list<V: View, W: Write>(
     }
 }
 
-/// How many bytes [`write_list`] writes, or `None` exactly where the document does not exist. Makes no
-/// text and takes no memory.
+/// Returns the number of bytes that [`write_list`] writes, or `None` exactly if the document does not exist. It makes
+/// no text and takes no memory.
 pub fn list_length<V: View>(view: &V, doc: Doc) -> Option<u64>
     ensures value { result ≡ option_map length (list_text (V.shown view.now) doc) }
     ensures small { IfSome result (λ bytes. bytes < 10485760) }

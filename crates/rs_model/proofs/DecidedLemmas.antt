@@ -1,4 +1,4 @@
--- What is known of a state decides its items.
+-- The known facts of a state decide its items.
 use Rattle.std.proofs.Common.{◌≡◌, ℕ, zero, suc, ◌≤◌, ◌+◌, ◌<◌, List, [], ◌∷◌, ◌++◌, length, take, drop, get_or, refl, sym, ap, subst, ◌∙◌, arith, Bool, true, false, cond, not, nat_lt, nat_le, Option, Some, None, set, length-set, length-append, drop-cons}
 use Rattle.std.proofs.lemmas.List.{drop_all, take_all, take_more, take_more_set, map-append}
 use Rattle.std.specs.Prelude.{IsTrue, is_some, is_none, ◌&&◌, ◌≢◌, map}
@@ -23,7 +23,7 @@ use Rattle.rs_model.proofs.RoomLemmas.{length-bind, length-unbound}
 use Rattle.rs_model.proofs.ItemLemmas.{change_of, item_changes, item_last, after-append}
 use Rattle.rs_model.proofs.GroupLemmas.{first_of, first_cause-append}
 
--- what is known of a state
+-- the counts of a state
 abbrev pub counts_of : Source → Counts
 counts_of s = record { resources = length s.held; changes = length s.changes; last = s.last }
 
@@ -70,7 +70,7 @@ held_in_turn s (item ∷ items) now name o =
     held_in_turn (after_item s item t) items now name (item_ordered s item t o (omega arith))
     ∙ ap (λ h. held_after items h name) (item_holds s item t name o)
 
--- why an item is refused
+-- the refusal of an item
 none_not : (o : Option Held) (b : Bool) → (not (is_some o) && b) ≡ (is_none o && b)
 none_not None b = refl
 none_not (Some held) b = refl
@@ -85,7 +85,7 @@ item_decided s (single.Put name kind bytes) =
     (none_not (value_of name s.held) (nat_le most_resources (length s.held)))
 item_decided s (single.Delete name) = delete_by (value_of name s.held) (change_refusal_by (counts_of s))
 
--- what is known after an item that is accepted
+-- the counts after an item that is accepted
 bound_count : (o : Option Held) (n : ℕ) → cond (is_none o) (n + 1) n ≡ cond (is_some o) n (n + 1)
 bound_count None n = refl
 bound_count (Some held) n = refl
@@ -117,7 +117,7 @@ counts_known s item now none =
 abbrev pub reached : Source → List Item → ℕ → ℕ → Source
 reached s items now i = after_items s (take i items) now
 
--- Up to the item at i nothing is refused, and what is known there.
+-- Up to the item at i no item is refused, and these are the counts there.
 pub record IsReached (s : Source) (items : List Item) (now i : ℕ) (known : Counts) : Type 0 where
   pub known_is : known ≡ counts_of (reached s items now i)
   pub rest : first_cause (items_causes s items now) ≡ first_cause (items_causes (reached s items now i) (drop i items) now)
@@ -147,7 +147,7 @@ known_decided t item h known e k = ap (λ x. item_refusal_by item x known) e ∙
 here : (items : List Item) (i : ℕ) (item : Item) → i < length items → item ≡ get_or items i item → drop i items ≡ item ∷ drop (suc i) items
 here items i item within is = drop-cons items i item within ∙ ap (λ x. x ∷ drop (suc i) items) (sym is)
 
--- what is decided there
+-- the decision there
 decided_there : (s : Source) (items : List Item) (now i : ℕ) (known : Counts) (item : Item) (h : Bool) → IsReached s items now i known → i < length items
     → item ≡ get_or items i item → h ≡ is_held (reached s items now i) (name_of item)
     → first_cause (items_causes s items now)

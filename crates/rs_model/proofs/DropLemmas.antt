@@ -47,7 +47,7 @@ pub is_rising_from : (low : ℕ) (cs : List Change) → IsTrue (rises_from low c
 is_rising_from low [] h = refl
 is_rising_from low (c ∷ cs) h = (first_rises low c cs h).1
 
--- changes that rise from a moment are after it, and after each earlier one
+-- changes that rise from a moment are after it, and after every earlier one
 pub all_after : (low from : ℕ) (cs : List Change) → low ≤ from → IsTrue (rises_from from cs) → AllByRecursion (IsAfter low) cs
 all_after low from [] k h = tt
 all_after low from (c ∷ cs) k h =
@@ -68,7 +68,7 @@ last_later low (suc n) (c ∷ cs) h k =
     let first = first_rises low c cs h in
     omega (arith, first.0, last_later c.moment n cs first.1 (omega arith))
 
--- none of the first n is after the last of them
+-- all of the first n are not after the last of them
 pub up_to_last : (low n : ℕ) (cs : List Change) → IsTrue (rises_from low cs)
     → (low ≤ last_moment low (take n cs)) × AllByRecursion (IsChangeUpTo (last_moment low (take n cs))) (take n cs)
 up_to_last low zero cs h = (omega arith, tt)

@@ -51,7 +51,7 @@ group_by : (b : Bool) (x : Refusal) (next : Option Refusal) → cond b (Some x) 
 group_by true x next h = cc
 group_by false x next h = (refl, h)
 
--- what is known of a group that is accepted
+-- an accepted group is not a bad group, and its items have no cause for a refusal
 pub group_accepted : (s : Source) (items : List Item) (now : ℕ) → refusal_of s (Group items) now ≡ None
     → (is_bad_group items ≡ false) × (first_cause (items_causes s items now) ≡ None)
 group_accepted s items now h = group_by (is_bad_group items) BadGroup (first_cause (items_causes s items now)) h

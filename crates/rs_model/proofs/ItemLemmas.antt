@@ -41,7 +41,7 @@ item_begin s (single.Delete name) t = refl
 one_changed : (s : Source) (item : Item) (t : ℕ) → length (after_item s item t).changes ≡ length s.changes + 1
 one_changed s item t = omega (arith, ap length (item_changes s item t), length-append s.changes (change_of s item t ∷ []))
 
--- What each item at a later moment keeps, items in turn keep.
+-- Items in turn keep a property that every item at a later moment keeps.
 pub kept_in_turn : (P : Source → Type 0) → ((s : Source) (item : Item) (t : ℕ) → P s → s.last < t → P (after_item s item t))
     → (s : Source) (items : List Item) (now : ℕ) → P s → P (after_items s items now)
 kept_in_turn P keeps s [] now p = p
@@ -57,7 +57,7 @@ pub none_left : (items : List Item) → length items ≡ 0 → items ≡ []
 none_left [] h = refl
 none_left (item ∷ items) h = absurd (omega arith)
 
--- Items in turn append a change each.
+-- Items in turn append one change per item.
 pub record AppendTo (s : Source) (items : List Item) (t : Source) : Type 0 where
   pub made : List Change
   pub count : length made ≡ length items

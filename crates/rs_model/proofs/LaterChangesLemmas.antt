@@ -1,4 +1,4 @@
--- What commands leave of the changes of a state.
+-- The changes of a state after commands.
 use Rattle.std.proofs.Common.{◌≡◌, ℕ, ◌+◌, ◌-◌, ◌*◌, ◌≤◌, List, [], ◌∷◌, ◌++◌, length, take, drop, refl, sym, ap, ◌∙◌, arith, Option, Some, None, append_assoc, append-nil, zero-mul, length-append, length-drop}
 use Rattle.std.proofs.lemmas.List.{drop-append-le, take-append-le, drop-drop, drop_all}
 use Rattle.std.proofs.Math.Seq.{drop-append_seam, take-add}
@@ -16,7 +16,7 @@ use Rattle.rs_model.specs.Step.{step, state_after, fold_of, next_state, accepted
 use Rattle.rs_model.proofs.DropLemmas.{last_joined, dropped_within}
 use Rattle.rs_model.proofs.ItemLemmas.{AppendTo, items_append}
 
--- by how many changes are gone
+-- the number of changes that are gone
 keeps_by : (n : ℕ) (s : Source) (more : List Change) (t : Source) → t.limit ≡ s.limit → s.first ≤ t.first → gone_between s t ≡ n
     → n ≤ length (s.changes ++ more) → t.changes ≡ drop n (s.changes ++ more) → t.begin ≡ last_moment s.begin (take n (s.changes ++ more))
     → KeepsChanges s more t
@@ -32,7 +32,7 @@ keeps_by n s more t limit first e within changes begin =
 none_gone : (first limit : ℕ) → (first - first) * limit ≡ 0
 none_gone first limit = let none : first - first ≡ 0 = omega arith in ap (λ n. n * limit) none ∙ zero-mul limit
 
--- nothing is dropped
+-- no change is dropped
 adds : (s : Source) (more : List Change) (t : Source) → t.limit ≡ s.limit → t.first ≡ s.first → t.changes ≡ s.changes ++ more → t.begin ≡ s.begin
     → KeepsChanges s more t
 adds s more t limit first changes begin =
@@ -66,7 +66,7 @@ joined s t u a b h k =
     ∙ sym (last_joined s.begin (take m (all ++ b)) (take n (drop m (all ++ b))))
     ∙ ap (last_moment s.begin) (sym (take-add m n (all ++ b)) ∙ ap (take (m + n)) same))
 
--- A state and the one after a command or none, with what comes past the changes before.
+-- A state and the one after at most one command, with the changes past the earlier ones.
 pub record IsNext (s t : Source) : Type 0 where
   pub more : List Change
   pub recorded : drop (length s.changes) t.changes ≡ more
@@ -85,7 +85,7 @@ items_more s items now =
       kept = adds s all.made (after_items s items now) all.limit all.first all.changes all.begin;
     }
 
--- a publish records nothing
+-- a publish records no change
 pub none_published : (s : Source) (t : ℕ) → drop (length s.changes) (next_state s Publish t).changes ≡ []
 none_published s t =
     let n : ℕ = dropped_changes s in

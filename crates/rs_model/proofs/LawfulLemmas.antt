@@ -160,7 +160,7 @@ items_left : (s : Source) (items : List Item) (now : ℕ) → refusal_of s (Grou
 items_left s [] now none = cc
 items_left s (item ∷ items) now none = item_left s item (item_accepted s item items now (group_accepted s (item ∷ items) now none).1).0
 
--- the last cause of each command, or of its first item: no moment is left
+-- the last cause of every command, or of its first item: no moment is left
 moment_left : (s : Source) (command : Command) (now : ℕ) → refusal_of s command now ≡ None → nat_le 253402300799999 s.last ≡ false
 moment_left s (Put name kind bytes) now none = (no_causes (put_causes s name bytes) none).1.1.1.0
 moment_left s (Delete name) now none = (no_causes (delete_causes s name) none).1.1.0

@@ -76,7 +76,7 @@ pub ordered-unbind : {V : Type 0} (name : List ℕ) (m : Names V) → IsTrue (is
 ordered-unbind name [] h = refl
 ordered-unbind name (e ∷ m) h = rest_ordered name e m (by_bytes name e.0) h
 
--- the entries have the names of what is held
+-- the entries have the names of the held resources
 above-entries : (lower : List ℕ) (held : Names Held) → IsTrue (is_above lower held) → IsTrue (is_above lower (entries held))
 above-entries lower [] h = refl
 above-entries lower (e ∷ held) h = and_from _ _ (first_so _ _ h) (above-entries e.0 held (second_so (is_lt (by_bytes lower e.0)) _ h))
@@ -85,7 +85,7 @@ pub ordered-entries : (held : Names Held) → IsTrue (is_ordered held) → IsTru
 ordered-entries [] h = refl
 ordered-entries (e ∷ held) h = above-entries e.0 held h
 
--- each change of a mirror keeps the order
+-- every change of a mirror keeps the order
 ordered_applied : (facts : Option Facts) (change : Change) (m : Names Entry) → IsTrue (is_ordered m) → IsTrue (is_ordered (applied facts change m))
 ordered_applied (Some facts) change m h = ordered-bind change.name (record { facts = facts; moment = change.moment }) m h
 ordered_applied None change m h = ordered-unbind change.name m h

@@ -4,13 +4,13 @@ use Rattle.std.specs.Prelude.{List, [], ◌∷◌, Some, None}
 use Rattle.std.specs.declared.cmp.Ordering.TheVariants.{Less, Equal, Greater}
 use Rattle.rs_model.specs.Names.{Names, by_bytes, by_order, value_of, bind, unbind, IsFoundAt, IsMissingAt}
 
--- the name comes after each of the first entries
+-- the name comes after all of the first entries
 abbrev pub Passes : {V : Type 0} → List ℕ → Names V → ℕ → Type 0
 Passes name m zero = Unit {0}
 Passes name [] (suc i) = ⊥
 Passes name (e ∷ m) (suc i) = (by_bytes name e.0 ≡ Greater) × Passes name m i
 
--- what an entry that is compared does to a map of at least one entry
+-- a map of at least one entry, by the comparison of its first entry
 pub first_missing : {V : Type 0} (name : List ℕ) (x : List ℕ × V) (m : Names V) → by_bytes name x.0 ≡ Less → IsMissingAt (x ∷ m) name 0
 first_missing name x m l =
     record {

@@ -131,7 +131,7 @@ next_regular s (Delete name) t r after = delete_regular s name t r after
 next_regular s Publish t r after = publish_regular s t r after
 next_regular s (Group items) t r after = kept_in_turn IsRegular item_regular s items t r
 
--- a regular state has a number for each part that a publication keeps
+-- a regular state has a number for every part that a publication keeps
 pub parts_left : (s : Source) → IsRegular s → IsMoment s.at → is_out_of_parts s ≡ false
 parts_left s r m =
     let n : ℕ = passed_by s.at s.changes in
@@ -148,7 +148,7 @@ item_timely : (s : Source) (item : Item) (t : ℕ) → IsTimely s → s.last < t
 item_timely s (single.Put name kind bytes) t timely after = record { listed = timely.listed }
 item_timely s (single.Delete name) t timely after = record { listed = timely.listed }
 
--- what is listed is what was held, of moments up to the last one
+-- the listed resources are those that were held, of moments up to the last one
 pub next_timely : (s : Source) (command : Command) (t : ℕ) → IsRegular s → IsTimely s → s.last < t → IsTimely (next_state s command t)
 next_timely s (Put name kind bytes) t r timely after = item_timely s (single.Put name kind bytes) t timely after
 next_timely s (Delete name) t r timely after = item_timely s (single.Delete name) t timely after
@@ -162,7 +162,7 @@ if_accepted (Some refusal) next h = tt
 pub step_regular : (s : Source) (command : Command) (now : ℕ) → IsRegular s → IfOk (step s command now) (λ next. IsRegular next.0)
 step_regular s command now r = if_accepted (refusal_of s command now) _ (next_regular s command (moment_at s now) r (omega arith))
 
--- a refused command changes nothing
+-- a refused command leaves the state unchanged
 after_regular : (s : Source) (command : Command) (now : ℕ) (o : Option Refusal) → IsRegular s
     → IsRegular (state_after s (accepted_unless o (next_state s command (moment_at s now), reply_to s command (moment_at s now))))
 after_regular s command now None r = next_regular s command (moment_at s now) r (omega arith)

@@ -1,4 +1,4 @@
--- Room for what an accepted command adds.
+-- Room for the additions of an accepted command.
 use Rattle.std.proofs.Common.{◌≡◌, ℕ, suc, ◌+◌, ◌≤◌, ◌<◌, List, [], ◌∷◌, length, Bool, true, false, cond, refl, ap, arith, Option, Some, None, nat_le, nat_lt}
 use Rattle.std.specs.Prelude.{is_some, is_none, ◌&&◌}
 use Rattle.std.specs.List.{AllByRecursion}
@@ -24,7 +24,7 @@ grown : (b : Bool) (k n : ℕ) → k ≡ cond b (n + 1) n → suc k ≡ cond b (
 grown true k n h = omega arith
 grown false k n h = omega arith
 
--- what a test says that fails
+-- the bound that a failed test gives
 pub below_if : (a b : ℕ) → nat_le a b ≡ false → b < a
 below_if a b h = grind (arith, nat_tests)
 

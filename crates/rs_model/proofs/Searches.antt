@@ -12,7 +12,7 @@ use Rattle.std.specs.Cmp.{first_so, second_so}
 use Rattle.rs_model.proofs.OrderLemmas.{is_less, swapped, tail_ordered}
 use Rattle.rs_model.proofs.Places.{first_found, first_missing, later_found, later_missing, missing_all}
 
--- a name is below each of the ascending names above it
+-- a name is below all ascending names above it
 above_at : {V : Type 0} (lower : List ℕ) (m : Names V) (i : ℕ) (d : List ℕ × V) → IsTrue (is_above lower m) → i < length m → by_bytes lower (get_or m i d).0 ≡ Less
 above_at lower [] i d h k = absurd (omega arith)
 above_at lower (e ∷ m) zero d h k = is_less (by_bytes lower e.0) (first_so _ _ h)

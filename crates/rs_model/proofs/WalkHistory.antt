@@ -1,4 +1,4 @@
--- What all changes that a walk records make.
+-- The result of all changes that a walk records.
 use Rattle.std.proofs.Common.{◌≡◌, ℕ, suc, zero, ◌-◌, ◌*◌, ◌<◌, ◌≤◌, List, [], ◌∷◌, ◌++◌, Bool, true, false, cond, nat_lt, length, take, drop, refl, sym, ap, subst, ◌∙◌, arith, Option, Some, None, append_assoc, append-nil}
 use Rattle.std.specs.Prelude.{IsTrue}
 use Rattle.std.specs.List.{AllByRecursion}
@@ -30,12 +30,11 @@ use Rattle.rs_model.proofs.MirrorLemmas.{rises-append, mirror-append, mirror_bef
 use Rattle.rs_model.proofs.RegularLemmas.{changes_later}
 use Rattle.rs_model.proofs.WalkLemmas.{recorded-append, recorded_first, walk_records}
 
--- what comes past the changes of an earlier state
+-- the changes past those of an earlier state
 abbrev past : Source → Source → List Change
 past s t = drop (length s.changes) t.changes
 
--- What each item and each publish at a later moment keeps of all changes that were recorded and the state, each walk
--- keeps.
+-- A walk keeps a property of all recorded changes and the state, if items and publishes at a later moment keep it.
 record IsKept (P : List Change → Source → Type 0) : Type 0 where
   by_item : (h : List Change) (s : Source) (item : Item) (t : ℕ) → P h s → s.last < t → P (h ++ change_of s item t ∷ []) (after_item s item t)
   by_publish : (h : List Change) (s : Source) (t : ℕ) → P h s → s.last < t → P h (next_state s Publish t)
@@ -111,7 +110,8 @@ record AreInOrder (from : ℕ) (h : List Change) (s : Source) : Type 0 where
   rises : IsTrue (rises_from from h)
   latest : AllByRecursion (IsChangeUpTo s.last) h
 
--- The changes, of moments up to the last one, make what is held: from the formatting on, and from the publication on.
+-- The changes, of moments up to the last one, make the held resources: from the formatting on, and from the publication
+-- on.
 record AreAll (from : ℕ) (h : List Change) (s : Source) : Type 0 where
   start : from ≤ s.last
   at : s.at ≤ s.last
@@ -229,7 +229,7 @@ taken_past (x ∷ a) b (suc n) h =
     let e : n - length a ≡ suc n - suc (length a) = omega arith in
     ap (λ l. x ∷ l) (taken_past a b n (omega arith) ∙ ap (λ k. a ++ take k b) e)
 
--- what a walk records is what its first events record, and then the rest
+-- a walk records the changes that its first events record, and then the rest
 recorded_split : (s : Source) (events : List Event) (i : ℕ)
     → recorded s events ≡ recorded s (take i events) ++ recorded (state_at s events i) (drop i events)
 recorded_split s events i = ap (recorded s) (sym (take-append-drop i events)) ∙ recorded-append s (take i events) (drop i events)
@@ -268,7 +268,7 @@ all_in_both P (suc k) zero xs h = tt
 all_in_both P (suc k) (suc n) [] h = tt
 all_in_both P (suc k) (suc n) (x ∷ xs) h = (h.0, all_in_both P k n xs h.1)
 
--- what was dropped by a point of the walk is not after the moment at which its history begins
+-- the changes dropped by a point of the walk are not after the moment at which its history begins
 dropped_up_to : (base : List ℕ) (limit moment : ℕ) (events : List Event) (j : ℕ)
     → AllByRecursion (IsChangeUpTo (state_at (start_of base limit moment) events j).begin)
     (take ((state_at (start_of base limit moment) events j).first * limit) (recorded (start_of base limit moment) events))

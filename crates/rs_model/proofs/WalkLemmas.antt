@@ -62,7 +62,7 @@ event_more s (Stopped command now false) = none_more s
 event_more s Idle = none_more s
 event_more s Fetch = none_more s
 
--- what an event records
+-- the changes that an event records
 pub event_records : (s : Source) (event : Event) → KeepsChanges s (recorded_by s event) (after_event s event)
 event_records s event =
     let next : IsNext s (after_event s event) = event_more s event in
@@ -80,7 +80,7 @@ recorded-append s (event ∷ a) b =
     ap (λ l. recorded_by s event ++ l) (recorded-append (after_event s event) a b)
     ∙ sym (append_assoc (recorded_by s event) (recorded (after_event s event) a) (recorded (walk_of (after_event s event) a) b))
 
--- what is recorded by the first i events comes first
+-- the changes recorded by the first i events come first
 pub recorded_first : (s : Source) (events : List Event) (i : ℕ) → take (count_at s events i) (recorded s events) ≡ recorded s (take i events)
 recorded_first s events i =
     ap (take (count_at s events i)) (ap (recorded s) (sym (take-append-drop i events)) ∙ recorded-append s (take i events) (drop i events))

@@ -1,4 +1,4 @@
--- How a group is decided from a few facts of a state.
+-- The decision on a group, from a few facts of a state.
 use Rattle.std.specs.Prelude.{◌≡◌, ℕ, ◌+◌, ◌-◌, Bool, true, false, not, ◌&&◌, nat_lt, nat_le, max, IsTrue, List, [], ◌∷◌, length, map, Option, Some, if◌then◌else◌}
 use Rattle.rs_time.specs.Moment.{greatest}
 use Rattle.rs_record.specs.Limits.{longest_body}
@@ -17,8 +17,8 @@ abbrev pub name_of : Item → List ℕ
 name_of (single.Put name kind bytes) = name
 name_of (single.Delete name) = name
 
--- The facts of a state whose names are in order: which of these items' names are held, how many resources and changes
--- it has, and the moment of its last command.
+-- The facts of a state whose names are in order: whether the names of these items are held, the number of resources and
+-- of changes, and the moment of the last command.
 pub record IsBefore (s : Source) (items : List Item) (held : List Bool) (counts : Counts) : Type 0 where
   pub ordered : IsTrue (is_ordered s.held)
   pub held_is : held ≡ map (λ item. is_held s (name_of item)) items
@@ -36,27 +36,27 @@ abbrev pub held_after : List Item → Bool → List ℕ → Bool
 held_after [] held name = held
 held_after (item ∷ items) held name = held_after items (if is_eq (by_bytes name (name_of item)) then leaves_held item else held) name
 
--- why a change that the resources allow is refused, from the facts
+-- the refusal of a change that the resources allow, from the facts
 abbrev pub change_refusal_by : Counts → Option Refusal
 change_refusal_by counts = first_cause ((nat_le most_changes counts.changes, TooManyChanges) ∷ (nat_le greatest counts.last, Exhausted) ∷ [])
 
--- why a put is refused, from the facts and whether its name is held
+-- the refusal of a put, from the facts and whether its name is held
 abbrev pub put_refusal_by : List ℕ → Bool → Counts → Option Refusal
 put_refusal_by bytes held counts =
     if nat_lt longest_body (length bytes) then Some TooLong else
     if not held && nat_le most_resources counts.resources then Some TooManyResources else
     change_refusal_by counts
 
--- why a delete is refused
+-- the refusal of a delete
 abbrev pub delete_refusal_by : Bool → Counts → Option Refusal
 delete_refusal_by held counts = if held then change_refusal_by counts else Some NotHeld
 
--- why an item is refused
+-- the refusal of an item
 abbrev pub item_refusal_by : Item → Bool → Counts → Option Refusal
 item_refusal_by (single.Put name kind bytes) held counts = put_refusal_by bytes held counts
 item_refusal_by (single.Delete name) held counts = delete_refusal_by held counts
 
--- how many resources are held after an item
+-- the number of resources held after an item
 abbrev pub resources_after : Item → Bool → ℕ → ℕ
 resources_after (single.Put name kind bytes) held resources = if held then resources else resources + 1
 resources_after (single.Delete name) held resources = resources - 1

@@ -1,10 +1,10 @@
--- What later commands leave of the changes of a state.
+-- The changes of a state after later commands.
 use Rattle.std.specs.Prelude.{ℕ, ◌≡◌, ◌≤◌, ◌-◌, ◌*◌, List, ◌++◌, length, take, drop}
 use Rattle.rs_record.specs.declared.change.Change.{Change}
 use Rattle.rs_record.specs.Changes.{last_moment}
 use Rattle.rs_model.specs.State.{Source}
 
--- how many changes the later state has dropped: the parts by which its first number is higher
+-- the number of changes that the later state has dropped: the parts by which its first number is higher
 abbrev pub gone_between : Source → Source → ℕ
 gone_between s t = (t.first - s.first) * s.limit
 

@@ -1,4 +1,4 @@
--- What every state keeps: lawful values, moments that exist, room, and names in order.
+-- The invariant of every state: lawful values, moments that exist, room, and names in order.
 use Rattle.std.specs.Prelude.{ℕ, ◌<◌, ◌≤◌, ◌^◌, IsTrue, List, length, IfSome}
 use Rattle.std.specs.List.{AllByRecursion}
 use Rattle.rs_time.specs.Moment.{IsMoment, greatest}
@@ -40,7 +40,7 @@ pub record IsChange (c : Change) : Type 0 where
   pub facts : IfSome c.facts AreFacts
   pub moment : IsMoment c.moment
 
--- what every state keeps
+-- the invariant of every state
 pub record IsLawful (s : Source) : Type 0 where
   pub base : IsTrue (is_base s.base)
   pub low : 2 ≤ s.limit
@@ -72,6 +72,6 @@ IsLawfulCommand (Delete name) = IsTrue (is_name name)
 IsLawfulCommand Publish = Unit {0}
 IsLawfulCommand (Group items) = AllByRecursion IsLawfulItem items
 
--- such a command at a moment
+-- a lawful command at a moment
 abbrev pub IsLawfulTimed : Command × ℕ → Type 0
 IsLawfulTimed timed = IsLawfulCommand timed.0 × IsMoment timed.1

@@ -1,4 +1,4 @@
--- What follows from the definitions of a source.
+-- Consequences of the definitions of a source.
 use Rattle.std.specs.Prelude.{◌≡◌, ◌≢◌, ℕ, ◌+◌, ◌≤◌, List, [], ◌∷◌, ◌++◌, length, take, Some, None, Result, Ok, Err, IfOk, IsTrue, true, false}
 use Rattle.std.specs.List.{AllByRecursion}
 use Rattle.rs_time.specs.Moment.{IsMoment}
@@ -37,7 +37,7 @@ FoldIsRegular = (s : Source) (commands : List (Command × ℕ)) → IsRegular s 
 abbrev pub FoldIsTimely : Type 0
 FoldIsTimely = (s : Source) (commands : List (Command × ℕ)) → IsRegular s → IsTimely s → IsTimely (fold_of s commands)
 
--- Whatever commands come, the changes are the earlier ones and then others, without the dropped parts.
+-- After any commands, the changes are the earlier ones and then others, without the dropped parts.
 abbrev pub ChangesAreKept : Type 0
 ChangesAreKept = (s : Source) (commands : List (Command × ℕ)) → (more : List Change) × KeepsChanges s more (fold_of s commands)
 
@@ -76,7 +76,7 @@ abbrev pub OthersStayUnbound : Type 0 → Type 0
 OthersStayUnbound V = (name other : List ℕ) (m : Names V) → name ≢ other → IsTrue (is_ordered m)
     → value_of other (unbind name m) ≡ value_of other m
 
--- What is formatted with a lawful base, limit and moment is lawful.
+-- A source formatted with a lawful base, limit and moment is lawful.
 abbrev pub StartIsLawful : Type 0
 StartIsLawful = (base : List ℕ) (limit moment : ℕ) → IsTrue (is_base base) → 2 ≤ limit → limit ≤ 4000 → IsMoment moment
     → IsLawful (start_of base limit moment)
@@ -96,12 +96,12 @@ abbrev pub command_of : Item → Command
 command_of (single.Put name kind bytes) = Put name kind bytes
 command_of (single.Delete name) = Delete name
 
--- the answer to a group of n items at this moment, by what its items did in turn
+-- the answer to a group of n items at this moment, by the result of its items in turn
 abbrev pub grouped_as : ℕ → ℕ → Result Source Refusal → Result (Source × Reply) Refusal
 grouped_as n moment (Ok next) = Ok (next, Grouped n moment)
 grouped_as n moment (Err refusal) = Err refusal
 
--- what follows an accepted command
+-- another step after an accepted command; a refusal stays
 abbrev pub after_step : (Source → Result Source Refusal) → Result (Source × Reply) Refusal → Result Source Refusal
 after_step then (Ok next) = then next.0
 after_step then (Err refusal) = Err refusal
@@ -111,8 +111,8 @@ abbrev pub stepped_in_turn : Source → List Item → ℕ → Result Source Refu
 stepped_in_turn s [] now = Ok s
 stepped_in_turn s (item ∷ items) now = after_step (λ t. stepped_in_turn t items now) (step s (command_of item) now)
 
--- A group of 1 to 16 items does what its items do as commands in turn, all at the same moment. It is refused as the
--- first refused item is.
+-- A group of 1 to 16 items has the effect of its items as commands in turn, all at the same moment. It is refused as
+-- the first refused item is.
 abbrev pub GroupsStepInTurn : Type 0
 GroupsStepInTurn = (s : Source) (items : List Item) (now : ℕ) → is_bad_group items ≡ false
     → step s (Group items) now ≡ grouped_as (length items) (moment_at s now) (stepped_in_turn s items now)
@@ -131,12 +131,12 @@ abbrev pub FrontsMakeTheFirst : Type 0
 FrontsMakeTheFirst = (s : Source) (items : List Item) (now k : ℕ)
     → (after_items s (take k items) now).changes ≡ take (length s.changes + k) (after_items s items now).changes
 
--- Each item makes one change.
+-- Every item makes one change.
 abbrev pub ItemsMakeChanges : Type 0
 ItemsMakeChanges = (s : Source) (items : List Item) (now : ℕ)
     → (made : List Change) × (length made ≡ length items) × ((after_items s items now).changes ≡ s.changes ++ made)
 
--- A group that comes at the moment at which it is accepted does what it does now.
+-- A group has the same refusal and the same effect if it comes at the moment at which it is accepted.
 abbrev pub GroupsComeAtTheirMoment : Type 0
 GroupsComeAtTheirMoment = (s : Source) (items : List Item) (now : ℕ)
     → (refusal_of s (Group items) (moment_at s now) ≡ refusal_of s (Group items) now)

@@ -20,6 +20,6 @@ record_of e =
 abbrev pub entry_of : Record → List ℕ × Entry
 entry_of r = (r.name, record { facts = facts_in r; moment = r.moment })
 
--- each is the record of its entry, so that none has blocks
+-- every record is that of its entry, so no record has blocks
 abbrev pub AreListed : List Record → Type 0
 AreListed records = records ≡ map record_of (map entry_of records)

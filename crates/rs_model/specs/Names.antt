@@ -9,7 +9,7 @@ use Rattle.std.specs.declared.cmp.Ordering.TheVariants.{Less, Equal, Greater}
 abbrev pub by_bytes : List ℕ → List ℕ → Ordering
 by_bytes = slice_cmp nat_cmp
 
--- a map: each name with its value
+-- a map: names with their values
 abbrev pub Names : Type 0 → Type 0
 Names V = List (List ℕ × V)
 
@@ -34,7 +34,7 @@ abbrev pub unbind : {V : Type 0} → List ℕ → Names V → Names V
 unbind name [] = []
 unbind name (e ∷ m) = by_order (by_bytes name e.0) (e ∷ m) m (e ∷ unbind name m)
 
--- each value changed
+-- all values changed
 abbrev pub map_values : {V W : Type 0} → (V → W) → Names V → Names W
 map_values f m = map (λ e. (e.0, f e.1)) m
 
@@ -62,7 +62,7 @@ pub record IsMissingAt {V : Type 0} (m : Names V) (name : List ℕ) (i : ℕ) : 
   pub bound : (v : V) → bind name v m ≡ insert m i (name, v)
   pub unbound : unbind name m ≡ m
 
--- where a name stands, or else where it would stand
+-- the place of a name, or else the place that it would get
 abbrev pub IsPlaceOf : {V : Type 0} → Names V → List ℕ → Result ℕ ℕ → Type 0
 IsPlaceOf m name (Ok i) = IsFoundAt m name i
 IsPlaceOf m name (Err i) = IsMissingAt m name i

@@ -1,4 +1,4 @@
--- Regular states, and what else every run of commands keeps.
+-- Regular states, and the other invariant of every run of commands.
 use Rattle.std.specs.Prelude.{ℕ, ◌≡◌, ◌<◌, ◌≤◌, ◌-◌, Bool, true, ◌&&◌, nat_lt, IsTrue, List, [], ◌∷◌}
 use Rattle.std.specs.List.{AllByRecursion}
 use Rattle.rs_record.specs.declared.change.Change.{Change}
@@ -38,10 +38,11 @@ pub record AreUpTo (last : ℕ) (s : Source) : Type 0 where
 abbrev pub IsAfter : ℕ → Change → Type 0
 IsAfter moment c = moment < c.moment
 
--- A regular state. What is held has the facts of its bytes. The changes rise strictly. The publication is between
--- formatting and the last command, and no moment is above that command's. The kept history begins between formatting
--- and the publication, and all its changes are after its begin. At most as many parts were dropped as there are moments
--- from formatting to the begin. What was published, followed by the changes after it, gives what is held.
+-- A regular state. The held resources have the facts of their bytes. The changes rise strictly. The publication is
+-- between formatting and the last command, and no moment is above that command's. The kept history begins between
+-- formatting and the publication, and all its changes are after its begin. At most as many parts were dropped as there
+-- are moments from formatting to the begin. The published list, followed by the changes after it, gives the held
+-- resources.
 pub record IsRegular (s : Source) : Type 0 where
   pub sound : AllByRecursion IsSound s.held
   pub rising : IsTrue (is_rising s.changes)
@@ -54,6 +55,6 @@ pub record IsRegular (s : Source) : Type 0 where
   pub after : AllByRecursion (IsAfter s.begin) s.changes
   pub mirrored : mirror_of s.listed s.at s.changes ≡ entries s.held
 
--- What else every run keeps: no listed resource is later than its publication.
+-- The other invariant of every run: no listed resource is later than its publication.
 pub record IsTimely (s : Source) : Type 0 where
   pub listed : AllByRecursion (IsUpTo s.at) s.listed

@@ -1,4 +1,4 @@
--- What a source is: the resources held, the changes and the latest publication.
+-- A source: the resources held, the changes and the latest publication.
 use Rattle.std.specs.Prelude.{ℕ, List, [], length, Option, option_map}
 use Rattle.rs_record.specs.declared.facts.Facts.{Facts}
 use Rattle.rs_record.specs.declared.change.Change.{Change}
@@ -20,9 +20,9 @@ most_changes = most_items
 abbrev pub most_grouped : ℕ
 most_grouped = 16
 
--- A source: its base and item limit, the moments of its formatting and of its latest accepted command, what is held,
--- the kept changes in the order in which they came, its latest publication, and where the kept history begins: the
--- number of its first part, and the moment of the last change before it, or of formatting.
+-- A source: its base and item limit, the moments of its formatting and of its latest accepted command, the held
+-- resources, the kept changes in the order in which they came, its latest publication, and where the kept history
+-- begins: the number of its first part, and the moment of the last change before it, or of formatting.
 pub record Source : Type 0 where
   pub base : List ℕ
   pub limit : ℕ
@@ -36,11 +36,11 @@ pub record Source : Type 0 where
   pub first : ℕ
   pub begin : ℕ
 
--- what is known of a body: its type, its length and its digests
+-- the facts of a body: its type, its length and its digests
 abbrev pub facts_of : List ℕ → List ℕ → Facts
 facts_of kind bytes = record { kind = kind; length = length bytes; digests = digests bytes }
 
--- the entries of what is held
+-- the entries of the held resources
 abbrev pub entries : Names Held → Names Entry
 entries held = map_values (λ h. h.entry) held
 
@@ -48,7 +48,7 @@ entries held = map_values (λ h. h.entry) held
 abbrev pub body_of : List ℕ → Source → Option (List ℕ)
 body_of name s = option_map (λ h. h.bytes) (value_of name s.held)
 
--- a source formatted at this moment: nothing held, no changes, and the empty list published as number 0
+-- a source formatted at this moment: no held resources, no changes, and the empty list published as number 0
 abbrev pub start_of : List ℕ → ℕ → ℕ → Source
 start_of base limit moment =
     record {

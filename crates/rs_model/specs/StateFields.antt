@@ -1,4 +1,4 @@
--- The source of a state's fields, and what the fields keep.
+-- The source of a state's fields, and the invariant of the fields.
 use Rattle.std.specs.Prelude.{map}
 use Rattle.rs_model.specs.declared.state.State.TheInside.{Inside}
 use Rattle.rs_model.specs.State.{Source}

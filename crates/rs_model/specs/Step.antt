@@ -30,16 +30,16 @@ is_held s name = is_some (value_of name s.held)
 abbrev pub is_out_of_moments : Source → Bool
 is_out_of_moments s = nat_le greatest s.last
 
--- how many of the changes, from the first on, are not after this moment
+-- the number of changes, from the first on, that are not after this moment
 abbrev pub passed_by : ℕ → List Change → ℕ
 passed_by moment [] = 0
 passed_by moment (c ∷ cs) = if nat_le c.moment moment then suc (passed_by moment cs) else 0
 
--- How many parts a publication drops: the full ones whose last change is not after the publication before it.
+-- The number of parts that a publication drops: the full ones whose last change is not after the publication before it.
 abbrev pub dropped_parts : Source → ℕ
 dropped_parts s = passed_by s.at s.changes / s.limit
 
--- how many changes these parts have
+-- the number of changes in these parts
 abbrev pub dropped_changes : Source → ℕ
 dropped_changes s = dropped_parts s * s.limit
 
@@ -59,16 +59,16 @@ put_causes s name bytes =
     ∷ (is_none (value_of name s.held) && nat_le most_resources (length s.held), TooManyResources)
     ∷ (has_all_changes s, TooManyChanges) ∷ (is_out_of_moments s, Exhausted) ∷ []
 
--- Those of a delete: a name that is not held, then the same of changes and moments.
+-- The causes of a delete: a name that is not held, then the same causes of changes and moments.
 abbrev pub delete_causes : Source → List ℕ → List (Bool × Refusal)
 delete_causes s name =
     (is_none (value_of name s.held), NotHeld) ∷ (has_all_changes s, TooManyChanges) ∷ (is_out_of_moments s, Exhausted) ∷ []
 
--- Those of a publish: no moment or no number is left, of publications or of parts.
+-- The causes of a publish: no moment or no number is left, of publications or of parts.
 abbrev pub publish_causes : Source → List (Bool × Refusal)
 publish_causes s = (is_out_of_moments s, Exhausted) ∷ (nat_le (2 ^ 64) (s.number + 1), Exhausted) ∷ (is_out_of_parts s, Exhausted) ∷ []
 
--- Those of an item of a group: of the command that it would be alone.
+-- The causes of an item of a group: those of the command that it would be alone.
 abbrev pub item_causes : Source → Item → List (Bool × Refusal)
 item_causes s (single.Put name kind bytes) = put_causes s name bytes
 item_causes s (single.Delete name) = delete_causes s name
@@ -94,23 +94,23 @@ after_put s name kind bytes t =
 abbrev pub after_delete : Source → List ℕ → ℕ → Source
 after_delete s name t = record s { last = t; held = unbind name s.held; changes = s.changes ++ deleted name t ∷ [] }
 
--- the state after an item at its moment: that after the command that it would be alone
+-- the state after an item at its moment: the state after the command that it would be alone
 abbrev pub after_item : Source → Item → ℕ → Source
 after_item s (single.Put name kind bytes) t = after_put s name kind bytes t
 after_item s (single.Delete name) t = after_delete s name t
 
--- the state after these items in their order, all of which come at `now`, so that each has a moment of its own
+-- the state after these items in their order; all come at `now`, so every item gets a moment of its own
 abbrev pub after_items : Source → List Item → ℕ → Source
 after_items s [] now = s
 after_items s (item ∷ items) now = after_items (after_item s item (moment_at s now)) items now
 
--- the causes for which items in their order are refused, all of which come at `now`: those of each in the state after
--- the ones before it
+-- the causes for which items in their order are refused; all come at `now`, and the causes of an item are those in the
+-- state after the items before it
 abbrev pub items_causes : Source → List Item → ℕ → List (Bool × Refusal)
 items_causes s [] now = []
 items_causes s (item ∷ items) now = item_causes s item ++ items_causes (after_item s item (moment_at s now)) items now
 
--- a group has 1 to 16 items
+-- a bad group: it does not have 1 to 16 items
 abbrev pub is_bad_group : List Item → Bool
 is_bad_group items = not (nat_le 1 (length items) && nat_le (length items) most_grouped)
 
@@ -122,11 +122,11 @@ causes s (Delete name) now = delete_causes s name
 causes s Publish now = publish_causes s
 causes s (Group items) now = (is_bad_group items, BadGroup) ∷ items_causes s items now
 
--- why the command that comes at `now` is refused, if it is
+-- the refusal of the command that comes at `now`, if it is refused
 abbrev pub refusal_of : Source → Command → ℕ → Option Refusal
 refusal_of s command now = first_cause (causes s command now)
 
--- why a put or a delete that the resources allow is refused: all changes are kept, or no moment is left
+-- the refusal of a put or a delete that the resources allow: all changes are kept, or no moment is left
 abbrev pub change_refusal : Source → Option Refusal
 change_refusal s = first_cause ((has_all_changes s, TooManyChanges) ∷ (is_out_of_moments s, Exhausted) ∷ [])
 
@@ -164,12 +164,12 @@ step s command now =
     let t = moment_at s now in
     accepted_unless (refusal_of s command now) (next_state s command t, reply_to s command t)
 
--- the state that an answer leaves: the next one, or the same where the command is refused
+-- the state after an answer: the next one, or the same where the command is refused
 abbrev pub state_after : Source → Result (Source × Reply) Refusal → Source
 state_after s (Ok next) = next.0
 state_after s (Err refusal) = s
 
--- the state after these commands in their order, each with the moment at which it comes; refused ones are skipped
+-- the state after these commands in their order, at the moments at which they come; refused ones are skipped
 abbrev pub fold_of : Source → List (Command × ℕ) → Source
 fold_of s [] = s
 fold_of s (c ∷ commands) = fold_of (state_after s (step s c.0 c.1)) commands
@@ -183,7 +183,7 @@ applied None change m = unbind change.name m
 abbrev pub mirror_step : ℕ → Change → Names Entry → Names Entry
 mirror_step at change m = if nat_lt at change.moment then applied change.facts change m else m
 
--- the listed entries, changed by each of these changes that is after the moment of the list, in their order
+-- the listed entries, changed in order by every one of these changes that is after the moment of the list
 abbrev pub mirror_of : Names Entry → ℕ → List Change → Names Entry
 mirror_of listed at [] = listed
 mirror_of listed at (change ∷ changes) = mirror_of (mirror_step at change listed) at changes

@@ -1,4 +1,4 @@
--- Walks: what may happen to a source while its documents are read, and what is recorded on the way.
+-- Walks: the possible events of a source while its documents are read, and the changes recorded on the way.
 use Rattle.std.specs.Prelude.{ℕ, suc, ◌<◌, ◌≤◌, ◌≡◌, ◌⊎◌, if◌then◌else◌, List, [], ◌∷◌, ◌++◌, length, take, drop}
 use Rattle.std.specs.List.{AllByRecursion}
 use Rattle.rs_record.specs.declared.change.Change.{Change}
@@ -12,7 +12,7 @@ use Rattle.rs_model.specs.Step.{step, state_after, mirror_of}
 use Rattle.rs_model.specs.Lawful.{IsLawfulTimed}
 
 -- The state after an event. A tried command makes its step, or is refused. So does a command within which the source
--- stopped, if the command stands. All other events change nothing.
+-- stopped, if the command was applied. All other events leave the state as it is.
 abbrev pub after_event : Source → Event → Source
 after_event s (Tried command now) = state_after s (step s command now)
 after_event s (Refused command) = s
@@ -42,7 +42,7 @@ abbrev pub commands_of : List Event → List (Command × ℕ)
 commands_of [] = []
 commands_of (event ∷ events) = done_by event ++ commands_of events
 
--- what an event does is lawful
+-- the commands that an event does are lawful
 abbrev pub IsLawfulEvent : Event → Type 0
 IsLawfulEvent event = AllByRecursion IsLawfulTimed (done_by event)
 
@@ -55,11 +55,11 @@ abbrev pub recorded : Source → List Event → List Change
 recorded s [] = []
 recorded s (event ∷ events) = recorded_by s event ++ recorded (after_event s event) events
 
--- how many changes are recorded by the first i events
+-- the number of changes recorded by the first i events
 abbrev pub count_at : Source → List Event → ℕ → ℕ
 count_at s events i = length (recorded s (take i events))
 
--- the catalogue after n changes: what the first n recorded changes make of the empty map at the start
+-- the catalogue after n changes: the result of the first n recorded changes from the empty map at the start
 abbrev pub catalogue : Source → List Event → ℕ → Names Entry
 catalogue s events n = mirror_of [] s.start (take n (recorded s events))
 

@@ -1,4 +1,4 @@
--- What follows from the definition of a walk.
+-- Consequences of the definition of a walk.
 use Rattle.std.specs.Prelude.{◌≡◌, ℕ, ◌≤◌, ◌*◌, List, length, take, drop}
 use Rattle.std.specs.List.{AllByRecursion}
 use Rattle.rs_model.specs.declared.event.Event.{Event}
@@ -8,7 +8,7 @@ use Rattle.rs_model.specs.LaterChanges.{KeepsChanges}
 use Rattle.rs_model.specs.Lawful.{IsLawful}
 use Rattle.rs_model.specs.Walk.{walk_of, state_at, commands_of, IsLawfulEvent, recorded, count_at, catalogue, IsPassed}
 
--- The state of a walk is what its done commands leave, in their order.
+-- The state after a walk is the one after its done commands, in their order.
 abbrev pub WalksAreFolds : Type 0
 WalksAreFolds = (s : Source) (events : List Event) → walk_of s events ≡ fold_of s (commands_of events)
 
@@ -21,14 +21,14 @@ WalksStayLawful =
 abbrev pub ChangesAreRecorded : Type 0
 ChangesAreRecorded = (s : Source) (events : List Event) → KeepsChanges s (recorded s events) (walk_of s events)
 
--- What is held after a walk from a formatting is the catalogue after all changes that it recorded, ..
+-- The resources held after a walk from a formatting are the catalogue after all changes that it recorded, ..
 abbrev pub HeldIsCatalogued : Type 0
 HeldIsCatalogued =
     (base : List ℕ) (limit moment : ℕ) (events : List Event)
     → let s = start_of base limit moment in
     entries (walk_of s events).held ≡ catalogue s events (length (recorded s events))
 
--- .. and what was held after its first i events is the one after those recorded by then.
+-- .. and those held after its first i events are the one after the changes recorded by then.
 abbrev pub HeldThenIsCatalogued : Type 0
 HeldThenIsCatalogued =
     (base : List ℕ) (limit moment : ℕ) (events : List Event) (i : ℕ)
@@ -55,7 +55,7 @@ KeptListIsFollowed =
     count_at s events i ≤ n → kept.begin ≤ list.at
     → mirror_of list.listed list.at (drop (kept.first * limit) (take n (recorded s events))) ≡ catalogue s events n
 
--- Between two points of a walk, each number of changes between theirs is passed, perhaps within a group.
+-- Between two points of a walk, every number of changes between theirs is passed, perhaps within a group.
 abbrev pub EachCountIsPassed : Type 0
 EachCountIsPassed =
     (s : Source) (events : List Event) (first last n : ℕ) → first ≤ last

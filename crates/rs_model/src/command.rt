@@ -30,7 +30,7 @@ pub enum Item {
 }
 
 impl Item {
-    /// The name that it binds or unbinds.
+    /// Returns the name that it binds or unbinds.
     pub fn name(&self) -> &Name
         ensures { result.now ≡ name_of self.now }
     {
@@ -72,21 +72,21 @@ impl Model for Group {
 }
 
 impl Group {
-    /// The group of these items, in this order.
+    /// Returns the group of these items, in this order.
     pub fn new(items: Vec<Item>) -> Group
         ensures { result ≡ items.items }
     {
         Group { items }
     }
 
-    /// Its items, in their order.
+    /// Returns its items, in their order.
     pub fn items(&self) -> &[Item]
         ensures { result.now ≡ self.now }
     {
         self.items.as_slice()
     }
 
-    /// Its items, moved out.
+    /// Moves out its items.
     pub(crate) fn into_items(self) -> Vec<Item>
         ensures { result.items ≡ self }
     {
@@ -101,7 +101,7 @@ impl Duplicate for Group {
     }
 }
 
-/// What a depositor asks of a source.
+/// A request of a depositor to a source.
 #[derive(Debug, Drop)]
 pub enum Command {
     /// Bind the name to these bytes, of this media type. This creates the resource, or updates it where the name is
@@ -147,14 +147,14 @@ pub enum Reply {
     Updated(Moment),
     /// The name is no longer held.
     Deleted(Moment),
-    /// The publication of this number lists what is held.
+    /// The publication of this number lists the held resources.
     Published(u64, Moment),
     /// This number of items of a group is done, the first at this moment.
     Grouped(u8, Moment),
 }
 
-/// Why a source refuses a command. Where several causes hold, the answer is the first in this order. A refused command
-/// changes nothing and uses up no moment.
+/// The cause for which a source refuses a command. Where several causes hold, the answer is the first in this order. A
+/// refused command leaves the state unchanged and uses up no moment.
 #[derive(Clone, Copy, Debug, PartialEq, Eq, Error)]
 pub enum Refusal {
     /// A group of no items, or of more than 16.
@@ -178,7 +178,7 @@ pub enum Refusal {
     Exhausted,
 }
 
-/// Why a step failed.
+/// The cause for which a step failed.
 #[derive(Clone, Copy, Debug, PartialEq, Eq, Error)]
 pub enum StepError {
     /// The source does not accept the command.

@@ -1,4 +1,4 @@
-//! What a destination that follows a source has.
+//! The mirror of a destination that follows a source.
 
 ghost use Rattle.std.specs.Prelude.{◌≡◌, IfOk, OnOk};
 ghost use Rattle.rs_model.specs.Step.{mirror_of, mirror_step};
@@ -9,10 +9,11 @@ use rs_record::{Change, Duplicate, Facts, Name, duplicate_all};
 use rs_time::Moment;
 use std::alloc::{AllocError, Global};
 
-/// What a destination has after it took over the list `listed` of the moment `at` and followed the changes. Each change
-/// after that moment, in order, binds its name to its facts and moment, or unbinds it where it was deleted.
+/// Returns the mirror of a destination that took over the list `listed` of the moment `at` and followed the changes.
+/// Every change after that moment, in order, binds its name to its facts and moment, or unbinds it where it was
+/// deleted.
 ///
-/// Changes at or before `at` are skipped. Each change scans the map.
+/// Changes at or before `at` are skipped. Every change scans the map.
 pub fn mirror(
     alloc: Global,
     listed: &[(Name, Entry)],

@@ -1,4 +1,4 @@
-//! What may happen to a source while a destination reads its documents.
+//! The events of a source while a destination reads its documents.
 
 ghost use Rattle.std.specs.Prelude.{◌≡◌, IfOk, OnOk};
 ghost use Rattle.rs_model.specs.Walk.{after_event, walk_of};
@@ -8,7 +8,7 @@ use rs_record::Duplicate;
 use rs_time::Moment;
 use std::alloc::{AllocError, Global};
 
-/// What may happen between two fetches of a destination, and the fetches themselves.
+/// An event between two fetches of a destination, or a fetch.
 #[derive(Debug, Drop)]
 pub enum Event {
     /// A command came at this moment, and the source did it or refused it.
@@ -16,7 +16,7 @@ pub enum Event {
     /// The machine refused a command, for want of memory or room. It is not done.
     Refused(Command),
     /// The source stopped within a command that came at this moment, and was opened again. The flag says whether the
-    /// command stands: a crash may leave either.
+    /// command was applied: a crash may leave either.
     Stopped(Command, Moment, bool),
     /// The source stopped between two commands, and was opened again.
     Idle,
@@ -24,7 +24,7 @@ pub enum Event {
     Fetch,
 }
 
-/// The state after these events, in their order.
+/// Returns the state after these events, in their order.
 ///
 /// # Errors
 ///

@@ -1,4 +1,4 @@
-//! Whether a group is accepted, decided before its step.
+//! The decision whether a group is accepted, before its step.
 
 ghost use Rattle.std.specs.Prelude.{◌≡◌, ◌+◌, ◌<◌, max, None};
 ghost use Rattle.rs_time.specs.Moment.{IsMoment, greatest};
@@ -11,19 +11,19 @@ use crate::{Body, Item, MOST_GROUPED, Refusal};
 use rs_record::{LONGEST_BODY, MOST_ITEMS, Name};
 use rs_time::Moment;
 
-/// What decides a group, besides which names the state holds.
+/// The facts that decide a group, apart from the names that the state holds.
 #[derive(Clone, Copy, Debug, PartialEq, Eq)]
 pub struct Counts {
-    /// How many resources are held.
+    /// The number of resources that are held.
     pub resources: usize,
-    /// How many changes are kept.
+    /// The number of changes that are kept.
     pub changes: usize,
     /// The moment of the last accepted command.
     pub last: Moment,
 }
 
 impl Counts {
-    /// Why an item is refused, if it is. `held` says whether its name is held.
+    /// Returns the refusal of an item, if it is refused. `held` says whether its name is held.
     fn item_refusal(&self, item: &Item, held: bool) -> Option<Refusal>
         ensures { result ≡ item_refusal_by item.now held self.now }
     {
@@ -33,7 +33,8 @@ impl Counts {
         }
     }
 
-    /// Why a put of this body is refused, if it is. `held` says whether its name is held.
+    /// Returns the refusal of a put of this body, if it is refused. `held` says whether its name is
+    /// held.
     pub(crate) fn put_refusal(&self, bytes: &Body, held: bool) -> Option<Refusal>
         ensures { result ≡ put_refusal_by bytes.now held self.now }
     {
@@ -46,7 +47,7 @@ impl Counts {
         }
     }
 
-    /// Why a delete is refused, if it is. `held` says whether its name is held.
+    /// Returns the refusal of a delete, if it is refused. `held` says whether its name is held.
     pub(crate) fn delete_refusal(&self, held: bool) -> Option<Refusal>
         ensures { result ≡ delete_refusal_by held self.now }
     {
@@ -57,7 +58,7 @@ impl Counts {
         }
     }
 
-    /// Why any change is refused, if it is: no room, or no moment, is left for it.
+    /// Returns the refusal of any change, if it is refused: no room, or no moment, is left for it.
     fn change_refusal(&self) -> Option<Refusal>
         ensures { result ≡ change_refusal_by self.now }
     {
@@ -88,9 +89,9 @@ impl Counts {
     }
 }
 
-/// Why a state with these counts refuses a group of these items at `now`, if it does: for the first cause of the first
-/// refused item, where each item is stepped in the state after the ones before it. `held` says of each item whether its
-/// name is held before the group. It takes no memory.
+/// Returns the cause for which a state with these counts refuses a group of these items at `now`, if it does: the first
+/// cause of the first refused item, where every item is stepped in the state after the items before it. `held` says for
+/// every item whether its name is held before the group. It takes no memory.
 pub fn group_refusal(items: &[Item], held: &[bool], counts: Counts, now: Moment) -> Option<Refusal>
     ensures { (s : Source) → IsBefore s items.now held.now counts
         → result ≡ refusal_of s (Group items.now) now }
@@ -110,7 +111,7 @@ pub fn group_refusal(items: &[Item], held: &[bool], counts: Counts, now: Moment)
     None
 }
 
-/// Whether the name is held after these items. `held` says whether it is held before them.
+/// Returns whether the name is held after these items. `held` says whether it is held before them.
 fn is_held_after(items: &[Item], held: bool, name: &Name) -> bool
     ensures { result ≡ held_after items.now held name.now }
 {
@@ -123,7 +124,7 @@ fn is_held_after(items: &[Item], held: bool, name: &Name) -> bool
     held
 }
 
-/// The moment of an accepted command that comes at `now`, after one at `last`.
+/// Returns the moment of an accepted command that comes at `now`, after one at `last`.
 pub(crate) fn next_moment(last: Moment, now: Moment) -> Moment
     requires { last < greatest }
     ensures value { result ≡ max now (last + 1) }

@@ -1,6 +1,6 @@
 //! Laws of the definitions that the contracts cite.
 //!
-//! Each function here does nothing: its contract is the law, which the check proves.
+//! The functions here have no effect: their contracts are the laws, which the check proves.
 
 ghost use Rattle.std.specs.Prelude.{ℕ, List};
 ghost use Rattle.rs_model.specs.State.{start_of};
@@ -19,8 +19,8 @@ pub fn step_is_regular()
     ensures timely { StepIsTimely }
 {}
 
-/// A group of 1 to 16 items does what its items do one by one, all at the same moment. It is refused as the first
-/// refused item is. Any other group is refused as no group. Each item makes one change. The first items of an accepted
+/// A group of 1 to 16 items has the effect of its items one by one, all at the same moment. It is refused as the first
+/// refused item is. Any other group is refused as no group. Every item makes one change. The first items of an accepted
 /// group are an accepted group, and make the first of its changes.
 pub fn groups_step_in_turn()
     ensures steps { GroupsStepInTurn }
@@ -38,7 +38,7 @@ pub fn fold_is_regular()
 {}
 
 /// Any run of commands keeps the changes and appends to them, but drops whole parts from the front. The first number
-/// and the begin tell how many, and until when.
+/// and the begin give the number of dropped parts and the moment of the last dropped change.
 pub fn changes_are_kept()
     ensures { ChangesAreKept }
 {}
@@ -64,7 +64,7 @@ pub fn names_are_a_map<V>()
 {}
 
 /// A source formatted with a lawful base, limit and moment is lawful. Commands of lawful names and types keep it
-/// lawful, whatever their moments.
+/// lawful, at any moments.
 pub fn lawful_stays()
     ensures start { StartIsLawful }
     ensures step { StepIsLawful }

@@ -1,4 +1,4 @@
-//! What a source is: a plain and slow program of its commands, and the laws that they keep.
+//! The model of a source: a plain and slow program of its commands, and the laws that they keep.
 #![tactic(auto)]
 
 mod command;

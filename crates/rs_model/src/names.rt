@@ -7,7 +7,8 @@ use rs_record::Name;
 use std::alloc::AllocError;
 use std::cmp::Ordering;
 
-/// The place of the name in a list of pairs, or else the place where it belongs, by one scan.
+/// Returns the place of the name in a list of pairs, or else the place where it belongs, by one
+/// scan.
 pub fn place_of<V>(entries: &[(Name, V)], name: &Name) -> Result<usize, usize>
     ensures { IsPlaceOf entries.now name.now result }
 {
@@ -21,7 +22,7 @@ pub fn place_of<V>(entries: &[(Name, V)], name: &Name) -> Result<usize, usize>
     Err(entries.len())
 }
 
-/// The same by a binary search, where the names ascend.
+/// Returns the same by a binary search, where the names ascend.
 pub fn place_in_order<V>(entries: &[(Name, V)], name: &Name) -> Result<usize, usize>
     requires { IsTrue (is_ordered entries.now) }
     ensures { IsPlaceOf entries.now name.now result }

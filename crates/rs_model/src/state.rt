@@ -64,8 +64,8 @@ impl Model for State {
 }
 
 impl State {
-    /// A source formatted at this moment: it holds nothing, keeps no changes, and has published the empty list as
-    /// number 0. A list of more than `limit` items, 2 to 4,000, is cut into parts of that many.
+    /// Returns a source formatted at this moment: it holds no resources, keeps no changes, and has published the empty
+    /// list as number 0. A list of more than `limit` items, 2 to 4,000, is cut into parts of that many.
     pub fn start(alloc: Global, base: Base, limit: u16, moment: Moment) -> State
         requires low { 2 ≤ limit }
         requires high { limit ≤ 4000 }
@@ -88,7 +88,7 @@ impl State {
         }
     }
 
-    /// The same state once more.
+    /// Returns a copy of the state.
     ///
     /// # Errors
     ///
@@ -111,7 +111,7 @@ impl State {
         })
     }
 
-    /// The state after a command that comes at the moment `now`, and the reply to it. This state stays.
+    /// Returns the state after a command that comes at the moment `now`, and the reply to it. This state stays.
     ///
     /// The command is accepted at `now`, or one millisecond after the last accepted command where that is later.
     ///
@@ -137,7 +137,7 @@ impl State {
         Ok((next, reply))
     }
 
-    /// The same step in place: this state becomes the next one. It takes the command, so it copies no body.
+    /// Makes the same step in place: this state becomes the next one. It takes the command, so it copies no body.
     ///
     /// # Errors
     ///
@@ -167,7 +167,7 @@ impl State {
         Ok(accepted?)
     }
 
-    /// The state after these commands in their order, each at its moment. It skips refused commands.
+    /// Returns the state after these commands in their order, at their moments. It skips refused commands.
     ///
     /// # Errors
     ///
@@ -182,7 +182,7 @@ impl State {
         Ok(state)
     }
 
-    /// One command of a run. A refused one is skipped.
+    /// Applies one command of a run, or skips it if it is refused.
     pub(crate) fn apply_or_skip(
         &mut self,
         alloc: Global,
@@ -198,14 +198,14 @@ impl State {
         }
     }
 
-    /// Whether the name is held.
+    /// Returns whether the name is held.
     fn holds(&self, name: &Name) -> bool
         ensures { result ≡ is_held self.now name.now }
     {
         place_in_order(self.held.as_slice(), name).is_ok()
     }
 
-    /// What decides a put, a delete or a group, besides which names are held.
+    /// Returns the facts that decide a put, a delete or a group, apart from the held names.
     fn counts(&self) -> Counts
         ensures resources { result.resources ≡ length self.now.held }
         ensures changes { result.changes ≡ length self.now.changes }
@@ -219,7 +219,7 @@ impl State {
         }
     }
 
-    /// Why a command is refused, if it is.
+    /// Returns the refusal of a command, if it is refused.
     fn refusal(&self, command: &Command, now: Moment) -> Option<Refusal>
         ensures { result ≡ refusal_of self.now command.now now }
     {
@@ -286,8 +286,8 @@ impl State {
         Ok(Reply::Deleted(moment))
     }
 
-    /// Lists what is held, and drops the full parts that are not after the publication before. Nothing fails once the
-    /// list is made.
+    /// Lists the held resources, and drops the full parts that are not after the publication before. No step fails once
+    /// the list is made.
     fn publish(&mut self, alloc: Global, moment: Moment) -> Result<Reply, AllocError>
         requires accepted { refusal_of self.old Publish moment ≡ None }
         requires moment { IsMoment moment }
@@ -309,7 +309,7 @@ impl State {
     }
 }
 
-/// Binds the name to a body in what is held, and gives the change for it.
+/// Binds the name to a body in the held resources, and returns the change for it.
 fn bind_body(
     alloc: Global,
     held: &mut Vec<(Name, Held)>,
@@ -336,7 +336,7 @@ fn bind_body(
     Ok(change)
 }
 
-/// The change that binds the name to these facts.
+/// Returns the change that binds the name to these facts.
 fn bound_change(
     alloc: Global,
     name: &Name,
@@ -349,7 +349,7 @@ fn bound_change(
     Ok(Change::bound(name.copy(alloc)?, again, moment, facts.copy(alloc)?))
 }
 
-/// The facts of a body.
+/// Returns the facts of a body.
 fn facts(kind: MediaType, bytes: &Body) -> Facts
     requires { length bytes.now ≤ longest_body }
     ensures value { result ≡ facts_of kind bytes.now }
@@ -363,7 +363,7 @@ fn facts(kind: MediaType, bytes: &Body) -> Facts
     }
 }
 
-/// The entries of what is held, as records.
+/// Returns the entries of the held resources, as records.
 fn records(alloc: Global, held: &[(Name, Held)]) -> Result<Vec<Record>, AllocError>
     ensures { IfOk result (λ records. records.items ≡ map record_of (entries held.now)) }
 {
@@ -374,7 +374,7 @@ fn records(alloc: Global, held: &[(Name, Held)]) -> Result<Vec<Record>, AllocErr
     Ok(records)
 }
 
-/// An entry as a record.
+/// Returns an entry as a record.
 fn record(alloc: Global, name: &Name, entry: &Entry) -> Result<Record, AllocError>
     ensures { IfOk result (λ made. made ≡ record_of (name.now, entry.now)) }
 {

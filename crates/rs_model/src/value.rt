@@ -22,14 +22,14 @@ impl Model for Body {
 }
 
 impl Body {
-    /// The body of these bytes, of any number.
+    /// Returns the body of these bytes, of any number.
     pub fn new(bytes: Vec<u8>) -> Body
         ensures { result ≡ bytes.items }
     {
         Self { bytes }
     }
 
-    /// Its bytes.
+    /// Returns its bytes.
     pub fn bytes(&self) -> &[u8]
         ensures { result.now ≡ self.now }
     {
@@ -44,7 +44,8 @@ impl Duplicate for Body {
     }
 }
 
-/// What lists say of a resource: the facts of its body, and the moment since which they hold.
+/// The description of a resource in lists: the facts of its body, and the moment since which they
+/// hold.
 #[derive(Debug, Drop)]
 pub struct Entry {
     /// Its media type, length and digests.
@@ -67,7 +68,7 @@ impl Duplicate for Entry {
 pub struct Held {
     /// Its body.
     pub bytes: Body,
-    /// What lists say of it.
+    /// Its description in lists.
     pub entry: Entry,
 }
 

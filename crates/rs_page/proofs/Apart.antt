@@ -1,4 +1,4 @@
--- No format of a record begins another, and none of a change.
+-- No format of a record begins another one, and no format of a change does.
 use Rattle.rs_record.specs.Format.{record_bytes, change_bytes}
 use Rattle.rs_record.specs.Lawful.{IsLawfulRecord, IsLawfulChange}
 use Rattle.rs_record.specs.Reading.{record_at, change_at}

@@ -13,6 +13,6 @@ pub record_as_long : (digests : Digests) (r : Record) → length digests.md5 ≡
     → length (record_bytes (record_filled digests r)) ≡ length (record_bytes r)
 record_as_long digests r a b c d = simp length-append (omega arith)
 
--- what holds of the item at a place
+-- a property of the item at a place
 pub at_place : {T : Type 0} (items : List T) (i : ℕ) (x : T) (P : T → Type 0) → i < length items → x ≡ get_or items i x → P x → IfSome (slice_get items i) P
 at_place items i x P inside is p = rw (slice_get_read items (length items) i x refl inside is) p

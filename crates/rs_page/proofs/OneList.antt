@@ -18,14 +18,15 @@ items_more format items i item lt is =
     ap (items_bytes format) (take_more items i item lt) ∙ flat_map-append format.bytes (take i items) (get_or items i item ∷ [])
     ∙ ap (λ xs. items_bytes format (take i items) ++ xs) (append-nil (format.bytes (get_or items i item)) ∙ ap format.bytes (sym is))
 
--- the items that are left of a longer list, and what their bytes are
+-- the items that are left of a longer list, and their bytes
 pub record IsRest {T : Type 0} (format : ItemFormat T) (some all : List T) (x y : List ℕ) : Type 0 where
   pub items : List T
   pub whole : all ≡ some ++ items
   pub lawful : All format.IsLawful items
   pub bytes : x ≡ items_bytes format items ++ y
 
--- Where the bytes of lawful items are followed by what follows fewer of them, the fewer are the first of the others.
+-- If the bytes of two lists of lawful items, with further bytes after them, are equal, the shorter list begins the
+-- longer one.
 pub rest_of : {T : Type 0} (format : ItemFormat T) → StandAlone format → (some all : List T) (x y : List ℕ) → All format.IsLawful some → All format.IsLawful all
     → length some ≤ length all → items_bytes format some ++ x ≡ items_bytes format all ++ y → IsRest format some all x y
 rest_of format apart [] all x y some_lawful all_lawful le same = record { items = all; whole = refl; lawful = all_lawful; bytes = same }
@@ -48,7 +49,7 @@ same_items {T} format apart a b x y a_lawful b_lawful long same =
     none [] is whole bytes = (sym (whole ∙ append-nil a), bytes)
     none (item ∷ items) is whole bytes = absurd (omega arith)
 
--- what a page begins with is read in one way
+-- the front of a page is read in one way
 pub same_head : (kind kind' count count' : ℕ) (x y : List ℕ) → count < 2 ^ 32 → count' < 2 ^ 32
     → kind ∷ (to_be_bytes w32 count ++ x) ≡ kind' ∷ (to_be_bytes w32 count' ++ y) → (kind ≡ kind') × (count ≡ count') × (x ≡ y)
 same_head kind kind' count count' x y fits fits' same =
@@ -80,7 +81,7 @@ read_more format items item bytes rest size found begins is =
     found ∙ ap (λ xs. items_bytes format items ++ xs) (begins.1 ∙ ap (λ xs. format.bytes item ++ xs) (sym after))
     ∙ sym (append_assoc (items_bytes format items) (format.bytes item) (drop size rest)) ∙ ap (λ xs. xs ++ drop size rest) (sym front)
 
--- where no item follows, the bytes have no more items
+-- if no item follows, the bytes have no more items
 pub no_more : {T : Type 0} (format : ItemFormat T) → StandAlone format → (items all : List T) (bytes rest after : List ℕ) → All format.IsLawful items → All format.IsLawful all
     → length items < length all → bytes ≡ items_bytes format items ++ rest → ((item : T) → format.IsLawful item → ¬ BeginsWith rest (format.bytes item))
     → ¬ (bytes ≡ items_bytes format all ++ after)
@@ -110,7 +111,7 @@ head kind count bytes rest front left fits whole is_front is_left long is =
       | inr le ↦ rw (get_or_past (take 4 rest) i 0 (omega (arith, length-take 4 rest))) (omega arith)
     ]
 
--- what is left after as many items as a page has
+-- no bytes are left after as many items as a page has
 pub left_after : {T : Type 0} (format : ItemFormat T) → StandAlone format → (kind count : ℕ) (bytes rest left : List ℕ) (items all : List T) → count < 2 ^ 32
     → bytes ≡ kind ∷ (to_be_bytes w32 count ++ rest) → length items ≡ count → All format.IsLawful items → rest ≡ items_bytes format items ++ left
     → ArePageItems format all → bytes ≡ page_bytes format all → left ≡ []

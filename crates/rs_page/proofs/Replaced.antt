@@ -1,4 +1,4 @@
--- A page where an item has another one in its place whose format is as long.
+-- A page in which an item is replaced by another one whose format is as long.
 use Rattle.std.proofs.Common.{◌≡◌, ℕ, zero, suc, ◌<◌, List, [], ◌∷◌, length, set, refl, sym, subst, arith, Option, Some, None}
 use Rattle.std.specs.Prelude.{slice_get, slice_set, IfSome}
 use Rattle.std.proofs.lemmas.List.{length-append, length-set}

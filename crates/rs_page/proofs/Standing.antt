@@ -1,4 +1,4 @@
--- Pages stay while their blocks keep their bytes, and the stored pages of a list are those that its references point to.
+-- Pages stay while their blocks keep their bytes. The stored pages of a list are those that its references point to.
 use Rattle.std.proofs.Common.{◌≡◌, ℕ, Bool, true, List, [], ◌∷◌, map, Option, Some, None, sym, ◌∙◌, ap, subst}
 use Rattle.std.specs.Prelude.{IfSome, IsSome}
 use Rattle.std.specs.List.{cons_option}
@@ -76,7 +76,7 @@ written_stay format kept (page ∷ pages) old new all keeps are =
     All-cons (IsWritten format new) page pages (one.0 (All-head (IsWritten format old) page pages are))
     (written_stay format kept pages old new one.1 keeps (All-tail (IsWritten format old) page pages are))
 
--- a page that stands, or was written, stands once it is stored
+-- a page that is present, or was written, is present once it is stored
 stored_stands : {T : Type 0} (format : ItemFormat T) (image : List ℕ) (items : List T) (place : Place) → IfSome (stored_ref place) (λ ref. IsPage format ref image items)
     → IfSome (placed_extent place) (λ extent. IsPage format (ref_at format extent items) image items)
     → IfSome (stored_ref (place_stored format items place)) (λ ref. IsPage format ref image items)

@@ -1,4 +1,4 @@
--- What a fault of its fields means for a page or a directory.
+-- The meaning of a fault of its fields for a page or a directory.
 use Rattle.rs_body.specs.declared.read.LoadFault.{LoadFault}
 use Rattle.rs_body.specs.declared.read.LoadFault.TheVariants.{Damaged, NoMemory}
 use Rattle.rs_record.specs.declared.fault.ValueFault.{ValueFault}

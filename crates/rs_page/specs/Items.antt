@@ -1,4 +1,4 @@
--- The items of each kind of page.
+-- The items of every kind of page.
 use Rattle.std.specs.Prelude.{Option, Some, None, option_map, IsTrue, refl}
 use Rattle.rs_fixity.specs.declared.Digests.{Digests}
 use Rattle.rs_record.specs.declared.record.Record.{Record}
@@ -36,7 +36,7 @@ filled_agree Updated digests (Some f) h = refl
 filled_agree Deleted digests None h = refl
 filled_agree Deleted digests (Some f) h = h
 
--- a change whose facts, where it has some, have these digests
+-- a change whose facts, if it has some, have these digests
 abbrev pub change_filled : Digests → Change → Change
 change_filled digests c =
     record c { facts = option_map (facts_filled digests) c.facts; agreed = filled_agree c.what digests c.facts c.agreed }

@@ -1,4 +1,4 @@
--- Pages as a program holds them: the items of each, and where it stands.
+-- Pages as a program holds them: their items and their places.
 use Rattle.std.specs.Prelude.{◌≡◌, ◌≤◌, ℕ, Bool, ◌&&◌, nat_eq, bytes_eq, List, length, map, flat_map, filter_map, Option, Some, None, IsSome, IfSome}
 use Rattle.rs_record.specs.Limits.{most_items}
 use Rattle.rs_extent.specs.declared.Extent.{Extent}
@@ -40,7 +40,7 @@ stored_ref (Stored ref) = Some ref
 abbrev pub IsStored : {T : Type 0} → Page T → Type 0
 IsStored page = IsSome (stored_ref page.place)
 
--- how many blocks a page of these items needs
+-- the number of blocks that a page of these items needs
 abbrev pub blocks_needed : {T : Type 0} → ItemFormat T → List T → ℕ
 blocks_needed format items = blocks_of (length (page_bytes format items))
 
@@ -49,7 +49,7 @@ abbrev pub ref_at : {T : Type 0} → ItemFormat T → Extent → List T → Page
 ref_at format extent items =
     record { extent = extent; length = length (page_bytes format items); sha256 = (digests (page_bytes format items)).sha256 }
 
--- where a page of these items stands once it was stored
+-- the place of a page of these items once it was stored
 abbrev pub place_stored : {T : Type 0} → ItemFormat T → List T → Place → Place
 place_stored format items Touched = Touched
 place_stored format items (Placed extent) = Stored (ref_at format extent items)
@@ -84,7 +84,7 @@ extents_of refs = map (λ ref. ref.extent) refs
 abbrev pub stored : {T : Type 0} → ItemFormat T → List (Page T) → List (Page T)
 stored format pages = map (page_stored format) pages
 
--- What each page keeps: it has 1 to 50,000 items, and where it was given blocks, exactly as many as it needs.
+-- The law of a page: it has 1 to 50,000 items, and if it was given blocks, exactly as many as it needs.
 pub record IsSoundPage {T : Type 0} (format : ItemFormat T) (items : List T) (place : Place) : Type 0 where
   pub some : 1 ≤ length items
   pub most : length items ≤ most_items

@@ -1,4 +1,4 @@
--- How pages are given blocks: one by one in their order, each touched page the lowest run of its size.
+-- How pages are given blocks: one by one in their order, every touched page gets the lowest run of its size.
 use Rattle.std.specs.Prelude.{◌≡◌, ◌⊎◌, ℕ, Bool, true, false, List, [], ◌∷◌}
 use Rattle.rs_extent.specs.declared.Extent.{Extent}
 use Rattle.rs_extent.specs.Blocks.{IsFreeRun, IsLowest, Sets}
@@ -14,7 +14,7 @@ pub record TakesLowest {T : Type 0} (format : ItemFormat T) (items : List T) (us
   pub takes : Sets used used' extent true
   pub placed : place' ≡ Placed extent
 
--- a page is placed, where it is touched; any other stays, and takes nothing
+-- a touched page is placed; any other page stays, and takes no block
 abbrev pub PlacesOne : {T : Type 0} → ItemFormat T → List Bool → Page T → List Bool → Page T → Type 0
 PlacesOne format used page used' page' =
     (page'.items ≡ page.items)
@@ -40,7 +40,7 @@ HasNoPlace {T} format used (page ∷ pages) =
     PageHasNoRun format used page
     ⊎ ((between : List Bool) × (page' : Page T) × PlacesOne format used page between page' × HasNoPlace format between pages)
 
--- where a page stands once its blocks were given back
+-- the place of a page once its blocks were given back
 abbrev pub place_taken_back : Place → Place
 place_taken_back Touched = Touched
 place_taken_back (Placed extent) = Touched

@@ -1,4 +1,4 @@
--- What lists of pages share, and which blocks their pages are given.
+-- The pages that lists of pages share, and the blocks that their pages are given.
 use Rattle.std.specs.Prelude.{◌≡◌, ◌⊎◌, List, [], ◌∷◌, filter, is_some}
 use Rattle.rs_page.specs.Pages.{Page, stored_ref}
 

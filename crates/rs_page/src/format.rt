@@ -6,7 +6,7 @@ ghost use Rattle.rs_page.specs.Format.{page_bytes as bytes_of, items_bytes};
 use crate::PageItem;
 use std::alloc::{AllocError, Global};
 
-/// How many bytes a page of these items has: at most 5 and 410 for each item.
+/// Returns the number of bytes of a page of these items: at most 5 and 410 per item.
 pub(crate) fn page_size<T: PageItem>(items: &[T]) -> u32
     requires { length items.now ≤ most_items }
     ensures size { result ≡ length (bytes_of T.format items.now) }
@@ -19,7 +19,7 @@ pub(crate) fn page_size<T: PageItem>(items: &[T]) -> u32
     size as u32
 }
 
-/// The bytes of a page of these items.
+/// Returns the bytes of a page of these items.
 pub(crate) fn page_bytes<T: PageItem>(alloc: Global, items: &[T]) -> Result<Vec<u8>, AllocError>
     requires { length items.now ≤ most_items }
     ensures bytes { IfOk result (λ page. page.items ≡ bytes_of T.format items.now) }

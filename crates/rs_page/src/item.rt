@@ -1,4 +1,4 @@
-//! What a page is made of.
+//! The items of pages.
 ghost use Rattle.std.specs.Prelude.{◌≡◌, ◌<◌, ◌≤◌, ◌+◌, ◌++◌, ◌↔◌, length, vec_len, vec_capacity, IfOk, OnOk, OnErr, IsErrOf};
 ghost use Rattle.rs_record.specs.Format.{BeginsWith};
 ghost use Rattle.rs_page.specs.Format.{ItemFormat, StandAlone};
@@ -7,16 +7,16 @@ use crate::PageKind;
 use rs_record::ValueFault;
 use std::alloc::{AllocError, Global};
 
-/// What a page is made of: a value with a format of its own. No format begins another one.
+/// An item of a page: a value with a format of its own. No format begins another one.
 pub trait PageItem: Drop {
     // The kind of a page of such items, the bytes of an item, and which items are lawful.
     ghost format: { ItemFormat Self };
 
-    /// The kind of a page of such items.
+    /// Returns the kind of a page of such items.
     fn kind() -> PageKind
         ensures { result ≡ format.kind };
 
-    /// How many bytes the format of the item has: at most 410.
+    /// Returns the number of bytes of the format of the item: at most 410.
     fn size(&self) -> usize
         ensures size { result ≡ length (format.bytes self.now) }
         ensures bound { result ≤ 410 };
@@ -24,7 +24,7 @@ pub trait PageItem: Drop {
     /// Appends the format of the item.
     ///
     /// # Errors
-    /// [`AllocError`] where the vector had no room and more memory was refused; its elements stay.
+    /// [`AllocError`] if the vector had no room and more memory was refused; its elements stay.
     fn write(&self, out: &mut Vec<u8>) -> Result<(), AllocError>
         ensures ok { OnOk result (out.new.items ≡ out.old.items ++ format.bytes self.now) }
         ensures err { OnErr result (out.new.items ≡ out.old.items) }
@@ -34,12 +34,12 @@ pub trait PageItem: Drop {
         // So it can be read back.
         ensures lawful { format.IsLawful self.now };
 
-    /// The item whose format the bytes begin with, and how many bytes the format has. Other bytes
-    /// may follow it.
+    /// Returns the item whose format the bytes begin with, and the number of bytes of the format. Other bytes may
+    /// follow it.
     ///
     /// # Errors
-    /// `Malformed` exactly where the bytes begin with no format of a lawful item; `NoMemory` where
-    /// the memory for the item was refused.
+    /// `Malformed` exactly if the bytes begin with no format of a lawful item; `NoMemory` if the memory for the item
+    /// was refused.
     fn read(alloc: Global, bytes: &[u8]) -> Result<(Self, usize), ValueFault>
         ensures found { IfOk result (λ read. format.IsLawful read.0
             × BeginsWith bytes.now (format.bytes read.0)) }
@@ -51,8 +51,7 @@ pub trait PageItem: Drop {
         ensures malformed { IsErrOf result ValueFault.Malformed
             ↔ ((item : Self) → format.IsLawful item → ¬ BeginsWith bytes.now (format.bytes item)) };
 
-    /// The law that no format begins another, so that formats in a row read in one way only. It
-    /// does nothing.
+    /// The law that no format begins another, so that formats in a row read in one way only. It has no effect.
     fn formats_stand_alone()
         ensures { StandAlone format };
 }

@@ -1,7 +1,7 @@
 //! The kinds of pages.
 ghost use Rattle.std.specs.Prelude.{◌≡◌};
 
-/// What the items of a page are.
+/// The kind of the items of a page.
 #[derive(Clone, Copy, Debug, PartialEq, Eq)]
 pub enum PageKind {
     /// Records of resources that are held.
@@ -13,7 +13,7 @@ pub enum PageKind {
 impl PageKind {
     ghost use Rattle.rs_page.specs.Format.{kind_byte};
 
-    /// The byte of this kind, which a page begins with: 1 for records and 2 for changes.
+    /// Returns the byte of this kind, which a page begins with: 1 for records and 2 for changes.
     pub fn byte(self) -> u8
         ensures { result ≡ kind_byte self }
     {

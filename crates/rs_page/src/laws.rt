@@ -1,12 +1,12 @@
 //! Laws of pages, over their definitions alone.
 //!
-//! Each function here does nothing: its contract is the law, which the check proves. Proofs cite
-//! the lemmas behind them, in `proofs/OneList.antt` and `proofs/Standing.antt`.
+//! The functions here have no effect: their contracts are the laws, which the check proves. Proofs cite their lemmas,
+//! in `proofs/OneList.antt` and `proofs/Standing.antt`.
 ghost use Rattle.rs_page.specs.Laws.{PageHoldsOnce, PagesHoldOnce, PageStays, PagesStay, StoredPagesStay, WrittenStay, WrittenStand, StandingArePages, PagesStand};
 
 use crate::PageItem;
 
-/// A page holds at most one list of items, and pages hold at most one list for each.
+/// A page holds at most one list of items, and pages hold at most one list per page.
 pub fn pages_hold_once<T: PageItem>()
     ensures page { PageHoldsOnce T.format }
     ensures pages { PagesHoldOnce T.format }

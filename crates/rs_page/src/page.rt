@@ -40,13 +40,13 @@ impl<T: PageItem> Model for Page<T> {
 
     ghost view = { λ page. record { items = page.items.items; place = page.place } };
 
-    // A page that is not on the disk yet has its items alone, so it is changed where it is.
+    // A page that is not on the disk yet has its items alone, so it is changed in place.
     ghost invariant = { λ page. IsSoundPage T.format page.items.items page.place
         × (stored_ref page.place ≡ None → IsTrue page.items.own) };
 }
 
 impl<T: PageItem> Page<T> {
-    /// A page of these items, which has no blocks yet.
+    /// Returns a page of these items, which has no blocks yet.
     pub fn new(items: Vec<T>) -> Page<T>
         requires some { 1 ≤ length items.items }
         requires most { length items.items ≤ MOST_ITEMS }
@@ -59,7 +59,7 @@ impl<T: PageItem> Page<T> {
         }
     }
 
-    /// Its items, in their order.
+    /// Returns its items, in their order.
     pub fn items(&self) -> &[T]
         ensures items { result.now ≡ self.now.items }
         ensures some { 1 ≤ length result.now }
@@ -68,7 +68,7 @@ impl<T: PageItem> Page<T> {
         self.items.as_slice()
     }
 
-    /// Its place.
+    /// Returns its place.
     pub fn place(&self) -> Place
         ensures { result ≡ self.now.place }
     {
@@ -88,11 +88,10 @@ impl<T: PageItem> Page<T> {
         self.items.replace(i, item);
     }
 
-    /// Gives the page the lowest run of free blocks of its size, where it has no blocks yet. It
-    /// takes no memory.
+    /// Gives the page the lowest run of free blocks of its size, if it has no blocks yet. It takes no memory.
     ///
     /// # Errors
-    /// [`Full`] where there is no such run; nothing has changed then.
+    /// [`Full`] if there is no such run; nothing has changed then.
     pub fn place_in(&mut self, used: &mut Used) -> Result<(), Full>
         ensures ok { OnOk result (PlacesOne T.format used.old self.old used.new self.new) }
         ensures full { OnErr result (PageHasNoRun T.format used.old self.old) }
@@ -142,11 +141,11 @@ impl<T: Fill> Page<T> {
 }
 
 impl<T: PageItem + Duplicate> Page<T> {
-    /// A copy of the page, at the same place. A page on the disk shares its items with the copy; the
-    /// items of any other page are copied.
+    /// Returns a copy of the page, at the same place. A page on the disk shares its items with the copy; the items of
+    /// any other page are copied.
     ///
     /// # Errors
-    /// [`AllocError`] where the memory for the copy is refused.
+    /// [`AllocError`] if the memory for the copy is refused.
     pub fn copy(&self, alloc: Global) -> Result<Page<T>, AllocError>
         ensures { IfOk result (λ copied. copied ≡ self.now) }
     {

@@ -1,8 +1,8 @@
-//! Where a page stands.
+//! The place of a page.
 
 use rs_extent::Extent;
 
-/// Where a page lies on the disk, and what it is.
+/// The blocks of a page on the disk, its length and its SHA-256.
 #[derive(Clone, Copy, Debug, PartialEq, Eq, PartialOrd, Ord)]
 pub struct PageRef {
     /// The blocks that it has.
@@ -13,7 +13,7 @@ pub struct PageRef {
     pub sha256: [u8; 32],
 }
 
-/// Where a page of a list stands.
+/// The place of a page of a list.
 #[derive(Clone, Copy, Debug, PartialEq, Eq)]
 pub enum Place {
     /// It was made or changed, and has no blocks yet.

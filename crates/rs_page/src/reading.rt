@@ -7,11 +7,10 @@ use crate::PageItem;
 use rs_record::{MOST_ITEMS, ValueFault};
 use std::alloc::Global;
 
-/// The items of which these bytes are a page.
+/// Reads the items of which these bytes are a page.
 ///
 /// # Errors
-/// `Malformed` where the bytes are no page of such items; `NoMemory` where the memory for the items
-/// was refused.
+/// `Malformed` if the bytes are no page of such items; `NoMemory` if the memory for the items was refused.
 pub(crate) fn read_items<T: PageItem>(alloc: Global, bytes: &[u8]) -> Result<Vec<T>, ValueFault>
     ensures lawful { IfOk result (λ read. ArePageItems T.format read.items) }
     ensures found { IfOk result (λ read. bytes.now ≡ page_bytes T.format read.items) }
@@ -31,7 +30,7 @@ pub(crate) fn read_items<T: PageItem>(alloc: Global, bytes: &[u8]) -> Result<Vec
     Ok(items)
 }
 
-/// The kind and the number of items that the bytes begin with, and the bytes after them.
+/// Returns the kind and the number of items that the bytes begin with, and the bytes after them.
 fn head_of(bytes: &[u8]) -> Option<(u8, usize, &[u8])>
     ensures { MatchOption result (length bytes.now < 5) (λ head. (head.1 < 2 ^ 32)
         × (bytes.now ≡ head.0 ∷ (to_be_bytes w32 head.1 ++ head.2.now))) }
@@ -41,7 +40,7 @@ fn head_of(bytes: &[u8]) -> Option<(u8, usize, &[u8])>
     Some((*kind, u32::from_be_bytes(*count) as usize, rest))
 }
 
-/// The first `count` items that the bytes begin with, and the bytes after them.
+/// Returns the first `count` items that the bytes begin with, and the bytes after them.
 fn read_first<T: PageItem>(
     alloc: Global,
     count: usize,

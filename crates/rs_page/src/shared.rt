@@ -9,12 +9,12 @@ use std::marker::Model;
 use std::mem::replace;
 use std::rc::Rc;
 
-/// Who has the items.
+/// The holder of the items.
 #[derive(Debug, Drop)]
 pub(crate) enum Holder<T> {
-    // This page alone, so they may be changed where they are.
+    // This page alone, so they may be changed in place.
     Own(Vec<T>),
-    // Each page with this pointer.
+    // Every page with this pointer.
     Shared(Rc<Vec<T>>),
 }
 
@@ -34,7 +34,7 @@ impl<T> Model for SharedItems<T> {
 }
 
 impl<T: Drop> SharedItems<T> {
-    /// Items that one page has alone.
+    /// Returns items that one page has alone.
     pub(crate) fn new(items: Vec<T>) -> SharedItems<T>
         ensures items { result.items ≡ items.items }
         ensures own { IsTrue result.own }
@@ -44,7 +44,7 @@ impl<T: Drop> SharedItems<T> {
         }
     }
 
-    /// The items, in their order.
+    /// Returns the items, in their order.
     pub(crate) fn as_slice(&self) -> &[T]
         ensures { result.now ≡ self.now.items }
     {
@@ -54,8 +54,7 @@ impl<T: Drop> SharedItems<T> {
         }
     }
 
-    /// Lets copies share the items from here on. Where the memory for that is refused, the page
-    /// still has them alone.
+    /// Lets copies share the items from here on. If the memory for that is refused, the page still has them alone.
     pub(crate) fn share(&mut self, alloc: Global)
         ensures { self.new.items ≡ self.old.items }
     {
@@ -101,10 +100,10 @@ impl<T: Fill> SharedItems<T> {
 }
 
 impl<T: PageItem + Duplicate> SharedItems<T> {
-    /// A copy of the items: one more pointer where they are shared, else a copy of each.
+    /// Returns a copy of the items: one more pointer if they are shared, else a copy of every item.
     ///
     /// # Errors
-    /// [`AllocError`] where the memory for the copy is refused.
+    /// [`AllocError`] if the memory for the copy is refused.
     pub(crate) fn copy(&self, alloc: Global) -> Result<SharedItems<T>, AllocError>
         ensures { IfOk result (λ copied. copied ≡ self.now) }
     {

@@ -175,7 +175,7 @@ module _ {T : Type 0} (name : T → List ℕ) where
       let keyed_inside : j < length (keyed name items) = rw length-map inside in
       omega (arith, h i j (name d, d) order keyed_inside, first, second)
 
-  -- what a binary search answers
+  -- the result of a binary search
   pub found_among : (n : List ℕ) (items : List T) (r : Result ℕ ℕ) → IsTrue (is_ordered (keyed name items)) → IsSearchInRange r (length items) → IsBinarySearchResult (λ x. by_bytes (name x) n) items r → IsPlaceOf (keyed name items) n r
   found_among n items (Ok i) h within same =
       let inside : i < length (keyed name items) = rw length-map within in

@@ -57,7 +57,7 @@ pub grouped : (a b c : Bool) → (a && b && c) ≡ (a && (b && c))
 grouped true b c = refl
 grouped false b c = refl
 
--- elements are equal exactly where the order does not tell them apart, in either direction
+-- elements are equal exactly where the order answers Equal for them, in either direction
 pub level : {K : Type 0} {E : K → K → Bool} {R : K → K → Ordering} → IsTotalOrder R → ((x y : K) → E x y ≡ eq_by_cmp R x y) → (x y : K) → E x y ≡ is_eq (R y x)
 level total ties x y = ties x y ∙ (eq_by_cmp_equiv total).symm x y
 
@@ -66,7 +66,7 @@ any_key : {X K : Type 0} (key : X → K) (test : K → Bool) (xs : List X) → l
 any_key key test [] = refl
 any_key key test (x ∷ xs) = ap (λ b. test (key x) || b) (any_key key test xs)
 
--- a search by keys that found nothing: no key passes a test that holds of those that are level
+-- after a search by keys that found no element, no key passes a test that holds exactly of the keys that are level
 pub none_found : {X K : Type 0} (R : K → K → Ordering) → IsTotalOrder R → (key : X → K) (test : K → Bool) (x : K) → ((y : K) → test y ≡ is_eq (R y x)) → (xs : List X) (i : ℕ)
     → IsSortedByKey key R xs → IsBinarySearchResult (λ y. R (key y) x) xs (Err i) → list_any test (map key xs) ≡ false
 none_found R total key test x tests xs i sorted found =
@@ -87,7 +87,7 @@ told entries i d entry inside same =
     subst (λ (e : PageRef). Contains entries (record { entry = e; place = at.place })) (sym (same_entry entry at.entry same)) (Contains-get_or entries i d inside)
 
 module _ {T : Type 0} where
-  -- where entries are searched, none is found only where no page on the disk has it
+  -- a search among the entries fails only where no page on the disk has the entry
   pub no_page : (pages : List (Page T)) (entries : List EntryAt) (entry : PageRef) → AreEntries pages entries
       → list_any (same_page entry) (map (λ at. at.entry) entries) ≡ false → list_any (same_page entry) (stored_refs pages) ≡ false
   no_page pages entries entry are none = list_any-IsPermutation (same_page entry) (stored_refs pages) (map (λ at. at.entry) entries) are.all ∙ none

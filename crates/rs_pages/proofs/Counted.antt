@@ -1,4 +1,4 @@
--- The item at a place among all items, by the counts before each page.
+-- The item at a place among all items, by the counts before every page.
 use Rattle.std.proofs.Common.{◌≡◌, ℕ, zero, suc, ◌+◌, ◌-◌, ◌<◌, ◌≤◌, List, [], ◌∷◌, ◌++◌, length, get_or, refl, sym, ap, ◌∙◌, subst, arith, true, false, leb}
 use Rattle.std.specs.Prelude.{slice_get}
 use Rattle.std.specs.List.{AllWithin}
@@ -43,7 +43,7 @@ module _ {T : Type 0} where
   pub starts_rise : (n : ℕ) (pages : List (Page T)) → IsNonDecreasingBy (λ start. start) (starts_of n pages)
   starts_rise n pages = λ i j d order inside. rises n pages i j d order (subst (λ (m : ℕ). j < m) (length-starts n pages) inside)
 
-  -- how many pages begin at or before a place: at least one, where there is an item
+  -- the number of pages that begin at or before a place: at least one, where there is an item
   begin_one : (pages : List (Page T)) (k i : ℕ) → i < length (items_of pages) → AllWithin (λ start. leb start i ≡ false) (starts_of 0 pages) k (length (starts_of 0 pages)) → 1 ≤ k
   begin_one [] k i h above = absurd (omega arith)
   begin_one (page ∷ pages) zero i h above = absurd (never i (above 0 0 (omega arith) (omega arith)))

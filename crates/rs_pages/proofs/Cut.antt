@@ -88,7 +88,7 @@ module _ {T : Type 0} (piece : ℕ) (some : 1 ≤ piece) (within : piece ≤ 64)
       ap (λ b. cut_unless piece b (length xs) (x ∷ xs)) (many (length (x ∷ xs)) more)
       ∙ ap (λ rest. take piece (x ∷ xs) ∷ rest) (all_cut (length xs) (drop piece (x ∷ xs)) (omega (arith, left)) (omega (arith, left)))
 
-  -- each page is touched, and has 1 to 64 items
+  -- all pages are touched, and have 1 to 64 items
   fresh_up_to : (n : ℕ) (items : List T) → 1 ≤ length items → length items ≤ n + 64 → All IsFreshPage (map touched (cut_up_to piece n items))
   fresh_up_to zero items h k = All-cons IsFreshPage (touched items) [] (tt, h, omega arith) (All-nil IsFreshPage)
   fresh_up_to (suc n) items h k =

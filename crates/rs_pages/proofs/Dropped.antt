@@ -13,7 +13,7 @@ use Rattle.rs_pages.proofs.Cut.{fresh_cut, have_items, items_of-cut, items_of-cu
 use Rattle.rs_pages.proofs.AtHome.{have_both}
 use Rattle.rs_pages.proofs.Touched.{itself, drop_one, rest_none, stored_after, placed_made}
 
--- what holds of each of two lists of pages holds of the one that is taken
+-- a property of both lists of pages is a property of the one that is taken
 either : {A : Type 0} (P : A → Type 0) (b : Bool) (x y : A) → (b ≡ true → P x) → (b ≡ false → P y) → P (cond b x y)
 either P true x y h k = h refl
 either P false x y h k = k refl
@@ -36,7 +36,7 @@ module _ {T : Type 0} where
   abbrev Some : Page T → Type 0
   Some page = 1 ≤ length page.items
 
-  -- full pages, and these before others: their items, none of them on the disk, none with blocks
+  -- full pages, and these before others: their items; they are not on the disk, and have no blocks
   full_first : (items : List T) (pages : List (Page T)) → items_of (full_pages items ++ pages) ≡ items ++ items_of pages
   full_first items pages = items_of-cut_first 64 items pages
 
@@ -189,7 +189,7 @@ module _ {T : Type 0} where
   page_cut n [] page some h is = absurd (omega arith)
   page_cut n (first ∷ pages) page some h is = ap (λ (it : Page T). full_pages (drop n it.items) ++ pages) is ∙ sym (cut_first n first pages some h)
 
-  -- what is left, as the code has it
+  -- the remaining pages, as the code has them
   pub stays_is : (n : ℕ) (pages left new : List (Page T)) → n ≡ 0 → left ≡ [] → new ≡ left ++ pages → new ≡ dropped_front n pages
   stays_is n pages left new none is_left is_new =
       is_new ∙ (ap (λ front. front ++ pages) is_left ∙ (sym (stay pages) ∙ ap (λ (k : ℕ). dropped_front k pages) (sym none)))

@@ -1,4 +1,4 @@
--- Items changed where they stand, in every page.
+-- Items changed at their places, in every page.
 use Rattle.std.proofs.Common.{◌≡◌, ℕ, zero, suc, List, [], ◌∷◌, ◌++◌, length, map, take, drop, Bool, true, false, cond, refl, sym, ap, ap₂, ◌∙◌, Some, None}
 use Rattle.std.specs.Prelude.{◌||◌, nat_le, not, is_some}
 use Rattle.std.specs.Ordering.{is_lt}
@@ -10,7 +10,7 @@ use Rattle.rs_page.specs.Pages.{Page, items_of}
 use Rattle.rs_pages.specs.Items.{keyed, put_in, taken_out}
 use Rattle.rs_pages.specs.Rule.{touched, touched_pages, cut_up_to, cut_front, items_at, with_page, begins_by, some_begins_by, home, bound_in, unbound_in}
 
--- Where each item is changed and none goes, the pages are cut as they were.
+-- Where every item is changed and stays, the pages are cut as they were.
 module _ {T : Type 0} (g : T → T) where
   abbrev pub each_page : List (Page T) → List (Page T)
   each_page pages = map (λ page. record { items = map g page.items; place = page.place }) pages
@@ -61,7 +61,7 @@ by_order-map f Less x y z = refl
 by_order-map f Equal x y z = refl
 by_order-map f Greater x y z = refl
 
--- Where each item keeps its name, they are bound, unbound and found as they were.
+-- Where every item keeps its name, they are bound, unbound and found as they were.
 module _ {T : Type 0} (name : T → List ℕ) (g : T → T) (same : (t : T) → name (g t) ≡ name t) where
   begins-each : (n : List ℕ) (items : List T) → begins_by name n (map g items) ≡ begins_by name n items
   begins-each n [] = refl

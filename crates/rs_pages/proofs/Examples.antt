@@ -1,4 +1,4 @@
--- What the page rule gives for 130 names and changes, and for these without the first of them.
+-- The pages that the page rule gives for 130 names and changes, and for these without the first of them.
 use Rattle.std.specs.Prelude.{◌≡◌, ℕ, zero, suc, ◌+◌, ◌/◌, ◌%◌, List, [], ◌∷◌, length, map, take, drop, refl}
 use Rattle.rs_page.specs.Pages.{Page}
 use Rattle.rs_pages.specs.Rule.{touched, bound_in, appended_to}
@@ -26,7 +26,8 @@ record_pages = refl
 change_pages : lengths (appended_up_to 130) ≡ 64 ∷ 64 ∷ 2 ∷ []
 change_pages = refl
 
--- a further put of `n129` leaves the first three pages, one of `n000` the last three, and a further change goes into the last one
+-- a further put of `n129` leaves the first three pages, one of `n000` the last three, and a further change goes into
+-- the last one
 last_again : take 3 (bound_in (λ t. t) (name_at 129) (put_up_to 130)) ≡ take 3 (put_up_to 130)
 last_again = refl
 
@@ -44,7 +45,8 @@ names_up_to from (suc n) = name_at from ∷ names_up_to (from + 1) n
 older_page : lengths (bound_in (λ t. t) (name_at 129) (touched (names_up_to 0 129) ∷ [])) ≡ 32 ∷ 32 ∷ 32 ∷ 34 ∷ []
 older_page = refl
 
--- pages of 64, 64 and 2 items without the first 70 of these: what is left of the second one is a page, and the last one stays
+-- pages of 64, 64 and 2 items without the first 70 of these: the rest of the second one is a page, and the last one
+-- stays
 abbrev three_pages : List (Page (List ℕ))
 three_pages = touched (names_up_to 0 64) ∷ touched (names_up_to 64 64) ∷ touched (names_up_to 128 2) ∷ []
 

@@ -1,4 +1,4 @@
--- The item of a name, and the last item, as they are filled where they stand.
+-- The item of a name, and the last item, filled at their places.
 use Rattle.std.proofs.Common.{◌≡◌, ℕ, zero, suc, ◌<◌, ◌≤◌, List, [], ◌∷◌, ◌++◌, length, Bool, true, false, cond, refl, sym, ap, ap₂, ◌∙◌, subst, inl, inr, arith, Option, Some, None}
 use Rattle.std.specs.Prelude.{IsTrue, IsSome, IfSome, slice_get}
 use Rattle.std.specs.Ordering.{is_lt}
@@ -72,7 +72,7 @@ module _ {T : Type 0} (name : T → List ℕ) where
   stands_at_home n (page ∷ pages) h stands =
       stands_by n page pages (some_begins_by name n pages) refl h stands (stands_at_home n pages (ordered_rest name page.items (items_of pages) h))
 
-  -- what is found under a name has that name
+  -- the item found under a name has that name
   named_by : (n : List ℕ) (x t : T) (o : Ordering) (v : Option T) → by_bytes n (name x) ≡ o → (v ≡ Some t → by_bytes n (name t) ≡ Equal) → by_order o None (Some x) v ≡ Some t → by_bytes n (name t) ≡ Equal
   named_by n x t Less v is next h = cc
   named_by n x t Equal v is next h = let same : x ≡ t = cc in subst (λ (y : T). by_bytes n (name y) ≡ Equal) same is
@@ -87,7 +87,7 @@ module _ {T : Type 0} (name : T → List ℕ) where
   keyed_item (x ∷ xs) zero e h = let same : (name x, x) ≡ e = cc in ap (λ p. Some p.1) same
   keyed_item (x ∷ xs) (suc i) e h = keyed_item xs i e h
 
-  -- each of names that rise above one is above it
+  -- every name in a list that rises above a name is above it
   above_at : (lower : List ℕ) (xs : List T) (i : ℕ) (t : T) → IsTrue (is_above lower (keyed name xs)) → slice_get xs i ≡ Some t → by_bytes lower (name t) ≡ Less
   above_at lower [] i t h at = cc
   above_at lower (x ∷ xs) zero t h at =
@@ -138,7 +138,7 @@ module _ {T : Type 0} (name : T → List ℕ) where
         ap₂ (λ items rest. record { items = items; place = page.place } ∷ rest) (items_at_name n page.items i t (ordered_front name page.items (items_of pages) h) at equal)
         (pages_above n pages (all_above n (items_of pages) (before_items name n pages is) (ordered_rest name page.items (items_of pages) h)))
 
-    -- the item of a name, where it stands in the page where the name goes
+    -- the item of a name, at its place in the page where the name goes
     filled_at_home : (n : List ℕ) (pages : List (Page T)) (i : ℕ) (t : T) → IsTrue (is_ordered (keyed name (items_of pages)))
         → slice_get (items_at (home name n pages) pages) i ≡ Some t → by_bytes n (name t) ≡ Equal → named_filled name f n pages ≡ changed_at (page_filled f i) (home name n pages) pages
     filled_at_home n [] i t h at equal = refl
@@ -178,7 +178,7 @@ module _ {T : Type 0} where
     end_at (suc i) (t ∷ []) last = absurd (omega arith)
     end_at (suc i) (t ∷ next ∷ items) last = ap (λ rest. t ∷ rest) (end_at i (next ∷ items) (omega arith))
 
-    -- the last item, where it stands in the last page
+    -- the last item, at its place in the last page
     pub filled_at_end : (k i : ℕ) (pages : List (Page T)) → suc k ≡ length pages → suc i ≡ length (items_at k pages) → last_filled f pages ≡ changed_at (page_filled f i) k pages
     filled_at_end k i [] last end = refl
     filled_at_end zero i (page ∷ []) last end = ap (λ items. record { items = items; place = page.place } ∷ []) (end_at i page.items end)

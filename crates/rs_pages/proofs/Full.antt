@@ -15,7 +15,7 @@ module _ {T : Type 0} where
   none_stored [] = refl
   none_stored (group ∷ groups) = none_stored groups
 
-  -- it has its items, none of its pages is empty, none has blocks, and none is on the disk
+  -- it has its items, and its pages are not empty, have no blocks and are not on the disk
   pub full_items : (items : List T) → items_of (full_pages items) ≡ items
   full_items items = items_of-cut 64 items
 
@@ -28,7 +28,7 @@ module _ {T : Type 0} where
   pub full_unstored : (items : List T) → stored_refs (full_pages items) ≡ []
   full_unstored items = none_stored (cut_full items)
 
-  -- what a list of these pages is, where it was made
+  -- the list of these pages, where it was made
   pub made_is : {E : Type 0} (items : List T) (start pages : List (Page T)) → start ≡ [] → pages ≡ start ++ full_pages items → (result : Result (List (Page T)) E) → IfOk result (λ made. made ≡ pages)
       → IfOk result (λ made. made ≡ full_pages items)
   made_is items start pages none is (Ok made) same = same ∙ (is ∙ ap (λ front. front ++ full_pages items) none)

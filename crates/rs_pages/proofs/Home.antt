@@ -51,7 +51,7 @@ module _ {T : Type 0} (name : T → List ℕ) where
   past_one n lower (x ∷ xs) ys true is h next = past_by n (name x) lower (by_bytes n (name x)) refl is (is_less (by_bytes lower (name x)) (first_so _ _ h))
   past_one n lower xs ys false is h next = next (above_rest lower xs ys h) refl
 
-  -- a name that some page begins by is above each name before that page
+  -- a name that some page begins by is above every name before that page
   past_name : (n lower : List ℕ) (pages : List (Page T)) → IsTrue (is_above lower (keyed name (items_of pages))) → some_begins_by name n pages ≡ true → by_bytes n lower ≡ Greater
   past_name n lower [] h some = cc
   past_name n lower (page ∷ pages) h some =

@@ -1,4 +1,4 @@
--- What is put into a list, taken out of it and found in it, where the list is two lists end to end.
+-- An item put into a list, taken out of it and found in it, where the list is two lists end to end.
 use Rattle.std.proofs.Common.{◌≡◌, ℕ, List, [], ◌∷◌, ◌++◌, refl, ap, ◌∙◌, Some, None}
 use Rattle.std.specs.declared.cmp.Ordering.{Ordering}
 use Rattle.std.specs.declared.cmp.Ordering.TheVariants.{Less, Equal, Greater}
@@ -6,7 +6,7 @@ use Rattle.rs_model.specs.Names.{by_bytes, by_order, value_of, bind, unbind}
 use Rattle.rs_pages.specs.Items.{keyed, put_in, taken_out}
 
 module _ {T : Type 0} (name : T → List ℕ) where
-  -- the name is above each of these
+  -- the name is above all of these
   abbrev pub is_past : List ℕ → List T → Type 0
   is_past n [] = Unit {0}
   is_past n (x ∷ xs) = (by_bytes n (name x) ≡ Greater) × is_past n xs

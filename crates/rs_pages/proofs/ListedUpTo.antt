@@ -23,7 +23,7 @@ more_placed (page ∷ pages) (suc i) d lt =
     ap (cons_option (placed_extent page.place)) (more_placed pages i d (omega arith))
     ∙ one_first (placed_extent page.place) (placed_extents (take i pages)) (cons_option (placed_extent (get_or pages i d).place) [])
 
--- The next page is listed behind those before it.
+-- The next page is listed after those before it.
 pub next_listed : {T : Type 0} (i : ℕ) (pages : List (Page T)) (d : Page T) (before mid after : List Extent) → i < length pages → mid ≡ before ++ placed_extents (take i pages)
     → after ≡ mid ++ cons_option (placed_extent (get_or pages i d).place) [] → after ≡ before ++ placed_extents (take (i + 1) pages)
 next_listed {T} i pages d before mid after lt front back =

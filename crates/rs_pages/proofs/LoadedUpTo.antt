@@ -1,4 +1,4 @@
--- What holds while pages are read, one after the other, beside a list in memory.
+-- The invariant of reading pages, one after the other, with a list in memory to take pages from.
 use Rattle.std.proofs.Common.{◌≡◌, ℕ, suc, ◌+◌, ◌<◌, ◌≤◌, List, [], ◌∷◌, ◌++◌, length, get_or, take, drop, Some, refl, sym, ap, ◌∙◌, subst, arith, add-one}
 use Rattle.std.specs.Prelude.{flat_map, All, IsTrue, is_some, not, filter}
 use Rattle.std.specs.List.{list_any, cons_option}
@@ -18,12 +18,12 @@ use Rattle.rs_pages.specs.Storing.{items_by_page, AreStoredAt, HoldItems, HoldNo
 use Rattle.rs_pages.proofs.Joined.{joined}
 use Rattle.rs_pages.proofs.Writing.{same_at, parted_at, front_at}
 
--- how many items there are in all
+-- the number of all items
 abbrev sum_of : {T : Type 0} → List (List T) → ℕ
 sum_of pages = length (flat_map (λ items. items) pages)
 
--- The pages of the first k references are read, and leave room for `room` more items. Calls were made for some of these references,
--- and none failed.
+-- The pages of the first k references are read, and leave room for `room` more items. Calls were made for some of these
+-- references, and no call failed.
 pub record LoadedUpTo {T : Type 0} (format : ItemFormat T) (called : List PageRef → List PageRef) (k room : ℕ) (refs : List PageRef) (beside loaded : List (Page T)) (old new : DiskState) : Type 0 where
   pub refs_are : stored_refs loaded ≡ take k refs
   pub some : HaveItems loaded
@@ -32,7 +32,7 @@ pub record LoadedUpTo {T : Type 0} (format : ItemFormat T) (called : List PageRe
   pub fits : room + sum_of (items_by_page loaded) ≡ most_items
   pub reads : ReadsPages (called (take k refs)) ⊥ old new
 
--- the calls for two lists of references are those for each
+-- the number of calls for two lists of references is the sum of the numbers for both
 abbrev AreCalled : (List PageRef → List PageRef) → Type 0
 AreCalled called = (refs more : List PageRef) → length (called (refs ++ more)) ≡ length (called refs) + length (called more)
 
@@ -48,7 +48,8 @@ unshared_called others refs more =
     let test = λ (ref : PageRef). not (list_any (same_page ref) others) in
     ap length (filter-append test refs more) ∙ length-append (filter test refs) (filter test more)
 
--- a run for some references, in which no call failed, and then one for more; both make no more calls than there are in all
+-- a run for some references, in which no call failed, and then one for more; both make no more calls than there are in
+-- all
 reads_then : {A B : Type 0} (refs more all : List PageRef) (old mid new : DiskState) → length refs + length more ≤ length all → (A → B) → (B → A) → ReadsPages refs ⊥ old mid → ReadsPages more A mid new → ReadsPages all B old new
 reads_then refs more all old mid new sizes to from one two =
     record { runs = reading_then old mid new (λ failed. failed) one.runs (reading_as mid new to from two.runs); one_each = omega (arith, sizes, one.one_each, two.one_each) }
@@ -135,14 +136,14 @@ module _ {T : Type 0} {format : ItemFormat T} {called : List PageRef → List Pa
   front : take (suc k) refs ≡ take k refs ++ get_or refs k d ∷ []
   front = front_at k refs (get_or refs k d) inside next_is
 
-  -- what is read of the pages before stays
+  -- the content of the pages read before stays
   before : {A : Type 0} (new : DiskState) → RunsReading A mid new → IsTrue new.honest → All (Stands format new.now.seen) beside → ArePages format (take k refs) new.now.seen (items_by_page loaded)
   before new runs honest stand =
       let seen : new.now.seen ≡ mid.now.seen = ap (λ (m : Medium). m.seen) runs.now in
       subst (λ (image : List ℕ). ArePages format (take k refs) image (items_by_page loaded)) (sym seen)
       (so_far.found (runs.runs.lasts honest) (subst (λ (image : List ℕ). All (Stands format image) beside) seen stand))
 
-  -- no more than one call for each reference that is called for, where the page of this one was the last
+  -- at most one call per reference that is called for, where the page of this one was the last
   pub reads_next : {A B : Type 0} (new : DiskState) → (A → B) → (B → A) → ReadsPages (called (get_or refs k d ∷ [])) A mid new → ReadsPages (called refs) B old new
   reads_next new to from one =
       reads_then (called (take k refs)) (called (get_or refs k d ∷ [])) (called refs) old mid new

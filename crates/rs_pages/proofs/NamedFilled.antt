@@ -1,4 +1,4 @@
--- Items filled where they stand, page by page, as in one list.
+-- Items filled at their places, page by page, as in one list.
 use Rattle.std.proofs.Common.{◌≡◌, ℕ, suc, List, [], ◌∷◌, ◌++◌, length, map, Bool, true, false, cond, refl, sym, subst, ap, ap₂, ◌∙◌, Some, None}
 use Rattle.std.specs.Prelude.{IsTrue, IfSome, ◌&&◌}
 use Rattle.std.specs.Cmp.{first_so, second_so}
@@ -61,7 +61,7 @@ module _ {T : Type 0} (name : T → List ℕ) (f : T → T) where
   before_above n [] before h = refl
   before_above n (x ∷ xs) before h = and_from _ _ (ap is_lt before) h
 
--- where what fills an item leaves it its name
+-- where filling keeps the name of an item
 module _ {T : Type 0} (name : T → List ℕ) (f : T → T) (same : (t : T) → name (f t) ≡ name t) where
   name_stays : (t : T) (o : Ordering) → name (by_order o t (f t) t) ≡ name t
   name_stays t Less = refl
@@ -79,7 +79,7 @@ module _ {T : Type 0} (name : T → List ℕ) (f : T → T) (same : (t : T) → 
   ordered-filled n (x ∷ xs) =
       ap (λ m. is_above m (keyed name (items_filled name f n xs))) (name_stays x (by_bytes n (name x))) ∙ above-filled n (name x) xs
 
-  -- what is filled is bound anew
+  -- the filled item is bound to the name
   bind_by : (n : List ℕ) (x : T) (xs : List T) (o : Ordering) → by_bytes n (name x) ≡ o → IsTrue (is_ordered (keyed name (x ∷ xs)))
       → IfSome (value_of n (keyed name xs)) (λ t. keyed name (items_filled name f n xs) ≡ bind n (f t) (keyed name xs))
       → IfSome (by_order o None (Some x) (value_of n (keyed name xs)))
@@ -103,7 +103,7 @@ module _ {T : Type 0} (name : T → List ℕ) (f : T → T) (same : (t : T) → 
         len = ap length is ∙ length-map (items_of pages) (λ t. by_order (by_bytes n (name t)) t (f t) t);
       }
 
-  -- what is put in is put in filled
+  -- to fill an item that was put in is to put in the filled item
   put_by : (t x : T) (xs : List T) (o : Ordering) → by_bytes (name t) (name x) ≡ o → IsTrue (is_ordered (keyed name (x ∷ xs)))
       → items_filled name f (name t) (put_in name t xs) ≡ put_in name (f t) xs
       → items_filled name f (name t) (by_order o (t ∷ x ∷ xs) (t ∷ xs) (x ∷ put_in name t xs)) ≡ by_order o (f t ∷ x ∷ xs) (f t ∷ xs) (x ∷ put_in name (f t) xs)

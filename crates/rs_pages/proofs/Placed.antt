@@ -21,7 +21,7 @@ pub same_page : {T : Type 0} (x y : Page T) → x.items ≡ y.items → x.place 
 same_page {T} x y items place = ap₂ (λ (xs : List T) (p : Place). record { items = xs; place = p }) items place
 
 module _ {T : Type 0} (format : ItemFormat T) where
-  -- a page that is not touched stays, and takes nothing
+  -- a page that is not touched stays, and takes no blocks
   stays : (u v : List Bool) (items : List T) (place : Place) (page : Page T) → ¬ IsTouched place → PlacesOne format u (record { items = items; place = place }) v page
       → (v ≡ u) × (page ≡ record { items = items; place = place })
   stays u v items Touched page settled one = absurd (settled tt)
@@ -64,14 +64,14 @@ module _ {T : Type 0} {format : ItemFormat T} {u v : List Bool} where
   settled_first : {k : ℕ} {old : List (Page T)} {d page : Page T} → PlacesFirst format u v k old d page → ¬ IsTouched page.place
   settled_first {k} {old} {d} {page} first = settled_by format u v (get_or old k d).items (get_or old k d).place page first.one
 
-  -- behind a page that is not touched it is the first one of the others
+  -- after a page that is not touched it is the first one of the others
   first_of_rest : (o : Page T) {k : ℕ} {old : List (Page T)} {d page : Page T} → PlacesFirst format u v (suc k) (o ∷ old) d page
       → (¬ IsTouched o.place) × PlacesFirst format u v k old d page
   first_of_rest o {k} {old} {d} {page} first =
       let P : Page T → Type 0 = λ it. ¬ IsTouched it.place in
       (All-head P o (take k old) first.before, record { inside = omega (arith, first.inside); before = All-tail P o (take k old) first.before; touched = first.touched; one = first.one })
 
-  -- the others are placed behind it
+  -- the others are placed after it
   pub places_behind : (w : List Bool) (k : ℕ) (old new : List (Page T)) (d page : Page T) → PlacesFirst format u v k old d page → Places format v (set old k page) w new → Places format u old w new
   places_behind w k [] new d page first places = absurd (omega (arith, first.inside))
   places_behind w zero (o ∷ old) [] d page first places = absurd places
@@ -90,7 +90,7 @@ module _ {T : Type 0} {format : ItemFormat T} {u v : List Bool} where
         places_behind w k old new d page rest.1 (subst (λ (b : List Bool). Places format b (set old k page) w new) kept.0 places.2),
       )
 
-  -- or one behind it has no run
+  -- or one after it has no run
   pub full_behind : (k : ℕ) (old : List (Page T)) (d page : Page T) → PlacesFirst format u v k old d page → HasNoPlace format v (set old k page) → HasNoPlace format u old
   full_behind k [] d page first none = absurd (omega (arith, first.inside))
   full_behind zero (o ∷ old) d page first none = elim none [
@@ -128,7 +128,7 @@ module _ {T : Type 0} (format : ItemFormat T) where
       let rest = places_keep places.0 used' old new places.2 in
       (ap₂ (λ items later. items ∷ later) places.1.0 rest.0, ap₂ (λ ref later. ref ∷ later) (ref_kept used places.0 o.items o.place n places.1) rest.1)
 
-  -- the items stay, and the references to pages that are on the disk, whatever the answer
+  -- with any answer, the items stay, and so do the references to pages that are on the disk
   pub placed_keep : {A E : Type 0} (used used' : List Bool) (old new : List (Page T)) (r : Result A E) → OnOk r (Places format used old used' new) → OnErr r (new ≡ old)
       → (items_by_page new ≡ items_by_page old) × (map (λ it. stored_ref it.place) new ≡ map (λ it. stored_ref it.place) old)
   placed_keep used used' old new (Ok a) ok err = places_keep used used' old new ok

@@ -1,4 +1,4 @@
--- What holds while pages are written, one after the other.
+-- The invariant of writing pages, one after the other.
 use Rattle.std.proofs.Common.{◌≡◌, ℕ, suc, ◌+◌, ◌<◌, ◌≤◌, List, [], ◌∷◌, ◌++◌, length, get_or, set, take, drop, refl, sym, ap, ap₂, ◌∙◌, subst, add-one}
 use Rattle.std.specs.Prelude.{IfSome, All}
 use Rattle.std.specs.List.{AllZip}
@@ -50,7 +50,7 @@ module _ {T : Type 0} {format : ItemFormat T} {k : ℕ} {initial pages : List (P
   front : take (suc k) initial ≡ take k initial ++ get_or pages k d ∷ []
   front = front_at k initial (get_or pages k d) next.0 next.1
 
-  -- what it needs
+  -- the requirements of its write
   pub next_room : AreOnDisk (placed_extents initial) old.size → IfSome (placed_extent (get_or pages k d).place) (λ e. IsOnDisk e mid.size)
   next_room room = room_at format initial k (get_or pages k d) mid.size next.0 next.1 (subst (AreOnDisk (placed_extents initial)) (sym so_far.writes.writes.runs.runs.size) room)
 

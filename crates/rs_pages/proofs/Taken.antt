@@ -1,4 +1,4 @@
--- What pages take that are placed, one after the other.
+-- The blocks that pages take while they are placed, one after the other.
 use Rattle.std.proofs.Common.{◌≡◌, ◌⊎◌, ℕ, ◌+◌, ◌<◌, ◌≤◌, List, [], ◌∷◌, length, Bool, true, false, refl, sym, ap, ◌∙◌, subst, inl, inr, arith, None}
 use Rattle.std.specs.List.{cons_option}
 use Rattle.std.specs.Prelude.{All}
@@ -105,7 +105,7 @@ settled_places format old new (s ∷ pages) [] places = absurd places
 settled_places {T} format old new (s ∷ pages) (s' ∷ pages') places =
     All-cons (λ (page : Page T). ¬ IsTouched page.place) s' pages' (settled_by format old places.0 s.items s.place s' places.1) (settled_places format places.0 new pages pages' places.2)
 
--- What placing each touched page leaves, of lists that are these.
+-- The result of placing every touched page, of lists that are these.
 pub places_touched : {T : Type 0} (format : ItemFormat T) (used used' : List Bool) (old new was now : List (Page T)) → old ≡ was → now ≡ new → Places format used old used' new → PlacesTouched format used was used' now
 places_touched {T} format used used' old new was now before after places =
     subst (λ (pages : List (Page T)). PlacesTouched format used pages used' now) before

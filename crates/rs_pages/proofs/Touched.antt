@@ -1,4 +1,4 @@
--- What the page rule touches, and what it leaves.
+-- The pages that the page rule touches, and those that it leaves.
 use Rattle.std.proofs.Common.{◌≡◌, ℕ, zero, suc, ◌-◌, List, [], ◌∷◌, ◌++◌, length, Bool, true, false, cond, refl, sym, ap, ◌∙◌, arith, inl, inr, subst, Option, Some, None}
 use Rattle.std.specs.Prelude.{is_some, All, nat_lt}
 use Rattle.std.specs.List.{cons_option}

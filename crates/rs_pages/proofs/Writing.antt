@@ -18,7 +18,7 @@ use Rattle.rs_page.specs.DiskPages.{IsWritten}
 use Rattle.rs_pages.specs.Storing.{items_by_page, StaysOrIsStored, StoresTouched, StoresSome, WritesPages}
 
 module _ {A : Type 0} where
-  -- an element inside the list, whatever the default
+  -- an element inside the list, with any default
   pub same_at : (xs : List A) (k : ℕ) (d other : A) → k < length xs → get_or xs k d ≡ get_or xs k other
   same_at [] k d other inside = absurd (omega arith)
   same_at (x ∷ xs) zero d other inside = refl
@@ -40,7 +40,7 @@ module _ {A : Type 0} where
   none_left zero (x ∷ xs) inside is = cc
   none_left (suc k) (x ∷ xs) inside is = none_left k xs (omega arith) is
 
-  -- the same element stands at a place of lists that are the same from there on
+  -- lists that are the same from a place on have the same element there
   pub next_of : (k : ℕ) (now old : List A) (x : A) → k < length now → drop k now ≡ drop k old → x ≡ get_or now k x
       → (k < length old) × (x ≡ get_or old k x) × (drop (suc k) now ≡ drop (suc k) old)
   next_of k [] old x inside same is = absurd (omega arith)
@@ -114,7 +114,7 @@ module _ {T : Type 0} where
         one_each = omega (arith, one.one_each, two.one_each, ap length (placed_parts front rest), length-append xs ys);
       }
 
-  -- what writes some pages writes them and others
+  -- a run that writes some pages writes them and others
   pub writes_more : {A : Type 0} (front rest : List (Page T)) (old new : DiskState) → WritesPages front A old new → WritesPages (front ++ rest) A old new
   writes_more front rest old new run =
       let xs : List Extent = placed_extents front in
@@ -167,7 +167,7 @@ module _ {T : Type 0} (format : ItemFormat T) where
       (elim zip.0 [ inl same ↦ ap (λ (p : Page T). p.items) same | inr next ↦ ap (λ (p : Page T). p.items) next.0 ])
       (items_zipped image old new zip.1)
 
-  -- they stay, whatever the answer
+  -- they stay, with any answer
   pub items_kept : {A E : Type 0} (image : List ℕ) (old new : List (Page T)) (r : Result A E) → OnOk r (StoresTouched format image old new) → OnErr r (StoresSome format image old new)
       → items_by_page new ≡ items_by_page old
   items_kept image old new (Ok a) ok err = ap items_by_page ok.pages ∙ items_stored old

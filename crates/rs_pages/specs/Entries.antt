@@ -1,4 +1,4 @@
--- Which entries the pages on the disk have.
+-- The entries of the pages on the disk.
 use Rattle.std.specs.Prelude.{ℕ, zero, suc, ◌-◌, Bool, false, cond, nat_lt, List, [], ◌∷◌, length, Option, Some, None}
 use Rattle.rs_page.specs.declared.place.PageRef.{PageRef}
 use Rattle.rs_page.specs.Pages.{Page, same_page, stored_ref}

@@ -1,4 +1,4 @@
--- What follows from the page rule alone.
+-- Consequences of the page rule alone.
 use Rattle.std.specs.Prelude.{◌≡◌, ◌≤◌, ℕ, List, [], ◌∷◌, ◌++◌, length, All, IfSome, IsTrue}
 use Rattle.rs_model.specs.Names.{bind, unbind, value_of, is_ordered}
 use Rattle.rs_page.specs.Pages.{Page, IsTouched, items_of, placed_extents}
@@ -11,7 +11,8 @@ use Rattle.rs_pages.specs.Rule.{HaveItems, items_at, home, bound_in, unbound_in,
 abbrev pub IsFreshPage : {T : Type 0} → Page T → Type 0
 IsFreshPage page = IsTouched page.place × (1 ≤ length page.items) × (length page.items ≤ 64)
 
--- At most one page of the old list goes, and touched pages of 1 to 64 items come in its place; all other pages stay as they are.
+-- At most one page of the old list goes, and touched pages of 1 to 64 items come in its place; all other pages stay as
+-- they are.
 pub record TouchesOne {T : Type 0} (old new : List (Page T)) : Type 0 where
   pub before : List (Page T)
   pub gone : List (Page T)
@@ -45,7 +46,7 @@ FindsAsOne {T} name = (n : List ℕ) (pages : List (Page T)) → Ascend name pag
 abbrev pub AppendsAsOne : Type 0 → Type 0
 AppendsAsOne T = (t : T) (pages : List (Page T)) → items_of (appended_to t pages) ≡ items_of pages ++ t ∷ []
 
--- What binds, unbinds and appends touches at most one page.
+-- Binding, unbinding and appending touch at most one page.
 abbrev pub BindingTouchesOne : {T : Type 0} → (T → List ℕ) → Type 0
 BindingTouchesOne {T} name = (t : T) (pages : List (Page T)) → TouchesOne pages (bound_in name t pages)
 
@@ -59,21 +60,22 @@ AppendingTouchesOne T = (t : T) (pages : List (Page T)) → TouchesOne pages (ap
 abbrev pub TouchingKeeps : Type 0 → Type 0
 TouchingKeeps T = (old new : List (Page T)) → TouchesOne old new → KeepsPages old new × (placed_extents old ≡ [] → placed_extents new ≡ [])
 
--- What is bound, ..
+-- An item that is bound ..
 abbrev pub BoundStandsUnstored : {T : Type 0} → (T → List ℕ) → Type 0
 BoundStandsUnstored {T} name = (t : T) (pages : List (Page T)) → StandsUnstored name (name t) (bound_in name t pages)
 
--- .. and what is appended, stands in a page that is not on the disk.
+-- .. or appended is in a page that is not on the disk.
 abbrev pub AppendedEndsUnstored : Type 0 → Type 0
 AppendedEndsUnstored T = (t : T) (pages : List (Page T)) → EndsUnstored (appended_to t pages)
 
--- Through all pages, the item of a name is filled as in one list: it is bound anew, and the order and the number stay.
+-- Through all pages, the item of a name is filled as in one list: the filled item is bound to the name, and the order
+-- and the number stay.
 pub record FillsAsOne {T : Type 0} (name : T → List ℕ) (f : T → T) (n : List ℕ) (pages : List (Page T)) : Type 0 where
   pub bound : IfSome (value_of n (keyed name (items_of pages))) (λ t. keyed name (items_of (named_filled name f n pages)) ≡ bind n (f t) (keyed name (items_of pages)))
   pub ordered : Ascend name (named_filled name f n pages)
   pub len : length (items_of (named_filled name f n pages)) ≡ length (items_of pages)
 
--- So it is where what fills an item leaves it its name.
+-- So it is where filling keeps the name of an item.
 abbrev pub FillingIsOne : {T : Type 0} → (T → List ℕ) → Type 0
 FillingIsOne {T} name = (f : T → T) → ((t : T) → name (f t) ≡ name t) → (n : List ℕ) (pages : List (Page T)) → Ascend name pages → FillsAsOne name f n pages
 
@@ -81,11 +83,11 @@ FillingIsOne {T} name = (f : T → T) → ((t : T) → name (f t) ≡ name t) �
 abbrev pub LastIsFilled : Type 0 → Type 0
 LastIsFilled T = (f : T → T) (pages : List (Page T)) → HaveItems pages → items_of (last_filled f pages) ≡ end_filled f (items_of pages)
 
--- What is filled after it was bound ..
+-- Binding an item and then filling it is the same as binding the filled item.
 abbrev pub FillingBound : {T : Type 0} → (T → List ℕ) → Type 0
 FillingBound {T} name = (f : T → T) → ((t : T) → name (f t) ≡ name t) → (t : T) (pages : List (Page T)) → Ascend name pages
     → named_filled name f (name t) (bound_in name t pages) ≡ bound_in name (f t) pages
 
--- .. or appended is bound or appended as it is filled.
+-- Appending an item and then filling the last one is the same as appending the filled item.
 abbrev pub FillingAppended : Type 0 → Type 0
 FillingAppended T = (f : T → T) (t : T) (pages : List (Page T)) → last_filled f (appended_to t pages) ≡ appended_to (f t) pages

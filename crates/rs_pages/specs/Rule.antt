@@ -11,7 +11,8 @@ abbrev pub cut_up_to : {T : Type 0} → ℕ → ℕ → List T → List (List T)
 cut_up_to piece zero items = items ∷ []
 cut_up_to piece (suc n) items = cond (nat_le (length items) 64) (items ∷ []) (take piece items ∷ cut_up_to piece n (drop piece items))
 
--- cut from the front into pieces of one length, until at most 64 items are left, which are the last piece; no items make no piece
+-- cut from the front into pieces of one length, until at most 64 items are left, which are the last piece; no items
+-- make no piece
 abbrev pub cut_into_pieces_of : {T : Type 0} → ℕ → List T → List (List T)
 cut_into_pieces_of piece [] = []
 cut_into_pieces_of piece (x ∷ xs) = cut_up_to piece (length (x ∷ xs)) (x ∷ xs)

@@ -1,14 +1,14 @@
--- Where the items of each page begin among all items.
+-- The places of the first items of the pages among all items.
 use Rattle.std.specs.Prelude.{◌≡◌, ℕ, ◌+◌, List, [], ◌∷◌, length}
 use Rattle.rs_page.specs.Pages.{Page, items_of}
 use Rattle.rs_pages.specs.Rule.{HaveItems}
 
--- how many items are before each page, where n are before the first
+-- the number of items before every page, where n are before the first
 abbrev pub starts_of : {T : Type 0} → ℕ → List (Page T) → List ℕ
 starts_of n [] = []
 starts_of n (page ∷ pages) = n ∷ starts_of (n + length page.items) pages
 
--- What each list keeps: no page is empty, and it has counted the items before each page and in all.
+-- The invariant of a list: no page is empty, and it has counted the items before every page and in all.
 pub record AreCounted {T : Type 0} (pages : List (Page T)) (counts : List ℕ) (count : ℕ) : Type 0 where
   pub some : HaveItems pages
   pub starts : counts ≡ starts_of 0 pages

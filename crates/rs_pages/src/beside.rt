@@ -1,4 +1,4 @@
-//! Pages that are read beside a list in memory.
+//! Pages that are read from the disk, or taken from a list in memory.
 ghost use Rattle.std.specs.Prelude.{◌≡◌, [], ◌∷◌, false, map, All, Some, IfOk, IfSome, IsNone, IsErrOf, IsTrue};
 ghost use Rattle.std.specs.List.{list_any, Contains};
 ghost use Rattle.std.specs.List.Sorted.{IsSortedByKey};
@@ -23,7 +23,7 @@ struct EntryAt {
     place: usize,
 }
 
-/// The entries of the pages on the disk, sorted.
+/// Returns the entries of the pages on the disk, sorted.
 fn sorted_entries<T: PageItem>(alloc: Global, pages: &[Page<T>]) -> Result<Vec<EntryAt>, AllocError>
     ensures sorted { IfOk result
         (λ sorted. IsSortedByKey (λ at. at.entry) ⟦<PageRef as Ord>⟧.cmp sorted.items) }
@@ -34,7 +34,7 @@ fn sorted_entries<T: PageItem>(alloc: Global, pages: &[Page<T>]) -> Result<Vec<E
     Ok(entries)
 }
 
-/// The entries of the pages on the disk, in their order.
+/// Returns the entries of the pages on the disk, in their order.
 fn entries_of<T: PageItem>(alloc: Global, pages: &[Page<T>]) -> Result<Vec<EntryAt>, AllocError>
     ensures { IfOk result (λ entries. AreEntries pages.now entries.items) }
 {
@@ -47,8 +47,8 @@ fn entries_of<T: PageItem>(alloc: Global, pages: &[Page<T>]) -> Result<Vec<Entry
     Ok(entries)
 }
 
-/// The page on the disk that has this entry, if there is one. It takes as many steps as the number
-/// of entries has bits.
+/// Returns the page on the disk that has this entry, if there is one. It takes as many steps as the
+/// number of entries has bits.
 fn page_of_entry<'a, T: PageItem>(
     pages: &'a [Page<T>],
     sorted: &[EntryAt],
@@ -64,7 +64,7 @@ fn page_of_entry<'a, T: PageItem>(
     Some(&pages[place])
 }
 
-/// The place beside this entry, if the entries have it.
+/// Returns the place of the page with this entry, if the entries have it.
 fn place_of_entry(sorted: &[EntryAt], entry: &PageRef) -> Option<usize>
     requires { IsSortedByKey (λ at. at.entry) ⟦<PageRef as Ord>⟧.cmp sorted.now }
     ensures some { IfSome result
@@ -112,7 +112,7 @@ pub(crate) fn load_all_beside<T: PageItem + Duplicate, D: Disk>(
     Ok(loaded)
 }
 
-/// The page that a reference points to: the one of this list, or else the one on the disk.
+/// Returns the page that a reference points to: the one of this list, or else the one on the disk.
 fn load_one_beside<T: PageItem + Duplicate, D: Disk>(
     alloc: Global,
     disk: &mut D,

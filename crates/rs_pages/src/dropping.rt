@@ -12,7 +12,8 @@ use rs_record::{Duplicate, duplicate_all};
 use std::alloc::{AllocError, Global};
 
 impl<T: PageItem + Duplicate> Pages<T> {
-    /// The list without its first `count` items, which is empty if it has no more. This list stays.
+    /// Returns the list without its first `count` items, which is empty if it has no more. This
+    /// list stays.
     ///
     /// Pages that lie whole among these items go. The page in which the cut falls is touched: its
     /// other items are cut into pages of 64, of which the last has the rest. All other pages stay the
@@ -29,8 +30,8 @@ impl<T: PageItem + Duplicate> Pages<T> {
         Pages::of_pages(alloc, pages)
     }
 
-    /// The entries of the pages on the disk that have one of the first `count` items: they go when
-    /// these items are dropped.
+    /// Returns the entries of the pages on the disk that have one of the first `count` items: they
+    /// go when these items are dropped.
     ///
     /// # Errors
     ///
@@ -53,7 +54,8 @@ impl<T: PageItem + Duplicate> Pages<T> {
     }
 }
 
-/// How many pages lie whole among the first `count` items, and how many items of the next one do.
+/// Returns the number of pages whose items are all among the first `count` items, and the number of
+/// these items in the next page.
 fn whole_among<T: PageItem>(pages: &[Page<T>], count: usize) -> (usize, usize)
     ensures within { result.0 ≤ length pages.now }
     ensures dropped { dropped_front count pages.now
@@ -71,7 +73,7 @@ fn whole_among<T: PageItem>(pages: &[Page<T>], count: usize) -> (usize, usize)
     (pages.len(), 0)
 }
 
-/// These pages without the first `count` items of the first one, which has more.
+/// Returns these pages without the first `count` items of the first one, which has more.
 fn without_items<T: PageItem + Duplicate>(
     alloc: Global,
     pages: &[Page<T>],

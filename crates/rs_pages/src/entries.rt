@@ -13,15 +13,14 @@ use rs_page::{Page, PageItem, PageRef, Place};
 use rs_record::Name;
 
 impl<T: PageItem> Pages<T> {
-    /// Whether one of the pages on the disk has this entry. It looks at each page.
+    /// Returns whether one of the pages on the disk has this entry. It looks at every page.
     pub fn has_entry(&self, entry: &PageRef) -> bool
         ensures { result ≡ list_any (same_page entry.now) (stored_refs self.now) }
     {
         some_is_at(&self.pages, entry)
     }
 
-    /// The entry of the last page, where that page is on the disk and the next item that is appended
-    /// goes into it.
+    /// Returns the entry of the last page, where it is on the disk and the next item that is appended goes into it.
     pub fn open_entry(&self) -> Option<PageRef>
         ensures { result ≡ open_entry self.now }
     {
@@ -33,7 +32,7 @@ impl<T: PageItem> Pages<T> {
         }
     }
 
-    /// The entry of the page at i, where that page is on the disk.
+    /// Returns the entry of the page at i, where that page is on the disk.
     fn entry_at(&self, i: usize) -> Option<PageRef>
         ensures { result ≡ entry_at i self.now }
     {
@@ -45,7 +44,8 @@ impl<T: PageItem> Pages<T> {
 }
 
 impl<T: Named> Pages<T> {
-    /// The entry of the page that an item of this name goes into, where that page is on the disk.
+    /// Returns the entry of the page that an item of this name goes into, where that page is on the
+    /// disk.
     pub fn entry_for(&self, name: &Name) -> Option<PageRef>
         requires { IsTrue (is_ordered (keyed T.name (items_of self.now))) }
         ensures { result ≡ entry_at (home T.name name.now self.now) self.now }
@@ -54,7 +54,7 @@ impl<T: Named> Pages<T> {
     }
 }
 
-/// The entry of a page, where it is on the disk.
+/// Returns the entry of a page, where it is on the disk.
 pub(crate) fn entry_of<T: PageItem>(page: &Page<T>) -> Option<PageRef>
     ensures { result ≡ stored_ref page.now.place }
 {
@@ -64,7 +64,7 @@ pub(crate) fn entry_of<T: PageItem>(page: &Page<T>) -> Option<PageRef>
     }
 }
 
-/// Whether a page is on the disk and has this entry.
+/// Returns whether a page is on the disk and has this entry.
 fn is_at<T: PageItem>(page: &Page<T>, entry: &PageRef) -> bool
     ensures { result ≡ is_entry entry.now (stored_ref page.now.place) }
 {
@@ -74,7 +74,7 @@ fn is_at<T: PageItem>(page: &Page<T>, entry: &PageRef) -> bool
     }
 }
 
-/// Whether one of the pages is on the disk and has this entry.
+/// Returns whether one of the pages is on the disk and has this entry.
 fn some_is_at<T: PageItem>(pages: &[Page<T>], entry: &PageRef) -> bool
     ensures { result ≡ list_any (λ page. is_entry entry.now (stored_ref page.place)) pages.now }
 {

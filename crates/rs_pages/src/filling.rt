@@ -14,8 +14,8 @@ use rs_page::Fill;
 use rs_record::Name;
 
 impl<T: Named + Fill> Pages<T> {
-    /// Sets the digests of the item of this name, whose page is not on the disk. Each page keeps its
-    /// place. It takes no memory.
+    /// Sets the digests of the item of this name, whose page is not on the disk. Every page keeps
+    /// its place. It takes no memory.
     pub fn fill(&mut self, name: &Name, digests: Digests)
         requires ordered { IsTrue (is_ordered (keyed T.name (items_of self.old))) }
         requires unstored { StandsUnstored T.name name.now self.old }
@@ -32,8 +32,8 @@ impl<T: Named + Fill> Pages<T> {
 }
 
 impl<T: Fill> Pages<T> {
-    /// Sets the digests of the last item, whose page is not on the disk. Each page keeps its place. It
-    /// takes no memory.
+    /// Sets the digests of the last item, whose page is not on the disk. Every page keeps its
+    /// place. It takes no memory.
     pub fn fill_last(&mut self, digests: Digests)
         requires { EndsUnstored self.old }
         ensures pages { self.new ≡ last_filled (T.filled digests) self.old }

@@ -15,8 +15,8 @@ use rs_record::{Duplicate, MOST_ITEMS};
 use std::alloc::Global;
 
 impl<T: PageItem> Pages<T> {
-    /// Reads the pages that these references point to, whatever they say, by one device call a page.
-    /// The disk stays as it is.
+    /// Reads the pages that these references point to, by one device call a page. The references
+    /// may have any values. The disk stays as it is.
     ///
     /// It asks for no memory for a page before it has checked that the extent lies on the disk and
     /// has exactly the blocks of the length, and for none once it has passed 50,000 items.
@@ -48,12 +48,12 @@ impl<T: PageItem> Pages<T> {
 }
 
 impl<T: PageItem + Duplicate> Pages<T> {
-    /// Reads the pages that these references point to, as [`Pages::load`] does, beside a list in
-    /// memory. If a page of that list has the entry of a page to read, it takes that page, whose items
-    /// the two share, and reads nothing. Each other page takes one device call. The disk stays as it
-    /// is.
+    /// Reads the pages that these references point to, as [`Pages::load`] does, but takes pages
+    /// from a list in memory where it can: if a page of that list has the entry of a page to read,
+    /// it takes that page, whose items the two share, and makes no device call for it. Every other
+    /// page takes one device call. The disk stays as it is.
     ///
-    /// It sorts the entries of that list once, and looks up each reference by binary search.
+    /// It sorts the entries of that list once, and looks up every reference by binary search.
     ///
     /// # Errors
     ///

@@ -9,7 +9,7 @@ use std::alloc::{AllocError, Global};
 /// The most items of a page that is touched: a last page with fewer takes one more at its end.
 pub(crate) const MOST: usize = 64;
 
-// How many items a page has that is cut from the front of a touched page.
+// The number of items of a page that is cut from the front of a touched page.
 const CUT: usize = 32;
 
 /// Appends the pages that these items are cut into.
@@ -46,8 +46,8 @@ pub(crate) fn cut_into_pieces<T: PageItem>(
     Ok(())
 }
 
-/// Appends pages of copies of these items, 64 each, of which the last has the rest. Each item is copied
-/// once.
+/// Appends pages of copies of these items, 64 each, of which the last has the rest. It copies every
+/// item once.
 pub(crate) fn copy_in_pages<T: PageItem + Duplicate>(
     alloc: Global,
     pages: &mut Vec<Page<T>>,
@@ -68,7 +68,7 @@ pub(crate) fn copy_in_pages<T: PageItem + Duplicate>(
     add_copy(alloc, pages, rest)
 }
 
-/// The first 64 of these items, and those behind them.
+/// Returns the first 64 of these items, and those after them.
 fn split_off_page<T>(items: &[T]) -> (&[T], &[T])
     requires { 64 ≤ length items.now }
     ensures page { result.0.now ≡ take 64 items.now }
@@ -107,7 +107,7 @@ pub(crate) fn copy_into<T: PageItem + Duplicate>(
     Ok(())
 }
 
-/// These pages, what the items are cut into, and these pages.
+/// Returns the pages before, the pages that the items are cut into, and the pages after.
 pub(crate) fn spliced<T: PageItem + Duplicate>(
     alloc: Global,
     before: &[Page<T>],

@@ -17,13 +17,13 @@ use std::marker::Model;
 
 /// A list in pages, none of which is empty. Contracts see the list of the pages.
 ///
-/// It stays: what adds or takes out an item makes a new list. At most one page is touched by that,
-/// and all others stay the same pages, which share their items with the old list where they are on
-/// the disk.
+/// It stays: a call that adds or takes out an item makes a new list. At most one page is touched by
+/// that, and all others stay the same pages, which share their items with the old list where they
+/// are on the disk.
 #[derive(Debug, Drop)]
 pub struct Pages<T: PageItem> {
     pub(crate) pages: Vec<Page<T>>,
-    // How many items are before each page, and in all.
+    // The number of items before every page, and of all items.
     starts: Vec<usize>,
     len: usize,
 }
@@ -41,7 +41,7 @@ impl<T: PageItem> Model for Pages<T> {
 }
 
 impl<T: PageItem> Pages<T> {
-    /// No pages.
+    /// Returns the list without pages.
     pub fn empty(alloc: Global) -> Pages<T>
         ensures { result ≡ [] }
     {
@@ -52,7 +52,7 @@ impl<T: PageItem> Pages<T> {
         }
     }
 
-    /// How many items there are.
+    /// Returns the number of items.
     pub fn len(&self) -> usize
         ensures value { result ≡ length (items_of self.now) }
         ensures some { HaveItems self.now }
@@ -60,7 +60,7 @@ impl<T: PageItem> Pages<T> {
         self.len
     }
 
-    /// How many pages there are.
+    /// Returns the number of pages.
     pub fn page_count(&self) -> usize
         ensures value { result ≡ length self.now }
         ensures some { HaveItems self.now }
@@ -68,7 +68,7 @@ impl<T: PageItem> Pages<T> {
         self.pages.len()
     }
 
-    /// The item at place `i`, counted from 0. It takes as many steps as the number of pages has bits.
+    /// Returns the item at place `i`, counted from 0. It takes as many steps as the number of pages has bits.
     pub fn at(&self, i: usize) -> &T
         requires { i < length (items_of self.now) }
         ensures { slice_get (items_of self.now) i ≡ Some result.now }
@@ -77,7 +77,7 @@ impl<T: PageItem> Pages<T> {
         &self.items_at(k)[i - start]
     }
 
-    /// The page of the item at place `i`, and how many items are before that page.
+    /// Returns the page of the item at place `i`, and the number of items before that page.
     fn page_of(&self, i: usize) -> (usize, usize)
         requires { i < length (items_of self.now) }
         ensures start { result.1 ≤ i }
@@ -89,7 +89,7 @@ impl<T: PageItem> Pages<T> {
         (k, self.starts[k])
     }
 
-    /// A list of these pages.
+    /// Returns a list of these pages.
     pub(crate) fn of_pages(alloc: Global, pages: Vec<Page<T>>) -> Result<Pages<T>, AllocError>
         requires { HaveItems pages.items }
         ensures { IfOk result (λ next. next ≡ pages.items) }
@@ -103,7 +103,7 @@ impl<T: PageItem> Pages<T> {
         Ok(Pages { pages, starts, len })
     }
 
-    /// The items of the page at i.
+    /// Returns the items of the page at i.
     pub(crate) fn items_at(&self, i: usize) -> &[T]
         ensures { result.now ≡ items_at i self.now }
     {
@@ -113,7 +113,7 @@ impl<T: PageItem> Pages<T> {
         }
     }
 
-    /// The pages after the one at i.
+    /// Returns the pages after the one at i.
     fn after(&self, i: usize) -> &[Page<T>]
         ensures { result.now ≡ drop (i + 1) self.now }
     {
@@ -126,7 +126,8 @@ impl<T: PageItem> Pages<T> {
 }
 
 impl<T: PageItem + Duplicate> Pages<T> {
-    /// The list of copies of these items, in touched pages of 64, of which the last has the rest.
+    /// Returns the list of copies of these items, in touched pages of 64, of which the last has the
+    /// rest.
     ///
     /// # Errors
     ///
@@ -142,7 +143,7 @@ impl<T: PageItem + Duplicate> Pages<T> {
         Pages::of_pages(alloc, pages)
     }
 
-    /// A copy of the list, in the same pages.
+    /// Returns a copy of the list, in the same pages.
     ///
     /// # Errors
     ///
@@ -155,7 +156,7 @@ impl<T: PageItem + Duplicate> Pages<T> {
         Pages::of_pages(alloc, pages)
     }
 
-    /// The list with these items in place of the page at `i`.
+    /// Returns the list with these items in place of the page at `i`.
     fn with_page(&self, alloc: Global, i: usize, items: Vec<T>) -> Result<Pages<T>, AllocError>
         requires { i ≤ length self.now }
         ensures { IfOk result (λ next. next ≡ with_page i items.items self.now) }
@@ -164,8 +165,8 @@ impl<T: PageItem + Duplicate> Pages<T> {
         Pages::of_pages(alloc, pages)
     }
 
-    /// The list with this item at its end: in the last page where that has fewer than 64 items, else
-    /// in a new page. This list stays.
+    /// Returns the list with this item at its end: in the last page where that has fewer than 64 items, else in a new
+    /// page. This list stays.
     ///
     /// # Errors
     ///
@@ -190,7 +191,7 @@ impl<T: PageItem + Duplicate> Pages<T> {
 }
 
 impl<T: Named> Pages<T> {
-    /// Where the name goes.
+    /// Returns the page where the name goes.
     pub(crate) fn home_of(&self, name: &Name) -> usize
         requires { IsTrue (is_ordered (keyed T.name (items_of self.now))) }
         ensures value { result ≡ home T.name name.now self.now }
@@ -200,7 +201,7 @@ impl<T: Named> Pages<T> {
         begun.saturating_sub(1)
     }
 
-    /// The item of a name, if there is one.
+    /// Returns the item of a name, if there is one.
     pub fn get(&self, name: &Name) -> Option<&T>
         requires { IsTrue (is_ordered (keyed T.name (items_of self.now))) }
         ensures { option_copied result ≡ value_of name.now (keyed T.name (items_of self.now)) }
@@ -212,7 +213,7 @@ impl<T: Named> Pages<T> {
         }
     }
 
-    /// Whether the names strictly ascend through all pages.
+    /// Returns whether the names strictly ascend through all pages.
     pub fn is_ordered(&self) -> bool
         ensures { IsTrue result ↔ IsTrue (is_ordered (keyed T.name (items_of self.now))) }
     {
@@ -224,8 +225,8 @@ impl<T: Named> Pages<T> {
         true
     }
 
-    /// The list with this item bound to its name; it replaces the item that had the name. This list
-    /// stays.
+    /// Returns the list with this item bound to its name; it replaces the item that had the name.
+    /// This list stays.
     ///
     /// The item goes into the last page whose first name is not above its own, or else into the
     /// first page. That page is touched: if it has more than 64 items, pages of 32 are cut from its
@@ -243,8 +244,8 @@ impl<T: Named> Pages<T> {
         self.with_page(alloc, home, items)
     }
 
-    /// The list without the item of this name; the same list if no item has it. This list stays. A
-    /// page that is left empty goes, and pages are never joined.
+    /// Returns the list without the item of this name; the same list if no item has it. This list
+    /// stays. A page that is left empty goes, and pages are never joined.
     ///
     /// # Errors
     ///
@@ -265,7 +266,7 @@ impl<T: Named> Pages<T> {
     }
 }
 
-/// Whether the first name of the page is not above this one.
+/// Returns whether the first name of the page is not above this one.
 fn begins_by<T: Named>(page: &Page<T>, name: &Name) -> bool
     ensures { result ≡ begins_by T.name name.now page.now.items }
 {

@@ -14,12 +14,12 @@ use rs_page::{Full, Page, PageItem, PageRef, Place, StoreFault};
 use std::alloc::{AllocError, Global};
 
 impl<T: PageItem> Pages<T> {
-    /// Gives each touched page the lowest run of free blocks of its size, one page after the other.
-    /// It takes no memory.
+    /// Gives every touched page the lowest run of free blocks of its size, one page after the
+    /// other. It takes no memory.
     ///
     /// # Errors
     ///
-    /// [`Full`] where a page has no such run; nothing has changed then.
+    /// [`Full`] where a page has no such run. The pages and the used blocks are unchanged then.
     pub fn place_touched(&mut self, used: &mut Used) -> Result<(), Full>
         ensures ok { OnOk result (PlacesTouched T.format used.old self.old used.new self.new) }
         ensures full { OnErr result (HasNoPlace T.format used.old self.old) }
@@ -32,8 +32,8 @@ impl<T: PageItem> Pages<T> {
         place_from(&mut self.pages, 0, used)
     }
 
-    /// Adds the blocks of the placed pages that are not written yet, in the order of the pages, to a
-    /// list that has room for an extent of each page. It takes no memory.
+    /// Adds the blocks of the placed pages that are not written yet, in the order of the pages, to
+    /// a list that has room for one extent per page. It takes no memory.
     pub fn list_placed(&self, extents: &mut Vec<Extent>)
         requires { vec_len extents.old + length self.now ≤ vec_capacity extents.old }
         ensures items { extents.new.items ≡ extents.old.items ++ placed_extents self.now }
@@ -45,13 +45,13 @@ impl<T: PageItem> Pages<T> {
         }
     }
 
-    /// Writes each page that was given blocks, by one device call a page. Pages that are on the disk
-    /// already are not written again.
+    /// Writes every page that was given blocks, by one device call a page. Pages that are on the
+    /// disk already are not written again.
     ///
     /// No page is touched, and the extents of those that were given blocks lie on the disk and have
     /// no block in common. A read gives the pages from then on; a crash may leave anything in their
-    /// blocks until the next sync. Nothing else on the disk changes, whether it succeeds or not:
-    /// each set of blocks beside these extents stays as it is, at every moment of the run.
+    /// blocks until the next sync. On success and on failure, every set of blocks outside these
+    /// extents stays as it is, at every moment of the run.
     ///
     /// # Errors
     ///
@@ -59,8 +59,8 @@ impl<T: PageItem> Pages<T> {
     ///   have been written then.
     /// - [`StoreFault::Device`] where the device fails. The extents may then hold anything.
     ///
-    /// After each of them the items are as they were, and each page is as it was, or is written and
-    /// stored.
+    /// After either of them the items are as they were, and every page is as it was, or is written
+    /// and stored.
     pub fn store_touched<D: Disk>(&mut self, alloc: Global, disk: &mut D) -> Result<(), StoreFault>
         requires placed { All (λ page. ¬ IsTouched page.place) self.old }
         requires room { AreOnDisk (placed_extents self.old) (D.state disk.old).size }
@@ -75,7 +75,7 @@ impl<T: PageItem> Pages<T> {
         store_all(&mut self.pages, alloc, disk)
     }
 
-    /// The references to the pages that are on the disk, in their order.
+    /// Returns the references to the pages that are on the disk, in their order.
     ///
     /// # Errors
     ///
@@ -94,8 +94,8 @@ impl<T: PageItem> Pages<T> {
     }
 }
 
-/// Gives each touched page from the one at `start` on the lowest run of free blocks of its size, one
-/// page after the other. It calls itself once for each touched page.
+/// Gives every touched page from the one at `start` on the lowest run of free blocks of its size,
+/// one page after the other. It calls itself once for every touched page.
 fn place_from<T: PageItem>(pages: &mut [Page<T>], start: usize, used: &mut Used) -> Result<(), Full>
     requires bound { start ≤ length pages.old }
     requires before { All (λ page. ¬ IsTouched page.place) (take start pages.old) }
@@ -116,7 +116,8 @@ fn place_from<T: PageItem>(pages: &mut [Page<T>], start: usize, used: &mut Used)
     Ok(())
 }
 
-/// The place of the first touched page from `start` on, or the number of pages if none is touched.
+/// Returns the place of the first touched page from `start` on, or the number of pages if none is
+/// touched.
 fn next_touched<T: PageItem>(pages: &[Page<T>], start: usize) -> usize
     requires bound { start ≤ length pages.now }
     requires before { All (λ page. ¬ IsTouched page.place) (take start pages.now) }
@@ -145,7 +146,7 @@ fn add_placed(extents: &mut Vec<Extent>, place: Place)
     }
 }
 
-/// Writes each page that was given blocks, one page after the other.
+/// Writes every page that was given blocks, one page after the other.
 fn store_all<T: PageItem, D: Disk>(
     pages: &mut [Page<T>],
     alloc: Global,

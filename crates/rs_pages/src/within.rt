@@ -7,7 +7,7 @@ use crate::Named;
 use rs_record::{Name, duplicate_all};
 use std::alloc::{AllocError, Global};
 
-/// The place of the item of the name, or else the place where it belongs.
+/// Returns the place of the item of the name, or else the place where it belongs.
 pub(crate) fn place_of<T: Named>(items: &[T], name: &Name) -> Result<usize, usize>
     requires { IsTrue (is_ordered (keyed T.name items.now)) }
     ensures { IsPlaceOf (keyed T.name items.now) name.now result }
@@ -15,7 +15,7 @@ pub(crate) fn place_of<T: Named>(items: &[T], name: &Name) -> Result<usize, usiz
     items.binary_search_by(|item| item.name().compare(name))
 }
 
-/// Copies of the items, with this one put in.
+/// Returns copies of the items, with this one put in.
 pub(crate) fn with_item<T: Named>(alloc: Global, items: &[T], item: T) -> Result<Vec<T>, AllocError>
     requires { IsTrue (is_ordered (keyed T.name items.now)) }
     ensures { IfOk result (λ v. v.items ≡ put_in T.name item items.now) }
@@ -29,7 +29,7 @@ pub(crate) fn with_item<T: Named>(alloc: Global, items: &[T], item: T) -> Result
     Ok(copied)
 }
 
-/// Copies of the items, without the one at this place.
+/// Returns copies of the items, without the one at this place.
 pub(crate) fn without_place<T: Named>(
     alloc: Global,
     items: &[T],

@@ -27,7 +27,7 @@ const HISTORY: [u8; 16] = [
     0x00, 0x00, 0x00, 0x00, 0x00, 0x00, 0x00, 0x02, 0x00, 0x00, 0x00, 0xdc, 0x6a, 0xcf, 0xab, 0xff,
 ];
 
-// First kept part 0; the start. So version 2 spells what version 1 leaves out.
+// First kept part 0; the start. So version 2 spells out the values that version 1 omits.
 const WHOLE_HISTORY: [u8; 16] = [
     0x00, 0x00, 0x00, 0x00, 0x00, 0x00, 0x00, 0x00, 0x00, 0x00, 0x00, 0x00, 0x00, 0x00, 0x03, 0xe8,
 ];
@@ -43,7 +43,7 @@ const PAGES_BYTES: [u8; 100] = [
     0x78, 0x52, 0xb8, 0x55,
 ];
 
-/// A directory of version 1.
+/// Returns a directory of version 1.
 fn version_one() -> [u8; 156] {
     let mut bytes = [0; 156];
     bytes[..56].copy_from_slice(&FRONT);
@@ -51,7 +51,7 @@ fn version_one() -> [u8; 156] {
     bytes
 }
 
-/// A directory of version 2.
+/// Returns a directory of version 2.
 fn version_two(history: &[u8; 16]) -> [u8; 172] {
     let mut bytes = [0; 172];
     bytes[..56].copy_from_slice(&FRONT);
@@ -79,7 +79,7 @@ const PAGES: [PageRef; 2] = [
     },
 ];
 
-/// Whether a directory was read with these pages, this first kept part and this begin.
+/// Checks that a directory was read with these pages, this first kept part and this begin.
 fn is_read(rt: &impl Abort, read: &Directory, first: u64, begin: u64) {
     assert!(rt; read.catalogue.is_empty() && read.changes.is_empty());
     assert_eq!(rt; read.published.as_slice(), PAGES.as_slice());

@@ -1,5 +1,5 @@
-//! Lists of pages without their first items, and histories without their first parts: how many
-//! pages are left.
+//! Lists of pages without their first items, and histories without their first parts: the number of
+//! pages that are left.
 
 use crate::lists::with;
 use crate::pages::store;
@@ -13,7 +13,7 @@ use rs_record::Change;
 use std::process::Abort;
 use std::test::Fail;
 
-/// `len` changes, each at the moment of its place.
+/// Returns `len` changes, each at the moment of its place.
 fn changes(rt: &impl AllocGlobal, len: u64) -> Result<Vec<Change>, Fail> {
     let mut items = Vec::new(rt.alloc());
     for ms in 0..len {
@@ -22,7 +22,7 @@ fn changes(rt: &impl AllocGlobal, len: u64) -> Result<Vec<Change>, Fail> {
     Ok(items)
 }
 
-/// `len` changes, appended one after the other.
+/// Returns `len` changes, appended one after the other.
 fn appended(rt: &impl AllocGlobal, len: u64) -> Result<Pages<Change>, Fail> {
     let mut pages = Pages::empty(rt.alloc());
     for ms in 0..len {
@@ -31,7 +31,7 @@ fn appended(rt: &impl AllocGlobal, len: u64) -> Result<Pages<Change>, Fail> {
     Ok(pages)
 }
 
-/// One page of 200 changes, as an older disk has it.
+/// Returns one page of 200 changes, as an older disk has it.
 fn older(rt: &(impl Abort + AllocGlobal)) -> Result<Pages<Change>, Fail> {
     let items = changes(rt, 200)?;
     assert!(rt; items.len() == 200);
@@ -46,7 +46,7 @@ fn older(rt: &(impl Abort + AllocGlobal)) -> Result<Pages<Change>, Fail> {
     Ok(Pages::load(rt.alloc(), &mut disk, &[at])?)
 }
 
-// How many items are dropped of pages of 64, 64 and 2, and how many pages are left.
+// The number of items dropped of pages of 64, 64 and 2, and the number of pages left.
 const APPENDED: [(usize, usize); 8] = [
     (0, 3),
     (1, 3),
@@ -61,7 +61,7 @@ const APPENDED: [(usize, usize); 8] = [
 // The same of one page of 200.
 const OLDER: [(usize, usize); 6] = [(0, 1), (3, 4), (8, 3), (136, 1), (137, 1), (200, 0)];
 
-/// Drops as many changes as the rows say, and looks how many pages are left, and which change is first.
+/// Drops as many changes as the rows say, and checks the number of pages left, and the first change.
 fn drop_each(
     rt: &(impl Abort + AllocGlobal),
     pages: &Pages<Change>,
@@ -85,7 +85,7 @@ fn first_changes_are_dropped(rt: HostRuntime) -> Result<(), Fail> {
     drop_each(&rt, &older(&rt)?, &OLDER)
 }
 
-/// A history of 130 changes, each at the moment of its place.
+/// Returns a history of 130 of these changes.
 fn history(rt: &(impl Abort + AllocGlobal)) -> Result<History, Fail> {
     let mut history = History::empty(rt.alloc());
     for ms in 0..130 {
@@ -94,8 +94,8 @@ fn history(rt: &(impl Abort + AllocGlobal)) -> Result<History, Fail> {
     Ok(history)
 }
 
-// How many parts of how many changes are dropped of 130 changes in pages of 64, 64 and 2, and how
-// many pages are left.
+// The number of dropped parts, and of changes of a part, of 130 changes in pages of 64, 64 and 2,
+// and the number of pages left.
 const PARTS: [(u16, u16, usize); 6] = [
     (0, 50, 3),
     (1, 50, 3),

@@ -1,5 +1,5 @@
-//! Images whose device fails, and roots for whose blocks no device is asked. Each SHA-256 and MD5 is by
-//! Python's `hashlib`.
+//! Images whose device fails, and roots for whose blocks no device is asked. All values of SHA-256
+//! and MD5 are by Python's `hashlib`.
 
 use rs_body::LoadFault;
 use rs_commit::Root;
@@ -27,8 +27,8 @@ const CHANGES: [u8; 79] = [
     0xb4, 0x10, 0xff, 0x61, 0xf2, 0, 0x15, 0xad,
 ];
 
-// The directory, in version 1, of a source with these pages in blocks 3 and 4, which published what it
-// holds: the limit is 2 and the base `http://127.0.0.1:8080`.
+// The directory, in version 1, of a source with these pages in blocks 3 and 4, which published the
+// resources that it holds: the limit is 2 and the base `http://127.0.0.1:8080`.
 const DIRECTORY: [u8; 200] = [
     0, 2, 0x15, 0x68, 0x74, 0x74, 0x70, 0x3a, 0x2f, 0x2f, 0x31, 0x32, 0x37, 0x2e, 0x30, 0x2e, 0x30,
     0x2e, 0x31, 0x3a, 0x38, 0x30, 0x38, 0x30, 0, 0, 0, 0, 0, 0, 0, 0, 0, 0, 0, 0xdd, 0x9a, 0xa6,
@@ -51,7 +51,8 @@ const SHA256_OF_DIRECTORY: [u8; 32] = [
 // The bytes of a block.
 const BLOCK: usize = 512;
 
-/// An image of 8 blocks: `abc` in block 2, the pages in blocks 3 and 4, the directory in block 5.
+/// Returns an image of 8 blocks: `abc` in block 2, the pages in blocks 3 and 4, the directory in
+/// block 5.
 fn image(rt: &impl AllocGlobal) -> Result<Vec<u8>, Fail> {
     let parts: [(&[u8], usize); 4] = [
         (b"abc", 3 * BLOCK),
@@ -67,8 +68,9 @@ fn image(rt: &impl AllocGlobal) -> Result<Vec<u8>, Fail> {
     Ok(bytes)
 }
 
-// The blocks of the directory, how many calls work before one fails, why nothing is loaded, and how many calls
-// were made. The directory is read, and then the page of each list; the one that two lists have is read once.
+// The blocks of the directory, the number of calls that work before one fails, the fault of the
+// loading, and the number of calls made. The directory is read, and then the page of every list;
+// the one that two lists have is read once.
 const ROWS: [(u32, u32, u64, Option<LoadFault>, u64); 10] = [
     (5, 1, 0, Some(LoadFault::Device), 1),
     (5, 1, 1, Some(LoadFault::Device), 2),
@@ -82,7 +84,7 @@ const ROWS: [(u32, u32, u64, Option<LoadFault>, u64); 10] = [
     (5, 0, 4, Some(LoadFault::Damaged), 0),
 ];
 
-/// Why nothing is loaded of a disk with these bytes, if nothing is, and how many calls were made.
+/// Returns the fault of loading a disk with these bytes, if it fails, and the number of calls made.
 fn asked(
     rt: &impl AllocGlobal,
     bytes: &[u8],

@@ -1,8 +1,8 @@
-//! Tests of the pages of a source, of the lists in them, of its directory and of whole images: what
-//! they make of a device that fails, and worked values that the program doesn't show.
+//! Tests of the pages of a source, of the lists in them, of its directory and of whole images:
+//! their answers where a device fails, and worked values that the program doesn't show.
 //!
-//! The tables `tests/rows/*.disks` and the sessions beside them show on the built program which state
-//! a disk holds, and which disks are damaged.
+//! The tables `tests/rows/*.disks` and their sessions show on the built program which state a disk
+//! holds, and which disks are damaged.
 #![tactic(auto)]
 
 #[cfg(test)]

@@ -14,7 +14,7 @@ use rs_time::Moment;
 use std::process::Abort;
 use std::test::Fail;
 
-/// A record of `a`.
+/// Returns a record of `a`.
 fn record(rt: &impl AllocGlobal) -> Result<Record, Fail> {
     let moment = Moment::new(1000).ok_or("a moment")?;
     let kind = MediaType::new(rt.alloc(), b"text/plain")?;
@@ -87,7 +87,7 @@ fn a_history_is_not_stored_by_a_failing_write(rt: HostRuntime) -> Result<(), Fai
     is_not_kept(&rt, &mut history, &mut used, &mut disk)
 }
 
-/// The history with one more change, at this moment.
+/// Returns the history with one more change, at this moment.
 pub(super) fn with(
     rt: &(impl Abort + AllocGlobal),
     history: &History,
@@ -105,7 +105,7 @@ pub(super) fn with(
     Ok(history.with(rt.alloc(), change)?)
 }
 
-// How many changes there are, the part of two changes that is asked for, its start and its end.
+// The number of changes, the part of two changes that is asked for, its start and its end.
 const PARTS: [(usize, u64, usize, usize); 17] = [
     (0, 0, 0, 0),
     (0, 1, 0, 0),
@@ -126,7 +126,7 @@ const PARTS: [(usize, u64, usize, usize); 17] = [
     (4, u64::MAX, 4, 4),
 ];
 
-/// Whether the changes are dealt into parts of two as the rows of their number say.
+/// Checks that the changes are dealt into parts of two as the rows of their number say.
 fn are_dealt(rt: &impl Abort, history: &History, len: usize) {
     assert_eq!(rt; (history.len(), history.first()), (len, 0));
     for (count, k, start, end) in PARTS {

@@ -29,7 +29,7 @@ const AT: PageRef = PageRef {
     sha256: SHA256,
 };
 
-/// The deletions of `a/x` and of `c`.
+/// Returns the deletions of `a/x` and of `c`.
 fn deletions(rt: &impl AllocGlobal) -> Result<Vec<Change>, Fail> {
     let mut items = Vec::new(rt.alloc());
     items.push(deletion(rt, b"a/x", MOMENT)?)?;
@@ -61,7 +61,7 @@ pub(super) fn store(
     page.store(rt.alloc(), disk)
 }
 
-/// Why no page of changes is loaded from there, if none is.
+/// Returns the fault of loading a page of changes from there, if it fails.
 fn fault_of(rt: &impl AllocGlobal, disk: &mut MemoryDisk, at: &PageRef) -> Option<LoadFault> {
     let read: Result<Page<Change>, LoadFault> = Page::load(rt.alloc(), disk, at);
     read.err()
@@ -116,7 +116,7 @@ const REFERENCES: [(u32, u32, u32, [u8; 32], bool); 13] = [
     (u32::MAX, 0, 0, SHA256_OF_NOTHING, false),
 ];
 
-/// Whether the device is asked for a page that it doesn't hold.
+/// Returns whether the device is asked for a page that it doesn't hold.
 fn asks(rt: &(impl Abort + AllocGlobal), disk: &mut MemoryDisk, at: &PageRef) -> bool {
     let calls = disk.calls();
     assert_eq!(rt; fault_of(rt, disk, at), Some(LoadFault::Damaged), "{at:?}");

@@ -1,6 +1,6 @@
-//! Catalogues and histories of many pages: how these are cut, and which of them are written anew.
+//! Catalogues and histories of many pages: how these are cut, and which of them are rewritten.
 //!
-//! No page is freed here, so each that was ever stored stays on the disk.
+//! No page is freed here, so every page that was ever stored stays on the disk.
 ghost use Rattle.std.specs.Prelude.{◌≡◌, []};
 ghost use Rattle.rs_page.specs.Pages.{placed_extents};
 
@@ -16,13 +16,13 @@ use rs_time::Moment;
 use std::process::Abort;
 use std::test::Fail;
 
-/// The name of this number, as `n007`.
+/// Returns the name of this number, as `n007`.
 fn named(rt: &impl AllocGlobal, number: u64) -> Result<Name, Fail> {
     let text = format!(in rt.alloc(); "n{number:03}")?;
     Ok(Name::new(rt.alloc(), text.as_bytes())?)
 }
 
-/// A record of the name of this number.
+/// Returns a record of the name of this number.
 fn record(rt: &impl AllocGlobal, number: u64) -> Result<Record, Fail> {
     let kind = MediaType::new(rt.alloc(), b"text/plain")?;
     Ok(Record {
@@ -38,7 +38,7 @@ fn record(rt: &impl AllocGlobal, number: u64) -> Result<Record, Fail> {
     })
 }
 
-/// Stores a catalogue, and gives the references to its pages.
+/// Stores a catalogue, and returns the references to its pages.
 fn store(
     rt: &(impl Abort + AllocGlobal),
     catalogue: &mut Catalogue,
@@ -82,7 +82,7 @@ fn unbind(
     store(rt, &mut catalogue, used, disk)
 }
 
-/// Stores a history, and gives the references to its pages.
+/// Stores a history, and returns the references to its pages.
 pub(super) fn store_history(
     rt: &(impl Abort + AllocGlobal),
     history: &mut History,
@@ -111,7 +111,7 @@ pub(super) fn append(
     store_history(rt, &mut history, used, disk)
 }
 
-/// How many items each of these pages has.
+/// Returns the number of items of every page.
 pub(super) fn counts<T: PageItem>(
     rt: &impl AllocGlobal,
     disk: &mut MemoryDisk,
@@ -125,7 +125,7 @@ pub(super) fn counts<T: PageItem>(
     Ok(counts)
 }
 
-/// Which of the new pages are among the old ones.
+/// Returns for all new pages whether they are among the old ones.
 fn kept(rt: &impl AllocGlobal, old: &[PageRef], new: &[PageRef]) -> Result<Vec<bool>, Fail> {
     let mut kept = Vec::new(rt.alloc());
     for page in new {
@@ -134,7 +134,7 @@ fn kept(rt: &impl AllocGlobal, old: &[PageRef], new: &[PageRef]) -> Result<Vec<b
     Ok(kept)
 }
 
-/// Looks whether the catalogue of these pages has the names of the numbers below 130.
+/// Checks that the catalogue of these pages has the names of the numbers below 130.
 fn are_numbered(
     rt: &(impl Abort + AllocGlobal),
     disk: &mut MemoryDisk,
@@ -149,7 +149,7 @@ fn are_numbered(
     Ok(())
 }
 
-/// Looks whether the history of these pages has the changes of the moments before 130.
+/// Checks that the history of these pages has the changes of the moments before 130.
 fn are_timed(
     rt: &(impl Abort + AllocGlobal),
     disk: &mut MemoryDisk,
@@ -163,7 +163,8 @@ fn are_timed(
     Ok(())
 }
 
-/// The pages of a catalogue in which the names of the numbers below 130 were bound in their order.
+/// Returns the pages of a catalogue in which the names of the numbers below 130 were bound in their
+/// order.
 fn bound(
     rt: &(impl Abort + AllocGlobal),
     disk: &mut MemoryDisk,

@@ -1,5 +1,5 @@
-//! Histories on the disk whose first parts are dropped: how many changes are not after a moment, which
-//! pages are left without the full parts of these, and which go.
+//! Histories on the disk whose first parts are dropped: the number of changes that are not after a moment, and the
+//! pages that are left without the full parts of these, and that go.
 
 use crate::paging::{append, counts, store_history};
 use rs_changes::History;
@@ -11,7 +11,8 @@ use rs_time::Moment;
 use std::process::Abort;
 use std::test::Fail;
 
-/// The references to the pages of 129 changes, each at the moment of its place: of 64, 64 and 1.
+/// Returns the references to the pages, of 64, 64 and 1, of 129 changes, each at the moment of its
+/// place.
 fn grown(
     rt: &(impl Abort + AllocGlobal),
     disk: &mut MemoryDisk,
@@ -24,8 +25,8 @@ fn grown(
     Ok(pages)
 }
 
-/// A moment and a limit; how many changes are not after the moment, and how many full parts these have;
-/// how many pages are left without these parts, and how many of those on the disk have a change of them.
+/// A moment and a limit; the number of changes that are not after the moment, and of the full parts of these; the
+/// number of pages that are left without these parts, and of those on the disk that have a change of them.
 type Row = (u64, u16, usize, u16, usize, usize);
 
 // The changes of the moments from 0 on, in pages that begin at the places 0, 64 and 128.
@@ -41,7 +42,7 @@ const ROWS: [Row; 9] = [
     (500, 3, 129, 43, 0, 3),
 ];
 
-/// Drops the parts of a row from that history, whose first part is number 7.
+/// Drops the parts of a row from the history, whose first part is number 7, and checks the counts.
 fn drop_parts(
     rt: &(impl Abort + AllocGlobal),
     history: &History,
@@ -84,8 +85,8 @@ fn parts_up_to_a_moment_are_dropped(rt: HostRuntime) -> Result<(), Fail> {
     Ok(())
 }
 
-/// Stores what is left of the history of these pages without its first parts of two changes, and gives
-/// the references to its pages.
+/// Stores the history of these pages without its first parts of two changes, and returns the
+/// references to its pages.
 #[tactic(auto, using(crate::proofs::Placed::none_placed))]
 fn store_without(
     rt: &(impl Abort + AllocGlobal),

@@ -10,7 +10,7 @@ pub const SHA256_OF_NOTHING: [u8; 32] = [
     0x27, 0xae, 0x41, 0xe4, 0x64, 0x9b, 0x93, 0x4c, 0xa4, 0x95, 0x99, 0x1b, 0x78, 0x52, 0xb8, 0x55,
 ];
 
-/// The deletion of a name.
+/// Returns the deletion of a name.
 pub fn deletion(rt: &impl AllocGlobal, name: &[u8], ms: u64) -> Result<Change, Fail> {
     let moment = Moment::new(ms).ok_or("a moment")?;
     let name = Name::new(rt.alloc(), name)?;

@@ -1,4 +1,4 @@
--- The lists after a command need as many blocks wherever its bodies stand.
+-- The lists after a command need as many blocks wherever its bodies lie.
 use Rattle.std.proofs.Common.{◌≡◌, ℕ, ◌+◌, Bool, true, false, if◌then◌else◌, List, [], ◌∷◌, refl, sym, ◌∙◌, ap, ap₂}
 use Rattle.std.specs.Prelude.{is_some}
 use Rattle.std.specs.List.{AllByRecursion}
@@ -39,7 +39,7 @@ need_alike c =
     let alike = each_refilled record_format nowhere c.catalogue (all_long (records_of c.catalogue)) in
     rw (same_needed record_format c.catalogue (each_page nowhere c.catalogue) alike, same_count record_format c.catalogue (each_page nowhere c.catalogue) alike) refl
 
--- An item of these lists is an item of those, wherever its body stands, ..
+-- An item of these lists is an item of those, wherever its body lies, ..
 item_nowhere : (old : Contents) (item : Item) (moment : ℕ) (body : Extent)
     → all_nowhere (lists_after_item old item moment body) ≡ lists_after_item (all_nowhere old) item moment no_body
 item_nowhere old (single.Put name kind bytes) moment body =

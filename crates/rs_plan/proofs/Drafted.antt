@@ -1,4 +1,4 @@
--- What a put plans with its digests is what its draft planned without them.
+-- The plan of a draft, with the digests of the body filled in, is a plan of the put.
 use Rattle.std.proofs.Common.{◌≡◌, ℕ, ◌+◌, Bool, List, [], ◌∷◌, ◌++◌, length, refl, sym, ◌∙◌, ap, ap₂, subst, arith}
 use Rattle.std.specs.Prelude.{IsTrue, is_some}
 use Rattle.std.specs.List.{AllByRecursion}

@@ -44,7 +44,7 @@ pub record IsRefilled {T : Type 0} (format : ItemFormat T) (old new : Page T) : 
   pub many : length new.items ≡ length old.items
   pub blocks : blocks_needed format new.items ≡ blocks_needed format old.items
 
--- the same of each page of a list
+-- the same for all pages of a list
 abbrev pub AreRefilled : {T : Type 0} → ItemFormat T → List (Page T) → List (Page T) → Type 0
 AreRefilled format old new = AllZip (IsRefilled format) old new
 
@@ -103,12 +103,12 @@ placed_ends format used used' (x ∷ []) (y ∷ z ∷ placed) p h = absurd p.2
 placed_ends format used used' (x ∷ next ∷ pages) (y ∷ []) p h = absurd p.2
 placed_ends format used used' (x ∷ next ∷ pages) (y ∷ z ∷ placed) p h = placed_ends format p.0 used' (next ∷ pages) (z ∷ placed) p.2 h
 
--- What holds of each item of two lists holds of each item of both.
+-- A property of all items of two joined lists holds of all items of both lists.
 pub split : {T : Type 0} (P : T → Type 0) (xs ys : List T) → AllByRecursion P (xs ++ ys) → AllByRecursion P xs × AllByRecursion P ys
 split P [] ys h = (tt, h)
 split P (x ∷ xs) ys h = let both = split P xs ys h.1 in ((h.0, both.0), both.1)
 
--- what holds of the last item, if there is one
+-- a property of the last item, if there is one
 abbrev pub HoldsOfLast : {T : Type 0} → (T → Type 0) → List T → Type 0
 HoldsOfLast P [] = Unit {0}
 HoldsOfLast P (t ∷ []) = P t
@@ -132,7 +132,7 @@ module _ {T : Type 0} (format : ItemFormat T) (g : T → T) where
   abbrev pub StaysLong : T → Type 0
   StaysLong t = length (format.bytes (g t)) ≡ length (format.bytes t)
 
-  -- Where each item of each page may be filled ..
+  -- Pages whose items may all be filled ..
   each_long : (items : List T) → AllByRecursion StaysLong items → length (items_bytes format (map g items)) ≡ length (items_bytes format items)
   each_long [] h = refl
   each_long (x ∷ items) h =
@@ -165,7 +165,7 @@ module _ {T : Type 0} (format : ItemFormat T) (g : T → T) where
         each_placed p.0 used' pages placed both.1 p.2,
       )
 
-  -- .. and where only the last one is.
+  -- .. and pages of which only the last item is filled.
   end_long : (items : List T) → HoldsOfLast StaysLong items → length (items_bytes format (end_filled g items)) ≡ length (items_bytes format items)
   end_long [] h = refl
   end_long (x ∷ []) h = omega (arith, h, length-append (format.bytes (g x)) [], length-append (format.bytes x) [])
@@ -212,7 +212,7 @@ module _ {T : Type 0} (format : ItemFormat T) (g : T → T) where
   last_placed used used' (x ∷ next ∷ pages) (y ∷ z ∷ placed) h p =
       (p.0, p.1, last_placed p.0 used' (next ∷ pages) (z ∷ placed) (later StaysLong x.items (items_of (next ∷ pages)) h) p.2)
 
--- What of the pages stays.
+-- The parts of filled pages that stay.
 module _ {T : Type 0} (format : ItemFormat T) where
   pub same_count : (old new : List (Page T)) → AreRefilled format old new → length new ≡ length old
   same_count [] [] h = refl
@@ -285,12 +285,12 @@ rising_again (x ∷ y ∷ before) name again moment facts facts' h =
 record_long : (digests : Digests) (r : Record) → AreLong digests → AreLong r.digests → length (record_bytes (record_filled digests r)) ≡ length (record_bytes r)
 record_long digests r a b = omega (arith, length-record_bytes (record_filled digests r), length-record_bytes r, a.md5, a.sha256, b.md5, b.sha256)
 
--- what is above a name is above one that compares as equal
+-- a name that compares as equal to a name above a map is above the map too
 above_equal : {V : Type 0} (x y : List ℕ) (m : Names V) → by_bytes x y ≡ Equal → IsTrue (is_above y m) → IsTrue (is_above x m)
 above_equal x y [] e h = refl
 above_equal x y (z ∷ m) e h = ap (λ (o : Ordering). is_lt o && is_above z.0 m) (nat_list_cmp_total.congr x y z.0 e) ∙ h
 
--- In order, one record alone has a name. Where its digests are long, each record is as long once that one is filled.
+-- In order, one record alone has a name. Where its digests are long, all records are as long once that one is filled.
 module _ (name : List ℕ) (digests : Digests) (long : AreLong digests) where
   abbrev pub filling : Record → Record
   filling r = by_order (by_bytes name r.name) r (record_filled digests r) r

@@ -1,4 +1,4 @@
--- What takes the lowest run takes one extent, which was free.
+-- Taking the lowest run takes one extent, which was free.
 use Rattle.std.proofs.Common.{◌≡◌, ℕ, Bool, true, false, List, [], ◌∷◌, ◌++◌, Result, Ok, Err, is_ok, IsOk, if◌then◌else◌, refl, sym, ◌∙◌, ap, subst, arith}
 use Rattle.rs_extent.specs.declared.Extent.{Extent}
 use Rattle.rs_extent.specs.Blocks.{is_used, IsFree, IsFreeRun, Sets}
@@ -11,11 +11,11 @@ pub taken_lowest : (old new : List Bool) (n : ℕ) (e : Extent) → Takes old n 
 taken_lowest old new n e takes =
     taken_free old new e (λ b from until. (takes.lowest (omega (arith, from, until, takes.blocks))).is_free b from until) takes.sets
 
--- what is found is free
+-- a found run is free
 pub found_free : (used : List Bool) (n : ℕ) (e : Extent) → IsFoundRun used n e → IsFree used e
 found_free used n e found = λ b from until. (found.lowest (omega (arith, from, until, found.blocks))).is_free b from until
 
--- so that there is a run
+-- so that the set has a run
 pub found_somewhere : (used : List Bool) (n : ℕ) (e : Extent) → IsFoundRun used n e → HasNoRun used n → ⊥
 found_somewhere used n e found none = none.1 e.first (subst (λ (k : ℕ). IsFreeRun used e.first k) found.blocks (found_free used n e found))
 
@@ -36,7 +36,7 @@ sets_taken old new e taken = record {
   after = λ b high. taken.others b (not_true (in_some (e ∷ []) b) (λ is. let at = within_is e b (in_one e b is) in absurd (omega (arith, at.1))));
 }
 
--- What was taken could be.
+-- Extents that were taken could be taken.
 pub could_take : (old new : List Bool) (extents : List Extent) → AreTaken old new extents → CanTake old extents
 could_take old new extents taken = record { apart = taken.apart; is_free = taken.before }
 
@@ -61,7 +61,7 @@ taken_each used after (n ∷ ns) (e ∷ bodies) takes =
 pub takes_one : (used after : List Bool) (n : ℕ) (e : Extent) → IsFoundRun used n e → AreTaken used after (e ∷ []) → TakesEach used (n ∷ []) (e ∷ []) after
 takes_one used after n e found taken = (after, takes_found used after n e found (sets_taken used after e taken), refl)
 
--- and none
+-- and so does an empty list of bodies
 pub takes_none : (used after : List Bool) → AreTaken used after [] → TakesEach used [] [] after
 takes_none used after taken = same_taken used after used [] taken (taken_none used used refl)
 
@@ -81,7 +81,7 @@ pub given_back : (old mid after new : List Bool) (bodies extents first all : Lis
 given_back old mid after new bodies extents first all front behind same is given =
     taken_is_given_back old after new all (taken_all old mid after bodies extents first all front behind same is) given
 
--- what is pushed, where there is room for it
+-- the list after a push, where it has room
 pub pushed : {A B : Type 0} (r : Result A B) (xs ys zs : List Extent) → IsOk r → zs ≡ (if is_ok r then xs else ys) → zs ≡ xs
 pushed (Ok x) xs ys zs ok is = is
 pushed (Err e) xs ys zs ok is = cc

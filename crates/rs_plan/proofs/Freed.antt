@@ -1,4 +1,4 @@
--- What a root reaches after parts of it were freed and others were written.
+-- The blocks that a root reaches after parts of the old ones were freed and others were written.
 use Rattle.std.proofs.Common.{true≢false, ◌≡◌, ◌⊎◌, inl, inr, ℕ, ◌≤◌, Bool, true, false, ◌&&◌, ◌||◌, not, nat_lt, List, [], ◌∷◌, ◌++◌, refl, sym, ap, arith}
 use Rattle.std.specs.Cmp.{first_so, second_so}
 use Rattle.std.proofs.lemmas.Bool.{and_from, or_left, or_right}
@@ -18,7 +18,7 @@ or_split : (a b : Bool) → (a || b) ≡ true → (a ≡ true) ⊎ (b ≡ true)
 or_split true b is = inl refl
 or_split false b is = inr is
 
--- What becomes of a part: some of its blocks go, the others stay, and new ones are written.
+-- A part after a command: some of its blocks are removed, the others stay, and new blocks are written.
 pub record PartTurns (old gone new made : List Extent) : Type 0 where
   pub reached : IsSubset (in_some gone) (in_some old)
   pub apart : AreApart gone
@@ -26,7 +26,7 @@ pub record PartTurns (old gone new made : List Extent) : Type 0 where
   pub stays : (k : ℕ) → in_some old k ≡ true → (in_some gone k ≡ true) ⊎ (in_some new k ≡ true)
   pub written : IsSubset (in_some made) (in_some new)
 
--- What becomes of the pages of the catalogue, and of those that are only published: each that stays is one or the
+-- The pages of the catalogue and those that are only published, after a command: every page that stays is one or the
 -- other.
 pub record PagesTurn (a c ga gc a' c' pa : List Extent) : Type 0 where
   pub reached_a : IsSubset (in_some ga) (in_some a)
@@ -40,7 +40,7 @@ pub record PagesTurn (a c ga gc a' c' pa : List Extent) : Type 0 where
   pub stays_c : (k : ℕ) → in_some c k ≡ true → (in_some gc k ≡ true) ⊎ ((in_some a' k ≡ true) ⊎ (in_some c' k ≡ true))
   pub written : IsSubset (in_some pa) (in_some a')
 
--- The blocks of the next root are those of the old one, less what is freed, and the new ones.
+-- The blocks of the next root are those of the old one, less the freed ones, and the new ones.
 assembled : (low old freed next new : Bool) → (freed ≡ true → low ≡ false) → (next ≡ true → ((old ≡ true) × (freed ≡ false)) ⊎ (new ≡ true))
     → (old ≡ true → freed ≡ false → next ≡ true) → (new ≡ true → next ≡ true) → (low || next) ≡ (((low || old) && not freed) || new)
 assembled true old true next new inside to stays made = absurd (true≢false (inside refl))
@@ -82,13 +82,13 @@ module _ (d d' : Extent) (made_bodies a b c e ga gb gc ge a' b' c' e' pa pb : Li
         ce = narrowed (in_some gc) (in_some c) (in_some ge) (in_some e) pages.reached_c bodies.reached was.ce;
       })
 
-  -- what is freed was reached
+  -- the freed blocks were reached
   pub freed_reached : IsSubset (in_some (joined d ga gb gc ge)) (in_some (joined d a b c e))
   freed_reached k is =
       five_of d ga gb gc ge (in_some (joined d a b c e) k ≡ true) k is (d_in d a b c e k) (λ h. a_in d a b c e k (pages.reached_a k h))
       (λ h. b_in d a b c e k (changes.reached k h)) (λ h. c_in d a b c e k (pages.reached_c k h)) (λ h. e_in d a b c e k (bodies.reached k h))
 
-  -- A block of a part is freed only where it is gone from that part.
+  -- A block of a part is freed only where it is removed from that part.
   left_a : (k : ℕ) → in_some a k ≡ true → in_some ga k ≡ false → in_some (joined d ga gb gc ge) k ≡ false
   left_a k here none = not_true (in_some (joined d ga gb gc ge) k) (λ is. five_of d ga gb gc ge ⊥ k is
       (λ h. not_both (in_some a k) here (was.da k h)) (λ h. not_both (in_some ga k) h none) (λ h. not_both (in_some b k) (changes.reached k h) (was.ab k here))
@@ -117,7 +117,7 @@ module _ (d d' : Extent) (made_bodies a b c e ga gb gc ge a' b' c' e' pa pb : Li
   abbrev IsLeftOrNew : ℕ → Type 0
   IsLeftOrNew k = ((in_some (joined d a b c e) k ≡ true) × (in_some (joined d ga gb gc ge) k ≡ false)) ⊎ (in_some new k ≡ true)
 
-  -- what the next root reaches is left, or new
+  -- the blocks that the next root reaches are left or new
   to : (k : ℕ) → in_some (joined d' a' b' c' e') k ≡ true → IsLeftOrNew k
   to k is =
       five_of d' a' b' c' e' (IsLeftOrNew k) k is (λ h. inr (d_new made_bodies pa pb d' k h))
@@ -136,7 +136,7 @@ module _ (d d' : Extent) (made_bodies a b c e ga gb gc ge a' b' c' e' pa pb : Li
   shown : (k : ℕ) → (in_some a' k ≡ true) ⊎ (in_some c' k ≡ true) → in_some (joined d' a' b' c' e') k ≡ true
   shown k is = elim is [ inl here ↦ a_in d' a' b' c' e' k here | inr there ↦ c_in d' a' b' c' e' k there ]
 
-  -- what is left is reached
+  -- the blocks that are left are reached
   stays : (k : ℕ) → in_some (joined d a b c e) k ≡ true → in_some (joined d ga gb gc ge) k ≡ false → in_some (joined d' a' b' c' e') k ≡ true
   stays k is none =
       five_of d a b c e (in_some (joined d' a' b' c' e') k ≡ true) k is (λ h. not_left k none (d_in d ga gb gc ge k h))
@@ -145,7 +145,7 @@ module _ (d d' : Extent) (made_bodies a b c e ga gb gc ge a' b' c' e' pa pb : Li
       (λ h. elim (pages.stays_c k h) [ inl gone ↦ not_left k none (c_in d ga gb gc ge k gone) | inr left ↦ shown k left ])
       (λ h. elim (bodies.stays k h) [ inl gone ↦ not_left k none (e_in d ga gb gc ge k gone) | inr left ↦ e_in d' a' b' c' e' k left ])
 
-  -- and so is what is new
+  -- and so are the new blocks
   made : (k : ℕ) → in_some new k ≡ true → in_some (joined d' a' b' c' e') k ≡ true
   made k is = elim (some_of_both (made_bodies ++ pa ++ pb) (d' ∷ []) k is) [
     | inr last ↦ d_in d' a' b' c' e' k last
@@ -161,7 +161,7 @@ module _ (d d' : Extent) (made_bodies a b c e ga gb gc ge a' b' c' e' pa pb : Li
   not_low : (k : ℕ) → 2 ≤ k → nat_lt k 2 ≡ false
   not_low k high = grind (arith, nat_tests)
 
-  -- The next root reaches what the old one reached, less what is freed, and what is new.
+  -- The next root reaches the blocks that the old one reached, less the freed ones, and the new blocks.
   pub next_reaches : ((k : ℕ) → in_some (joined d a b c e) k ≡ true → 2 ≤ k) → (k : ℕ)
       → (nat_lt k 2 || in_some (joined d' a' b' c' e') k)
       ≡ (((nat_lt k 2 || in_some (joined d a b c e) k) && not (in_some (joined d ga gb gc ge) k)) || in_some new k)

@@ -1,4 +1,4 @@
--- Which entry the page rule takes out of the pages on the disk.
+-- The entry that the page rule takes out of the pages on the disk.
 use Rattle.std.proofs.Common.{◌≡◌, ℕ, zero, suc, ◌-◌, Bool, true, false, cond, nat_lt, List, [], ◌∷◌, ◌++◌, length, map, Option, Some, None, refl, sym, ◌∙◌, ap, subst}
 use Rattle.std.specs.Prelude.{All, is_some}
 use Rattle.std.specs.List.{cons_option}
@@ -31,7 +31,7 @@ refs_both [] others = refl
 refs_both (page ∷ pages) others =
     ap (cons_option (stored_ref page.place)) (refs_both pages others) ∙ in_front (stored_ref page.place) (stored_refs pages) (stored_refs others)
 
--- touched pages have none
+-- touched pages have no entries
 none_touched : {T : Type 0} (lists : List (List T)) → stored_refs (map touched lists) ≡ []
 none_touched [] = refl
 none_touched (items ∷ lists) = none_touched lists
@@ -71,7 +71,7 @@ page_goes (suc i) items (page ∷ pages) =
       is = ap (cons_option own) rest.is ∙ in_front own rest.front rest.back;
     }
 
--- Where pages are added behind, no entry goes.
+-- Where pages are added at the end, no entry goes.
 none_goes : {T : Type 0} (items : List T) (pages : List (Page T)) → LosesOne None (stored_refs pages) (stored_refs (pages ++ touched_pages items))
 none_goes items pages = record {
   front = stored_refs pages;

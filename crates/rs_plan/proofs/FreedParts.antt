@@ -1,4 +1,4 @@
--- What becomes of one part of what a root reaches.
+-- One part of the blocks that a root reaches, after a command.
 use Rattle.std.proofs.Common.{true≢false, ◌≡◌, ◌⊎◌, inl, inr, ℕ, Bool, true, false, cond, List, [], ◌∷◌, ◌++◌, Option, Some, None, refl, sym, ◌∙◌, ap, subst, arith}
 use Rattle.std.specs.Cmp.{first_so, second_so}
 use Rattle.std.specs.List.{cons_option, list_any}
@@ -29,7 +29,7 @@ module _ (front gone made back : List Extent) (apart : AreApart (front ++ (gone 
   rest : AreApart (gone ++ back)
   rest = apart_behind front (gone ++ back) apart
 
-  -- what is gone is in no other part
+  -- the removed extents are in no other part
   beside_front : AreDisjoint (in_some front) (in_some gone)
   beside_front k is = none_front gone back k (apart_between front (gone ++ back) apart k is)
 
@@ -57,7 +57,7 @@ module _ (front gone made back : List Extent) (apart : AreApart (front ++ (gone 
     written = λ k is. some_behind front (made ++ back) k (some_front made back k is);
   }
 
--- Where the extents are apart, the part turns by that.
+-- Where the extents are apart, the part changes accordingly.
 pub replaced : (old new gone made : List Extent) → Replaces old new gone made → AreApart old → PartTurns old gone new made
 replaced old new gone made by apart =
     subst (λ (o : List Extent). PartTurns o gone new made) (sym by.was)
@@ -87,7 +87,7 @@ none_in k P is = absurd (true≢false (sym is))
 pub nowhere : (k : ℕ) (P : Type 0) → in_some (no_body ∷ []) k ≡ true → P
 nowhere k P is = let at = within_is no_body k (in_one no_body k is) in absurd (omega (arith, at.1))
 
--- What is kept of a part may be followed by what is written.
+-- The kept extents of a part may be followed by the written ones.
 pub grown : (old gone kept after made : List Extent) → PartTurns old gone kept [] → ((k : ℕ) → in_some after k ≡ true → (in_some kept k ≡ true) ⊎ (in_some made k ≡ true))
     → IsSubset (in_some kept) (in_some after) → IsSubset (in_some made) (in_some after) → PartTurns old gone after made
 grown old gone kept after made turns comes stays written = record {

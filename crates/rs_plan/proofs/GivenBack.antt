@@ -1,4 +1,4 @@
--- What a plan gives back, by the parts of what the old root reaches.
+-- The blocks that a plan gives back, by the parts of the blocks that the old root reaches.
 use Rattle.std.proofs.Common.{◌≡◌, ◌⊎◌, inl, inr, ℕ, ◌≤◌, Bool, true, ◌&&◌, ◌||◌, not, nat_lt, List, [], refl, sym, ◌∙◌, ap, subst, false, cond, ◌∷◌, ◌++◌}
 use Rattle.rs_extent.specs.declared.Extent.{Extent}
 use Rattle.rs_extent.specs.Extents.{in_some, AreApart, IsSubset, within, AreDisjoint}
@@ -52,7 +52,7 @@ module _ (gone old kept after published : List PageRef) (made : List Extent) (lo
   shown : (k : ℕ) → in_some (extents_of published) k ≡ true → IsShown k
   shown k is = published_some published after k is
 
-  -- what is freed is a touched page
+  -- a freed block is a block of a touched page
   freed_is : (k : ℕ) → in_some freed k ≡ true → in_some (extents_of gone) k ≡ true
   freed_is k is = unshared_some gone published k is
 
@@ -69,7 +69,7 @@ module _ (gone old kept after published : List PageRef) (made : List Extent) (lo
       beside_published e at.front at.back k (subst (λ (r : List PageRef). AreApart (extents_of r)) at.is apart) here published alone
       (subst (λ (r : List PageRef). in_some (extents_of (unshared published r)) k ≡ false) at.is (beside k reached)) there
 
-  -- what is freed is not published
+  -- a freed block is not published
   freed_alone : (entries : List PageRef) → All (λ e. IsSublist (e ∷ []) old) entries → (k : ℕ) → in_some (extents_of (unshared entries published)) k ≡ true
       → in_some (extents_of published) k ≡ true → ⊥
   freed_alone [] all k is there = none_in k _ is
@@ -132,8 +132,8 @@ pages_listed old after published made beside apart comes stay written = record {
   written = written;
 }
 
--- What goes from the old lists where names change: pages of the catalogue and of the history, and bodies, which these
--- replace. All of it is freed but the published pages.
+-- The blocks that are removed from the old lists where names change: pages of the catalogue and of the history, and
+-- bodies, which these replace. All of them are freed but the published pages.
 pub record ChangesNames (d : Extent) (old : Contents) (made : List Extent) (c : Contents) (freed : List Extent) : Type 0 where
   pub pages : List PageRef
   pub changes : List PageRef
@@ -145,8 +145,8 @@ pub record ChangesNames (d : Extent) (old : Contents) (made : List Extent) (c : 
   pub apart : AreApart (bodies_in c)
   pub published : c.published ≡ old.published
 
--- What goes from the old lists with a publication: nothing of the catalogue, and the pages of the history with a
--- change that it drops.
+-- The blocks that are removed from the old lists by a publication: no page of the catalogue, and the pages of the
+-- history with a change that the publication drops.
 pub record ListsAll (d : Extent) (old : Contents) (made : List Extent) (c : Contents) (freed : List Extent) : Type 0 where
   pub parts : freed ≡ joined d [] (extents_of (stored_refs (front_pages (changes_dropped old) old.history.pages))) (shown_in old) []
   pub catalogue : c.catalogue ≡ old.catalogue
@@ -154,11 +154,11 @@ pub record ListsAll (d : Extent) (old : Contents) (made : List Extent) (c : Cont
   pub published : c.published ≡ old.catalogue
   pub none : made ≡ []
 
--- What goes from the old lists by a command whose bodies stand in these extents, and what it frees.
+-- The blocks that a command with its bodies in these extents removes from the old lists, and the extents that it frees.
 abbrev pub Frees : Extent → Contents → List Extent → Contents → List Extent → Type 0
 Frees d old made c freed = ChangesNames d old made c freed ⊎ ListsAll d old made c freed
 
--- its bodies are apart, and each block of theirs is an old body's or a new one's
+-- its bodies are apart, and every block of them is a block of an old body or of a new one
 pub bodies_apart : (d : Extent) (old : Contents) (made : List Extent) (c : Contents) (freed : List Extent) → AreApart (bodies_in old) → Frees d old made c freed → AreApart (bodies_in c)
 bodies_apart d old made c freed apart (inl changes) = changes.apart
 bodies_apart d old made c freed apart (inr lists) =
@@ -170,7 +170,7 @@ bodies_come d old made c freed (inl changes) b is = elim (changes.bodies.comes b
 bodies_come d old made c freed (inr lists) b is =
     inl (subst (λ (pages : List (Page Record)). in_some (bodies_of (records_of pages)) b ≡ true) lists.catalogue is)
 
--- The parts that are given back, and what becomes of the others.
+-- The parts that a plan gives back, and the other parts after it.
 pub record GivesParts (d : Extent) (old : Contents) (made : List Extent) (p : Plan) (freed : List Extent) : Type 0 where
   pub ga : List Extent
   pub gb : List Extent
@@ -262,12 +262,12 @@ module _ (root : Root) (old c : Contents) (p : Plan) (was : AreSeparate root.dir
         bodies = bodies_turn [] (subst (PartTurns (bodies_in old) [] (bodies_in c)) (sym all.none) (replaced (bodies_in old) (bodies_in c) [] [] by was.in_e));
       }
 
-  -- what each command gives back
+  -- the extents that a command gives back
   pub gives_parts : Frees d old made c freed → GivesParts d old made p freed
   gives_parts (inl changes) = changed changes
   gives_parts (inr lists) = listed lists
 
--- So a plan takes its places, and gives back what the next root no longer reaches.
+-- So a plan takes its places, and gives back the blocks that the next root no longer reaches.
 pub takes_and_gives : (size : ℕ) (root : Root) (old : Contents) (p : Plan) (freed : List Extent)
     → AreSeparate root.directory (pages_in old) (changes_in old) (shown_in old) (bodies_in old) → ((k : ℕ) → in_some (reach root old) k ≡ true → 2 ≤ k)
     → GivesParts root.directory old p.bodies.items p freed → p.taken.items ≡ places p → p.freed.items ≡ freed → TakesAndGives (rooted size root old) p

@@ -1,4 +1,4 @@
--- The bodies after the items of a group: which ones go, and which ones stand in their place.
+-- The bodies after the items of a group: the removed bodies, and the bodies that replace them.
 use Rattle.std.proofs.Common.{true≢false, ◌≡◌, inl, inr, ℕ, ◌+◌, Bool, true, false, ◌||◌, not, List, [], ◌∷◌, ◌++◌, length, Some, None, if◌then◌else◌, refl, sym, ◌∙◌, ap, subst}
 use Rattle.std.specs.Prelude.{◌≢◌, bytes_eq}
 use Rattle.std.specs.List.{AllZip}
@@ -78,7 +78,7 @@ made_alone : (item : Item) (body : Extent) → AreApart (made_by item body)
 made_alone (single.Put name kind bytes) body = (λ k is. refl, tt)
 made_alone (single.Delete name) body = tt
 
--- What becomes of the bodies: these go, and the written ones replace them, apart from the others.
+-- The bodies after items: the removed bodies, and the written bodies that replace them, apart from the others.
 pub record BodiesTurn (old gone new made : List Extent) : Type 0 where
   pub turns : PartTurns old gone new made
   pub apart : AreApart new
@@ -102,7 +102,7 @@ module _ (law : IsPageRuleKept) where
       stays_named items (lists_after_item c item moment body) (moment + 1) (extents_left item items bodies) name step.1 both.1
       ∙ ap (value_of name) step.0 ∙ stays_step c item moment body name ordered both.0
 
-  -- So the body of an item that is written stands there at the end.
+  -- So the body of an item that is written is there at the end.
   made_by_test : (bodies : List Extent) (k : ℕ) (t : Bool) (P : Type 0) → in_some (if not t then first_of bodies ∷ [] else []) k ≡ true
       → (t ≡ false → in_some ((if not t then first_of bodies else no_body) ∷ []) k ≡ true → P) → P
   made_by_test bodies k true P is told = none_in k P is

@@ -1,4 +1,4 @@
--- The pages after the items of a group, and which entries they lose.
+-- The pages after the items of a group, and the entries that they lose.
 use Rattle.std.proofs.Common.{◌≡◌, ℕ, ◌+◌, List, [], ◌∷◌, ◌++◌, refl, sym, ◌∙◌, ap, Bool, true, false, cond, Option, Some, None}
 use Rattle.std.specs.List.{cons_option, list_any}
 use Rattle.rs_extent.specs.declared.Extent.{Extent}
@@ -47,7 +47,7 @@ history_pages_lost c (item ∷ items) moment bodies =
     cons_option (open_entry c.history.pages)
     (history_pages_lost (lists_after_item c item moment (extent_for item items bodies)) items (moment + 1) (extents_left item items bodies))
 
--- what is freed of the pages
+-- the freed pages
 pub freed_pages : (items : List Item) (c : Contents) (moment : ℕ) (bodies : List Extent)
     → of_each_item freed_page c items moment bodies ≡ extents_of (unshared (pages_lost c items moment bodies) (stored_refs c.published))
 freed_pages [] c moment bodies = refl
@@ -67,7 +67,7 @@ freed_history_pages (item ∷ items) c moment bodies =
     ∙ sym (one_extent (open_entry c.history.pages) (history_pages_lost next items (moment + 1) left))
 
 module _ (law : IsPageRuleKept) where
-  -- the pages on the disk are kept, and none is given blocks
+  -- the pages on the disk are kept, and no page is given blocks
   pub keeps_after : (items : List Item) (c : Contents) (moment : ℕ) (bodies : List Extent) → KeepsPages c.catalogue (lists_after_items c items moment bodies).catalogue
       × KeepsPages c.history.pages (lists_after_items c items moment bodies).history.pages
   keeps_after items c moment bodies =

@@ -1,4 +1,4 @@
--- Each item of a group that is accepted may be done in its turn, and the lists keep the rules.
+-- Every item of a group that is accepted may be done in its turn, and the lists keep the rules.
 use Rattle.std.proofs.Common.{true≢false, ◌≡◌, ℕ, ◌+◌, ◌<◌, ◌≤◌, Bool, true, false, ◌&&◌, List, [], ◌∷◌, length, max, Option, Some, None, refl, sym, ◌∙◌, ap, subst, arith}
 use Rattle.std.specs.Prelude.{IsNone, IsSome, is_none, is_some, nat_le}
 use Rattle.std.specs.List.{AllByRecursion}

@@ -130,7 +130,7 @@ module _ {A B : Type 0} (R : A → B → Type 0) where
       ap₂ (λ (e : List ℕ × B) (rest : Names B). e ∷ rest)
       (ap₂ (λ (name : List ℕ) (value : B). let e : List ℕ × B = (name, value) in e) h.0.0 (same x.1 y.1 (h.0.1 refl))) (end_alike f same m n h.1)
 
--- A fact of each record holds of each that these items do not name, and so of each, where there are no items.
+-- A fact of all records holds of all records that these items do not name, and so of all, where there are no items.
 pub begin_all : (P : Record → Type 0) (items : List Item) (records : List Record) → All P records
     → AreAlike (λ (r r' : Record). P r) items (named records) (named records)
 begin_all P items [] all = tt
@@ -145,7 +145,7 @@ end_all P (r ∷ records) (other ∷ others) h = All-cons P r records (h.0.1 ref
 abbrev pub model_at : Contents → Names Held → Source
 model_at c held = state_with c.header held (changes_of c.history.pages) (map entry_of (records_of c.published))
 
--- what is held after an item, and after items
+-- the held resources after an item, and after items
 abbrev pub held_after : Item → ℕ → Names Held → Names Held
 held_after (single.Put name kind bytes) moment held = bind name (record { bytes = bytes; entry = record { facts = facts_of kind bytes; moment = moment } }) held
 held_after (single.Delete name) moment held = unbind name held
@@ -158,7 +158,7 @@ held_after_items (item ∷ items) moment held = held_after_items items (moment +
 abbrev pub entry_in : Record → Entry
 entry_in r = (entry_of r).1
 
--- What is held has the entries of the records.
+-- The held resources have the entries of the records.
 abbrev pub HasEntries : Contents → Names Held → Type 0
 HasEntries c held = entries held ≡ map_values entry_in (named (records_of c.catalogue))
 
@@ -171,7 +171,7 @@ held_as c held name same =
     ∙ ap (λ (o : Option Entry). is_some o) (value-map_values entry_in name (named (records_of c.catalogue)))
     ∙ some_mapped entry_in (value_of name (named (records_of c.catalogue)))
 
--- what is held in an image has the entries of the records
+-- the held resources in an image have the entries of the records
 entries_of : (image : List ℕ) (records : List Record) → entries (map (held_in image) records) ≡ map_values entry_in (named records)
 entries_of image [] = refl
 entries_of image (r ∷ records) = ap (λ (rest : Names Entry). (r.name, entry_in r) ∷ rest) (entries_of image records)
@@ -225,7 +225,7 @@ module _ (law : IsPageRuleKept) where
       ∙ turned_state items next (held_after item moment held) (moment + 1) now (extents_left item items bodies) (records_step law item moment body c.catalogue ordered).1
       (entries_step c held item moment body ordered same) (omega (arith, here))
 
-  -- The bodies that are written stand where the records say; so all do at the end.
+  -- The written bodies lie where the records say; so all bodies do at the end.
   module _ (image : List ℕ) where
     abbrev Shows : Record → Held → Type 0
     Shows r held = shown_in image r ≡ held
@@ -270,7 +270,7 @@ module _ (law : IsPageRuleKept) where
         (shown_after items c held moment bodies ordered there alike) in
         ap (model_at final) same ∙ sym (turned_state items c held moment moment bodies ordered (entries_held image c) (omega (arith, later)))
 
-  -- Each record is sound at the end, since each body that is written has its blocks.
+  -- All records are sound at the end, since every body that is written has its blocks.
   module _ (low high : ℕ) where
     abbrev Sound : Record → Record → Type 0
     Sound r other = IsSoundRecord low high r

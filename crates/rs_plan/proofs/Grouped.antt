@@ -62,7 +62,7 @@ delete_does name = record { bodies = refl; turns = λ s t is. ap (after_delete s
 pub group_does : (items : List Item) → DoesItems (Group items) items
 group_does items = record { bodies = refl; turns = λ s t is. refl; lists = λ old t bodies. refl }
 
--- Each item may be done in the lists before it: one where it may be done alone, and all of a group that is accepted.
+-- Every item may be done in the lists before it: one item where it may be done alone, and all of an accepted group.
 pub may_one : (r : Rooted) (moment : ℕ) → IsAccepted r moment → (item : Item) → MayDoItem r.contents item moment → (bodies : List Extent)
     → MayDoEach r.contents (item ∷ []) moment bodies
 may_one r moment given item may bodies = (given.is_moment, given.sound.whole.moments, may, tt)
@@ -75,7 +75,7 @@ may_each r moment given items may bodies =
     may_do_each given.law items r.contents (map (held_in may.image) (records_of r.contents.catalogue)) moment moment bodies given.lawful.held.ordered
     (entries_held may.image r.contents) (rules_of r.size r.root r.contents given.sound.whole given.sound.listable.header) given.is_moment (omega (arith, given.later)) none.1
 
--- what one item frees
+-- the blocks that one item frees
 pub frees_one : (r : Rooted) (item : Item) (moment : ℕ) (bodies : List Extent) → freed_by_change r (name_of item) ≡ freed_by_group r (item ∷ []) moment bodies
 frees_one r item moment bodies =
     let name = name_of item in
@@ -160,7 +160,7 @@ module _ (r : Rooted) (moment : ℕ) (given : IsAccepted r moment) (command : Co
         planned r.size r.root old given.sound command moment used from.after_bodies are_used bodies takes final (does.lists old moment bodies) next rules (records sized) items_unplaced p from.placed
         (λ image. from.reply ∙ reply image) from.lists (frees p.freed.items (from.freed ∙ freed) sized) from.taken
 
-    -- so the answer of what placed these lists is one of the command
+    -- so the answer of placing these lists is an answer of the command
     pub items_answer : (result : Result Plan PlanFault) (told : Reply) (gone : List Extent) (lists : Contents) → lists ≡ final
         → ((image : List ℕ) → told ≡ reply_to (state_in image old) command moment) → gone ≡ freed_by_group r items moment bodies
         → IfOk result (IsPlacedFrom used bodies lists told gone) → (IsErrOf result Full → HasNoRoomFrom used bodies lists)

@@ -1,4 +1,4 @@
--- What is known of the lists behind a root, and of a moment, where a command is planned.
+-- Facts about the lists of a root and about a moment, where a command is planned.
 use Rattle.std.proofs.Common.{◌≡◌, ◌<◌, ℕ, Bool, List, Result, ◌∙◌, ap, subst}
 use Rattle.std.specs.Prelude.{IfOk, IsErrOf}
 use Rattle.std.proofs.lemmas.Result.{IfOk-weaker}
@@ -27,11 +27,11 @@ pub accepted : (r : Rooted) (c : Contents) (moment : ℕ) → c ≡ r.contents �
 accepted r c moment at law sound lists is later =
     record { law = law; sound = sound; lawful = subst (λ (x : Contents). IsCatalogue x.catalogue) at lists.catalogue; is_moment = is; later = later }
 
--- Lists that were made of those behind the root, found equal to them.
+-- Lists that were made of the lists of the root, found equal to them.
 pub made_of : (f : Contents → Contents) (c old lists : Contents) → c ≡ old → lists ≡ f c → lists ≡ f old
 made_of f c old lists at is = is ∙ ap f at
 
--- What follows where lists are placed, or have no room, follows from the answer of placing them.
+-- The conclusions from lists that are placed, or have no room, follow from the answer of placing them.
 pub answered : (IsFine : Plan → Type 0) (IsFull : Type 0) (result : Result Plan PlanFault) (used : List Bool) (bodies : List Extent) (lists final : Contents) (told : Reply) (gone : List Extent)
     → lists ≡ final → ((p : Plan) → IsPlacedFrom used bodies final told gone p → IsFine p) → (HasNoRoomFrom used bodies final → IsFull)
     → IfOk result (IsPlacedFrom used bodies lists told gone) → (IsErrOf result Full → HasNoRoomFrom used bodies lists) → IfOk result IsFine × (IsErrOf result Full → IsFull)

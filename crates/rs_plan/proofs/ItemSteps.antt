@@ -1,4 +1,4 @@
--- What one item makes of the lists before it, and which body goes.
+-- The lists after one item, from the lists before it, and the body that is removed.
 use Rattle.std.proofs.Common.{true≢false, ◌≡◌, ◌≤◌, ℕ, Bool, true, false, not, List, [], ◌∷◌, ◌++◌, if◌then◌else◌, refl, Option, sym, ◌∙◌, ap, Some, None, subst, map}
 use Rattle.std.specs.Prelude.{IfSome, IsSome, is_some}
 use Rattle.std.specs.List.{AllZip, cons_option}
@@ -105,7 +105,7 @@ abbrev pub map_after : Item → ℕ → Extent → Names Record → Names Record
 map_after (single.Put name kind bytes) moment body m = bind name (record_made name kind bytes body moment) m
 map_after (single.Delete name) moment body m = unbind name m
 
--- the body of an item stands in these extents of the lists after it
+-- the body of an item lies in these extents of the lists after it
 abbrev pub made_by : Item → Extent → List Extent
 made_by (single.Put name kind bytes) body = body ∷ []
 made_by (single.Delete name) body = []
@@ -120,7 +120,7 @@ pub change_short : (c : Contents) (item : Item) (moment : ℕ) → MayDoItem c i
 change_short c (single.Put name kind bytes) moment may = may.body
 change_short c (single.Delete name) moment may = tt
 
--- a name that is held stands in the page that it goes into
+-- a held name is in the page that it goes into
 pub held_at_home : (name : List ℕ) (pages : List (Page Record)) → Ascend (λ (r : Record). r.name) pages → IsSome (value_of name (named (records_of pages)))
     → is_some (value_of name (keyed (λ (r : Record). r.name) (items_at (home (λ (r : Record). r.name) name pages) pages))) ≡ true
 held_at_home name pages ordered held = ap (λ (o : Option Record). is_some o) (sym (found_at_home (λ (r : Record). r.name) name pages ordered)) ∙ held
@@ -136,7 +136,7 @@ module _ (law : IsPageRuleKept) where
   touches_step (single.Put name kind bytes) moment body pages = law.touches_bound (record_made name kind bytes body moment) pages
   touches_step (single.Delete name) moment body pages = law.touches_unbound name pages
 
-  -- the pages on the disk are kept, and none is given blocks
+  -- the pages on the disk are kept, and no page is given blocks
   pub keeps_step : (c : Contents) (item : Item) (moment : ℕ) (body : Extent) → KeepsPages c.catalogue (lists_after_item c item moment body).catalogue
       × KeepsPages c.history.pages (lists_after_item c item moment body).history.pages
   keeps_step c item moment body = (
@@ -155,7 +155,7 @@ module _ (law : IsPageRuleKept) where
   unplaced_step c item moment body none =
       unplaced_with c (catalogue_after item moment body c.catalogue) (change_of_item c item moment) moment (touches_step item moment body c.catalogue) none
 
-  -- which entries are lost
+  -- the entries that are lost
   pub page_lost : (c : Contents) (item : Item) (moment : ℕ) (body : Extent) → Ascend (λ (r : Record). r.name) c.catalogue → MayDoItem c item moment
       → LosesOne (entry_of_name c (name_of item)) (stored_refs c.catalogue) (stored_refs (lists_after_item c item moment body).catalogue)
   page_lost c (single.Put name kind bytes) moment body ordered may = bind_takes (λ (r : Record). r.name) (record_made name kind bytes body moment) c.catalogue
@@ -165,7 +165,7 @@ module _ (law : IsPageRuleKept) where
       → LosesOne (open_entry c.history.pages) (stored_refs c.history.pages) (stored_refs (lists_after_item c item moment body).history.pages)
   history_page_lost c item moment body = append_takes (change_of_item c item moment) c.history.pages
 
-  -- and which body
+  -- and the lost body
   pub body_lost : (c : Contents) (item : Item) (moment : ℕ) (body : Extent) → Ascend (λ (r : Record). r.name) c.catalogue
       → Replaces (bodies_in c) (bodies_in (lists_after_item c item moment body)) (extent_of_body c (name_of item)) (made_by item body)
   body_lost c (single.Put name kind bytes) moment body ordered =
@@ -174,7 +174,7 @@ module _ (law : IsPageRuleKept) where
   body_lost c (single.Delete name) moment body ordered =
       body_unbound name (records_of c.catalogue) (records_of (catalogue_after (single.Delete name) moment body c.catalogue)) (law.unbound name c.catalogue ordered).0
 
--- A fact of each body that a group writes holds of the first item's body, where it is written, and of the others'
+-- A fact of all bodies that a group writes holds of the first item's body, where it is written, and of the others'
 -- bodies.
 abbrev pub FitsItem : (Extent → List ℕ → Type 0) → Item → List Item → Extent → Type 0
 FitsItem R (single.Put name kind bytes) items e = is_named_in name items ≡ false → R e bytes

@@ -1,4 +1,4 @@
--- Where a command lacks room: for one of its bodies, or for what comes after them.
+-- The part of a command that has no room: one of its bodies, or a part after them.
 use Rattle.std.proofs.Common.{inl, inr, ℕ, Bool, List, [], ◌∷◌, ◌++◌, subst}
 use Rattle.rs_extent.specs.declared.Extent.{Extent}
 use Rattle.rs_model.specs.declared.command.Command.{Command}

@@ -1,4 +1,4 @@
--- Which entries some pages lose, one command or item after the other.
+-- The entries that pages lose, one command or item after the other.
 use Rattle.std.proofs.Common.{◌≡◌, inl, inr, ℕ, true, false, List, [], ◌∷◌, ◌++◌, Option, Some, None, refl, sym, ap, subst}
 use Rattle.std.specs.Prelude.{All}
 use Rattle.std.specs.List.{cons_option}
@@ -15,7 +15,7 @@ use Rattle.rs_plan.proofs.Freed.{PartTurns}
 use Rattle.rs_plan.proofs.FreedPages.{LosesOne}
 use Rattle.rs_plan.proofs.FreedParts.{none_in, replaced, page_replaced}
 
--- What becomes of a part in two steps, where the second one takes nothing away that the first one made.
+-- A part after two steps, where the second step removes no block that the first one made.
 pub turns_both : (old gone mid made more_gone new more_made : List Extent) → PartTurns old gone mid made → PartTurns mid more_gone new more_made
     → AreDisjoint (in_some made) (in_some more_gone) → PartTurns old (gone ++ more_gone) new (made ++ more_made)
 turns_both old gone mid made more_gone new more_made one other beside = record {
@@ -63,7 +63,7 @@ pub record LosesAll (gone old kept : List PageRef) : Type 0 where
   pub turns : AreApart (extents_of old) → PartTurns (extents_of old) (extents_of gone) (extents_of kept) []
   pub each : All (λ e. IsSublist (e ∷ []) old) gone
 
--- nothing is lost
+-- no entry is lost
 pub loses_none : (refs : List PageRef) → LosesAll [] refs refs
 loses_none refs = record {
   part = itself refs;
@@ -77,7 +77,7 @@ loses_none refs = record {
   each = All-nil (λ e. IsSublist (e ∷ []) refs);
 }
 
--- one entry, or none
+-- one entry, or no entry
 without : (entry : Option PageRef) (front back : List PageRef) → IsSublist (front ++ back) (front ++ cons_option entry back)
 without None [] back = itself back
 without (Some e) [] back = skipped back back e (itself back)
@@ -117,7 +117,7 @@ pub loses_more : (entry : Option PageRef) (old mid gone kept : List PageRef) →
 loses_more None old mid gone kept one other = loses_both [] old mid gone kept (loses_one None old mid one) other
 loses_more (Some e) old mid gone kept one other = loses_both (e ∷ []) old mid gone kept (loses_one (Some e) old mid one) other
 
--- An entry that is one of some stands between others of them.
+-- The entry is in the list, between the entries before it and those after it.
 pub record StandsIn (e : PageRef) (refs : List PageRef) : Type 0 where
   pub front : List PageRef
   pub back : List PageRef

@@ -1,4 +1,4 @@
--- The parts of what a root reaches, and what is known of the pages after a command.
+-- The parts of the blocks that a root reaches, and facts about the pages after a command.
 use Rattle.std.proofs.Common.{true≢false, refl, ◌+◌, ◌≡◌, ◌⊎◌, inl, inr, ℕ, true, List, [], ◌∷◌, length, sym, ◌∙◌, ap, subst}
 use Rattle.std.specs.Prelude.{Bool}
 use Rattle.std.specs.List.{AllZip}
@@ -56,7 +56,7 @@ in_history p = pb_new p.bodies.items (given_pages p) (given_changes p) p.directo
 pub in_directory : (p : Plan) → IsSubset (in_some (p.directory ∷ [])) (in_some (places p))
 in_directory p = d_new p.bodies.items (given_pages p) (given_changes p) p.directory
 
--- each body has its blocks
+-- every body has its blocks
 pub sized_each : (bodies : List (List ℕ)) (used after : List Bool) (extents : List Extent) → TakesEach used (bodies_needed bodies) extents after
     → AllZip (λ extent bytes. IsSized extent (length bytes)) extents bodies
 sized_each [] used after [] takes = tt
@@ -67,7 +67,7 @@ sized_each (bytes ∷ bodies) used after (e ∷ extents) takes = (
   sized_each bodies takes.0 after extents takes.2,
 )
 
--- What is published after a command, which writes none of it.
+-- The published pages after a command, which does not write to them.
 pub record IsUnshared (before kept after published : List PageRef) (old : List Extent) : Type 0 where
   pub comes : (b : ℕ) → in_some (extents_of (unshared published after)) b ≡ true → (in_some (extents_of before) b ≡ true) ⊎ (in_some old b ≡ true)
   pub beside : AreDisjoint (in_some (extents_of kept)) (in_some (extents_of (unshared published after)))
@@ -84,7 +84,7 @@ unshared_none before kept after published old none = record {
 abbrev pub IsPublished : Contents → Contents → Type 0
 IsPublished old c = (c.published ≡ old.published) ⊎ ((c.published ≡ old.catalogue) × (c.catalogue ≡ old.catalogue))
 
--- what each item keeps, all of them keep
+-- all items together keep every property that one item keeps
 pub after_each : (P : Contents → Type 0) → ((c : Contents) (item : Item) (moment : ℕ) (body : Extent) → P c → P (lists_after_item c item moment body))
     → (items : List Item) (c : Contents) (moment : ℕ) (bodies : List Extent) → P c → P (lists_after_items c items moment bodies)
 after_each P keeps [] c moment bodies h = h

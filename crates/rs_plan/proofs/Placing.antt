@@ -81,7 +81,7 @@ some_needed n some = omega arith
 pub needed : {T : Type 0} (format : ItemFormat T) (items : List T) → 1 ≤ blocks_needed format items
 needed format items = some_needed (length (page_bytes format items)) (omega arith)
 
--- Where later things have no room after the pages of a list, they have none beside them.
+-- Where later lengths have no room after the pages of a list took blocks, all these lengths together have no room.
 room_one : {T : Type 0} (format : ItemFormat T) (used used' : List Bool) (items : List T) (place : Place) (y : Page T) (xs : List (Page T)) (rest : List ℕ)
     → PlacesOne format used (at items place) used' y → cons_option (placed_extent place) (placed_extents xs) ≡ []
     → HasNoRoom used' (pages_needed format xs ++ rest) → HasNoRoom used (pages_needed format (at items place ∷ xs) ++ rest)

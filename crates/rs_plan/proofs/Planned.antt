@@ -1,4 +1,4 @@
--- What a command plans keeps all rules.
+-- The plan of a command keeps all rules.
 use Rattle.std.proofs.Common.{◌≡◌, ◌⊎◌, inl, inr, ℕ, ◌+◌, ◌<◌, ◌≤◌, Bool, true, false, nat_lt, List, [], ◌∷◌, ◌++◌, length, map, max, refl, sym, ◌∙◌, ap, subst, arith}
 use Rattle.std.specs.Prelude.{All, MatchOption}
 use Rattle.std.specs.List.{AllZip}
@@ -66,7 +66,7 @@ module _ (size : ℕ) (root : Root) (old : Contents) (sound : IsRooted (rooted s
       placed.lists.takes_history)
       (taken_lowest placed.lists.after_history placed.after (blocks_of (directory_bytes_of c)) p.directory placed.lists.directory))
 
-  -- so it was free, and lies behind the slots on the disk
+  -- so it was free, and lies after the slots on the disk
   below : (b : ℕ) → in_some (places p) b ≡ true → b < blocks_of_disk size
   below b is = omega (arith, taken.inside b is, are_used.blocks)
 
@@ -142,7 +142,7 @@ module _ (size : ℕ) (root : Root) (old : Contents) (sound : IsRooted (rooted s
     history = keeps_placed history;
   }
 
-  -- what is stored
+  -- the stored pages
   stored_published : All IsStored p.contents.published
   stored_published = elim published [
     | inl same ↦ subst (All IsStored) (sym same) whole.published
@@ -253,7 +253,7 @@ module _ (size : ℕ) (root : Root) (old : Contents) (sound : IsRooted (rooted s
   some_kept_history : IsSubset (in_some (changes_in p.contents)) (in_some (changes_in old))
   some_kept_history = some_kept history
 
-  -- what goes from the old lists
+  -- the blocks that are removed from the old lists
   free_bodies : AreDisjoint (in_some extents) (in_some (bodies_in old))
   free_bodies =
       subst (λ (l : List Extent). AreDisjoint (in_some l) (in_some (bodies_in old))) placed.bodies_are
@@ -268,7 +268,7 @@ module _ (size : ℕ) (root : Root) (old : Contents) (sound : IsRooted (rooted s
   bodies_comes b is =
       bodies_come root.directory old p.bodies.items c p.freed.items gone b (subst (λ (rs : List Record). in_some (bodies_of rs) b ≡ true) same_stored_records is)
 
-  -- each list is apart
+  -- the pages of each list are apart
   apart_catalogue : AreApart (pages_in (written p))
   apart_catalogue =
       apart catalogue was.in_a (unwritten (pages_in p.contents) (given_pages p) (λ b is. old_catalogue_in b (some_kept_catalogue b is)) (in_catalogue p))
@@ -339,7 +339,7 @@ module _ (size : ℕ) (root : Root) (old : Contents) (sound : IsRooted (rooted s
     inside = inside_next;
   }
 
-  -- each part in its turn
+  -- the parts, in turn
   after_is : c ≡ lists_after old command moment p.bodies.items
   after_is = is_after ∙ ap (lists_after old command moment) (sym placed.bodies_are)
 
@@ -353,7 +353,7 @@ module _ (size : ℕ) (root : Root) (old : Contents) (sound : IsRooted (rooted s
     placed = subst (λ (x : Contents). HasItsPlaces used₁ p.bodies.items x p) after_is (subst (λ (l : List Extent). HasItsPlaces used₁ l c p) (sym placed.bodies_are) placed);
   }
 
-  -- what it takes and gives back
+  -- the blocks that it takes and gives back
   blocks : TakesAndGives (rooted size root old) p
   blocks =
       takes_and_gives size root old p p.freed.items was (λ k is. (whole.inside k is).0)

@@ -1,4 +1,4 @@
--- What a publication plans keeps all rules.
+-- The plan of a publication keeps all rules.
 use Rattle.std.proofs.Common.{◌≡◌, inr, ℕ, Bool, List, [], ◌∷◌, ◌++◌, Result, refl, sym, ◌∙◌, zero, suc, ◌+◌, ◌*◌, ◌≤◌, max, ap, subst, arith, zero-mul}
 use Rattle.std.specs.Prelude.{IfOk, IsErrOf, All, IsTrue, MatchOption, slice_get, take, drop}
 use Rattle.std.proofs.lemmas.List.{append-nil}
@@ -58,7 +58,7 @@ last_up_to low high from (c ∷ cs) le all =
     last_up_to low high c.moment cs (All-head (IsSoundChange low high) c cs all).moment.up_to
     (All-tail (IsSoundChange low high) c cs all)
 
--- .. so none of them is later than a later moment
+-- .. so no change is later than a later moment
 none_later : (low high moment : ℕ) (cs : List Change) (i : ℕ) → high ≤ moment → All (IsSoundChange low high) cs
     → MatchOption (slice_get cs i) (moment ≡ moment) (λ c. moment ≡ max moment c.moment)
 none_later low high moment [] i le all = refl
@@ -183,7 +183,7 @@ module _ (r : Rooted) (moment : ℕ) (sound : IsRooted r) (is_history : IsHistor
     history = (keeps (changes_dropped old) old.history.pages).0;
   }
 
-  -- what goes from the old lists
+  -- the blocks that are removed from the old lists
   frees : (freed : List Extent) → freed ≡ freed_by_publication r → Frees r.root.directory old [] final freed
   frees freed is =
       inr (record {

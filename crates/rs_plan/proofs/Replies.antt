@@ -30,7 +30,7 @@ use Rattle.rs_plan.specs.Turned.{lists_with, lists_after_item, lists_after_put}
 use Rattle.rs_model.specs.declared.command.Reply.TheVariants as replies
 use Rattle.rs_model.specs.declared.command.Item.TheVariants as single
 
--- a reply says what the put did
+-- a reply says how the put changed the name
 told : (again : Bool) (moment : ℕ) → reply_that (binding again) moment ≡ if again then replies.Updated moment else replies.Created moment
 told true moment = refl
 told false moment = refl

@@ -1,4 +1,4 @@
--- The rules that lists keep after a command, whatever the places of their pages.
+-- The rules that lists keep after a command, wherever their pages lie.
 use Rattle.std.proofs.Common.{◌≡◌, ℕ, ◌-◌, ◌<◌, ◌≤◌, List, [], ◌∷◌, ◌++◌, length, max, Option, Some, refl, sym, ◌∙◌, ap, subst, arith}
 use Rattle.std.specs.Prelude.{All, MatchOption, IfSome, slice_get}
 use Rattle.std.proofs.lemmas.List.{length-append}
@@ -16,7 +16,7 @@ use Rattle.rs_directory.specs.Directory.{IsLawfulHeader, written_format}
 use Rattle.rs_image.specs.declared.contents.Contents.{Contents}
 use Rattle.rs_image.specs.Whole.{IsWhole, IsSoundRecord, IsSoundChange, AreMoments}
 
--- What lists keep, without the rules of their records.
+-- The rules that lists keep, without those of their records.
 pub record KeepsRules (c : Contents) : Type 0 where
   pub header : IsLawfulHeader written_format c.header
   pub moments : AreMoments c.header c
@@ -74,7 +74,7 @@ lawful_at h version moment lawful is = record {
   untold = λ one. absurd (omega arith);
 }
 
--- what the lists of a root keep
+-- the rules that the lists of a root keep
 pub rules_of : (size : ℕ) (root : Root) (old : Contents) → IsWhole size root old → IsLawfulHeader root.version old.header → KeepsRules old
 rules_of size root old whole lawful = record {
   header = lawful_at old.header root.version old.header.last lawful lawful.last;

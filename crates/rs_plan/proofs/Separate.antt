@@ -1,4 +1,4 @@
--- The parts of what a root reaches, apart from one another: before a command and after it.
+-- The parts of the blocks that a root reaches, apart from one another: before a command and after it.
 use Rattle.std.proofs.Common.{true≢false, ◌≡◌, ◌⊎◌, inl, inr, ℕ, Bool, true, false, List, [], ◌∷◌, ◌++◌, refl, sym}
 use Rattle.rs_extent.specs.declared.Extent.{Extent}
 use Rattle.rs_extent.specs.Extents.{in_some, AreApart, AreDisjoint, IsSubset}
@@ -8,7 +8,7 @@ use Rattle.rs_plan.proofs.FromBelow.{some_first, not_true, not_both, turned, nar
 abbrev pub joined : Extent → List Extent → List Extent → List Extent → List Extent → List Extent
 joined d a b c e = d ∷ a ++ b ++ c ++ e
 
--- each part, and each two of them
+-- the extents of every part but the directory are apart, and any two parts are disjoint
 pub record AreSeparate (d : Extent) (a b c e : List Extent) : Type 0 where
   pub in_a : AreApart a
   pub in_b : AreApart b
@@ -25,7 +25,7 @@ pub record AreSeparate (d : Extent) (a b c e : List Extent) : Type 0 where
   pub be : AreDisjoint (in_some b) (in_some e)
   pub ce : AreDisjoint (in_some c) (in_some e)
 
--- a set of two lists is disjoint from one where each list is
+-- a set that is disjoint from two lists is disjoint from the joined list
 both : (xs ys : List Extent) (other : ℕ → Bool) → AreDisjoint (in_some xs) other → AreDisjoint (in_some ys) other → AreDisjoint (in_some (xs ++ ys)) other
 both xs ys other one two b is = elim (some_of_both xs ys b is) [ inl front ↦ one b front | inr behind ↦ two b behind ]
 
@@ -71,7 +71,7 @@ apart_again d a b c e h =
     apart_both (d ∷ a ++ b ++ c) e three h.in_e
     (both (d ∷ a ++ b) c (in_some e) (both (d ∷ a) b (in_some e) (both (d ∷ []) a (in_some e) h.de h.ae) h.be) h.ce)
 
--- each block of the parts is in one of them
+-- every block of the joined parts is in one of the parts
 pub five_of : (d : Extent) (a b c e : List Extent) (P : Type 0) (k : ℕ) → in_some (joined d a b c e) k ≡ true → (in_some (d ∷ []) k ≡ true → P) → (in_some a k ≡ true → P)
     → (in_some b k ≡ true → P) → (in_some c k ≡ true → P) → (in_some e k ≡ true → P) → P
 five_of d a b c e P k is of_d of_a of_b of_c of_e = elim (some_of_both (d ∷ a ++ b ++ c) e k is) [
@@ -85,7 +85,7 @@ five_of d a b c e P k is of_d of_a of_b of_c of_e = elim (some_of_both (d ∷ a 
   ]
 ]
 
--- and each part is in the whole
+-- and every part is in the whole
 pub d_in : (d : Extent) (a b c e : List Extent) → IsSubset (in_some (d ∷ [])) (in_some (joined d a b c e))
 d_in d a b c e k is = some_front (d ∷ a ++ b ++ c) e k (some_front (d ∷ a ++ b) c k (some_front (d ∷ a) b k (some_front (d ∷ []) a k is)))
 
@@ -124,7 +124,7 @@ mixed_apart kept xs ys old new old' new' one other olds news b is = not_true (in
   | inr n ↦ elim (other.comes b is') [ inl o' ↦ not_both (kept b) (other.olds b o') (one.news b n) | inr n' ↦ not_both (new' b) n' (news b n) ]
 ])
 
--- What is written: bodies, catalogue pages, change pages and a directory. Each part is in the whole.
+-- The written blocks: bodies, catalogue pages, change pages and a directory. Every part is in the whole.
 module _ (bodies pa pb : List Extent) (d : Extent) where
   abbrev pub all_new : List Extent
   all_new = bodies ++ pa ++ pb ++ d ∷ []
@@ -146,7 +146,7 @@ pub record AreNew (kept : ℕ → Bool) (bodies pa pb : List Extent) (d : Extent
   pub apart : AreApart (all_new bodies pa pb d)
   pub beside : (b : ℕ) → in_some (all_new bodies pa pb d) b ≡ true → kept b ≡ false
 
--- What a command leaves of the old parts and of what it writes is apart.
+-- The parts after a command, which are left of the old parts or written, are separate.
 pub separate_next : (kept : ℕ → Bool) (d d' : Extent) (bodies a b c e a' b' c' e' pa pb : List Extent) (ka kb : List Extent)
     → AreSeparate d a b c e → IsSubset (in_some (joined d a b c e)) kept → AreNew kept bodies pa pb d'
     → IsSubset (in_some ka) (in_some a) → IsSubset (in_some kb) (in_some b)

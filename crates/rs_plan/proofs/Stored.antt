@@ -61,7 +61,7 @@ pub refs_kept : {T : Type 0} (pages : List (Page T)) → stored_refs (stored_pag
 refs_kept [] = refl
 refs_kept (page ∷ pages) = ref_kept page.items page.place (stored_refs pages) pages (refs_kept pages)
 
--- Each block of the pages is one of the pages that were stored before or one that was given to a page.
+-- A block of the pages is one of the pages that were stored before or one that was given to a page.
 some_one : {T : Type 0} (format : ItemFormat T) (items : List T) (place : Place) (before after : List PageRef) (placed : List Extent) (b : ℕ)
     → (in_some (extents_of after) b ≡ true → (in_some (extents_of before) b ≡ true) ⊎ (in_some placed b ≡ true))
     → in_some (extents_of (cons_option (stored_ref (place_stored format items place)) after)) b ≡ true

@@ -26,7 +26,7 @@ one_more : {B : Type 0} (o : Option B) (xs ys : List B) → IsSublist xs ys → 
 one_more None xs ys h = h
 one_more (Some b) xs ys h = skipped xs ys b h
 
--- what is made of each element
+-- the values that a function makes of the elements
 pub filter_mapped : {A B : Type 0} (f : A → Option B) (xs ys : List A) → IsSublist xs ys → IsSublist (filter_map f xs) (filter_map f ys)
 filter_mapped f [] ys h = tt
 filter_mapped f (x ∷ xs) [] h = absurd h

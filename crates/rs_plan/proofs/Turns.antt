@@ -20,11 +20,11 @@ use Rattle.rs_image.specs.StateOfImage.{held_in, state_in}
 use Rattle.rs_plan.specs.Allowed.{changes_dropped}
 use Rattle.rs_plan.specs.Published.{published_header, lists_after_publish}
 
--- what is held of a record in an image
+-- the held resource of a record in an image
 abbrev pub shown_in : List ℕ → Record → Held
 shown_in image r = (held_in image r).1
 
--- the records in an image are what is held of them by their names
+-- the records in an image are the held resources by their names
 pub held_shown : (image : List ℕ) (records : List Record) → map (held_in image) records ≡ map_values (shown_in image) (named records)
 held_shown image [] = refl
 held_shown image (r ∷ records) = ap (λ rest. held_in image r ∷ rest) (held_shown image records)
@@ -39,12 +39,12 @@ held_named image name records =
     ap (λ held. is_some (value_of name held)) (held_shown image records) ∙ ap is_some (value-map_values (shown_in image) name (named records))
     ∙ some_mapped (shown_in image) (value_of name (named records))
 
--- the entries of what is held in an image are those of the records
+-- the entries of the held resources in an image are those of the records
 pub entries_shown : (image : List ℕ) (records : List Record) → map entry_of records ≡ entries (map (held_in image) records)
 entries_shown image [] = refl
 entries_shown image (r ∷ records) = ap (λ rest. entry_of r ∷ rest) (entries_shown image records)
 
--- the state of a header, of what is held, of changes and of what is listed
+-- the state from a header, held resources, changes and published entries
 abbrev pub state_with : Header → Names Held → List Change → Names Entry → Source
 state_with h held changes listed =
     record {

@@ -1,4 +1,4 @@
--- The published pages that a root reaches beside those of its catalogue.
+-- The published pages that a root reaches in addition to those of its catalogue.
 use Rattle.std.proofs.Common.{true≢false, ◌≡◌, ◌⊎◌, inl, inr, ℕ, Bool, true, false, ◌&&◌, ◌||◌, cond, not, List, [], ◌∷◌, nat_eq, refl, sym, ◌∙◌, ap, ap₂, subst, arith}
 use Rattle.std.specs.Prelude.{bytes_eq}
 use Rattle.std.specs.Cmp.{first_so, second_so}
@@ -53,7 +53,7 @@ still : (ref : PageRef) (refs : List PageRef) (b : ℕ) (t : Bool) → in_some (
 still ref refs b true is = is
 still ref refs b false is = some_rest ref.extent (extents_of refs) b is
 
--- Each block of the published pages is one of the catalogue's or one of those that are not shared.
+-- A block of the published pages is one of the catalogue's or one of those that are not shared.
 pub published_some : (refs catalogue : List PageRef) (b : ℕ) → in_some (extents_of refs) b ≡ true
     → (in_some (extents_of catalogue) b ≡ true) ⊎ (in_some (extents_of (unshared refs catalogue)) b ≡ true)
 published_some [] catalogue b is = absurd (true≢false (sym is))
@@ -88,7 +88,7 @@ unshared_apart refs catalogue apart =
     apart_of (extents_of (unshared refs catalogue)) (extents_of refs)
     (mapped (λ ref. ref.extent) (unshared refs catalogue) refs (filtered (λ ref. not (list_any (same_page ref) catalogue)) refs)) apart
 
--- what is shared with some pages is shared with more
+-- pages that are shared with some pages are shared with more
 shared_more : (refs few more : List PageRef) → IsSublist few more → unshared refs few ≡ [] → unshared refs more ≡ []
 shared_more [] few more of_more none = refl
 shared_more (ref ∷ refs) few more of_more none = one (list_any (same_page ref) few) refl none (shared_more refs few more of_more)
@@ -106,7 +106,7 @@ unshared_itself (ref ∷ refs) =
     ap (λ (t : Bool). cond (not (t || list_any (same_page ref) refs)) (ref ∷ unshared refs (ref ∷ refs)) (unshared refs (ref ∷ refs))) (itself ref)
     ∙ shared_more refs refs (ref ∷ refs) (skipped refs refs ref (itself_all refs)) (unshared_itself refs)
 
--- A page among some that are apart shares a block only with itself: where a kept page has such a block, it is that
+-- A page among some that are apart shares a block only with itself: a kept page that has one of its blocks is that
 -- page.
 abbrev KeepsShared : PageRef → ℕ → List PageRef → List PageRef → Type 0
 KeepsShared ref b kept before =

@@ -1,4 +1,4 @@
--- When a command may be planned: a source accepts it.
+-- The conditions for planning a command: a source accepts it.
 use Rattle.std.specs.Prelude.{◌<◌, ◌≤◌, ◌+◌, ◌*◌, ◌/◌, ◌^◌, ◌≡◌, ℕ, List, length, None, IsNone, IsSome}
 use Rattle.rs_catalogue.specs.Catalogue.{records_of}
 use Rattle.rs_catalogue.specs.Named.{named}
@@ -49,7 +49,7 @@ abbrev pub MayDoItem : Contents → Item → ℕ → Type 0
 MayDoItem c (single.Put name kind bytes) moment = MayPut c name (length bytes) moment
 MayDoItem c (single.Delete name) moment = MayDelete c name moment
 
--- the body of an item, if it has one, is no longer than one may be
+-- the body of an item, if it has one, is at most as long as a body may be
 abbrev pub IsShort : Item → Type 0
 IsShort (single.Put name kind bytes) = length bytes ≤ longest_body
 IsShort (single.Delete name) = Unit {0}

@@ -1,4 +1,4 @@
--- Plans of a put whose body has not come yet.
+-- Plans of a put whose body has not arrived yet.
 use Rattle.std.specs.Prelude.{◌≡◌, ℕ, List, length}
 use Rattle.rs_fixity.specs.Digests.{digests}
 use Rattle.rs_fixity.specs.declared.Digests.{Digests}
@@ -41,7 +41,7 @@ plan_filled name digests p =
 abbrev pub IsDraftOf : Rooted → List ℕ → List ℕ → ℕ → ℕ → Plan → Type 0
 IsDraftOf r name kind n moment p = (body : List ℕ) → length body ≡ n → IsPlanned r (Put name kind body) moment (plan_filled name (digests body) p)
 
--- The record of a name and the last change stand in pages that are not stored, so that both may still get digests.
+-- The record of a name and the last change are in pages that are not stored, so that both may still get digests.
 pub record AwaitsBody (name : List ℕ) (p : Plan) : Type 0 where
   pub catalogue : StandsUnstored name p.contents.catalogue
   pub history : EndsUnstored p.contents.history.pages
@@ -51,8 +51,8 @@ pub record IsDraft (r : Rooted) (name kind : List ℕ) (n moment : ℕ) (p : Pla
   pub awaits : AwaitsBody name p
   pub planned : IsDraftOf r name kind n moment p
 
--- What the page rule keeps in the lists of a draft and of a group: the item that is bound or appended stands in a page
--- that is not stored, and filling it gives the pages that have it filled from the start.
+-- The facts that the page rule keeps in the lists of a draft and of a group: the item that is bound or appended is in a
+-- page that is not stored, and filling it makes the pages that have it filled from the start.
 pub record IsPageRuleKept : Type 0 where
   pub bound : BindsAsOne (λ (r : Record). r.name)
   pub unbound : UnbindsAsOne (λ (r : Record). r.name)

@@ -1,4 +1,4 @@
--- What the root after a command no longer reaches.
+-- The blocks that the root after a command no longer reaches.
 use Rattle.std.specs.Prelude.{cond, ℕ, List, [], ◌∷◌, ◌++◌, Option, Some, None}
 use Rattle.std.specs.List.{cons_option, list_any}
 use Rattle.rs_extent.specs.declared.Extent.{Extent}
@@ -36,29 +36,30 @@ extent_of_page page = extents_of (cons_option page [])
 abbrev pub extent_of_body : Contents → List ℕ → List Extent
 extent_of_body c name = bodies_of (cons_option (value_of name (named (records_of c.catalogue))) [])
 
--- What a change of a name frees beside the directory: the touched page of the catalogue where it is not published, ..
+-- The blocks, other than the directory's, that a change of a name frees: the touched page of the catalogue where it is
+-- not published, ..
 abbrev pub freed_page : Contents → List ℕ → List Extent
 freed_page c name = extent_of_page (unpublished (entry_of_name c name) (stored_refs c.published))
 
--- .. the touched page of the history, whatever the name is, and the body that the name had.
+-- .. the touched page of the history, for every name, and the body that the name had.
 abbrev pub freed_history_page : Contents → List ℕ → List Extent
 freed_history_page c name = extent_of_page (open_entry c.history.pages)
 
--- what it frees in all
+-- all the blocks that it frees
 abbrev pub freed_by_change : Rooted → List ℕ → List Extent
 freed_by_change old name =
     old.root.directory ∷ freed_page old.contents name ++ freed_history_page old.contents name ++ extent_of_body old.contents name
 
--- What a group frees whose first item comes at this moment, and whose bodies stand in these extents: the directory, and
--- what each of its items frees in the lists before it.
+-- The blocks that a group frees whose first item comes at this moment, and whose bodies lie in these extents: the
+-- directory, and the blocks that every one of its items frees in the lists before it.
 abbrev pub freed_by_group : Rooted → List Item → ℕ → List Extent → List Extent
 freed_by_group old items moment bodies =
     old.root.directory
     ∷ of_each_item freed_page old.contents items moment bodies ++ of_each_item freed_history_page old.contents items moment bodies
     ++ of_each_item extent_of_body old.contents items moment bodies
 
--- What a publication frees: the directory, the pages of the history with a change that it drops, and the published
--- pages that are not catalogue pages.
+-- The blocks that a publication frees: the directory, the pages of the history with a change that it drops, and the
+-- published pages that are not catalogue pages.
 abbrev pub freed_by_publication : Rooted → List Extent
 freed_by_publication old =
     old.root.directory

@@ -1,4 +1,4 @@
--- How the lists after a command get blocks.
+-- The blocks that the lists after a command get.
 use Rattle.std.specs.Prelude.{◌≡◌, ℕ, Bool, List, [], ◌∷◌, ◌++◌, length, All}
 use Rattle.rs_extent.specs.declared.Extent.{Extent}
 use Rattle.rs_fixity.specs.Digests.{digests}
@@ -33,8 +33,8 @@ pub record AreUnplaced (c : Contents) : Type 0 where
   pub catalogue : placed_extents c.catalogue ≡ []
   pub history : placed_extents c.history.pages ≡ []
 
--- The touched pages of lists, first those of the catalogue and then those of the history, and then their directory, took
--- blocks of a disk. Nothing else of the lists changed.
+-- The touched pages of lists, first those of the catalogue and then those of the history, and then their directory,
+-- took blocks of a disk. No other part of the lists changed.
 pub record HaveTheirPlaces (used : List Bool) (c placed : Contents) (found : Extent) (after : List Bool) : Type 0 where
   pub after_catalogue : List Bool
   pub after_history : List Bool
@@ -49,7 +49,7 @@ pub record HaveTheirPlaces (used : List Bool) (c placed : Contents) (found : Ext
   pub first : placed.history.first ≡ c.history.first
   pub published : placed.published ≡ c.published
 
--- The lists of a plan are these lists once they have their places, and its bodies stand in these extents.
+-- The lists of a plan are these lists once they have their places, and its bodies lie in these extents.
 pub record HasItsPlaces (used : List Bool) (bodies : List Extent) (c : Contents) (p : Plan) : Type 0 where
   pub after : List Bool
   pub lists : HaveTheirPlaces used c p.contents p.directory after

@@ -1,4 +1,4 @@
--- What a command writes.
+-- The writes of a command.
 use Rattle.std.specs.Prelude.{◌≡◌, ℕ, Bool, true, not, ◌&&◌, ◌||◌, List, [], ◌∷◌, ◌++◌, length, All}
 use Rattle.std.specs.List.{AllZip}
 use Rattle.rs_extent.specs.declared.Extent.{Extent}
@@ -28,11 +28,11 @@ use Rattle.rs_plan.specs.Placed.{AreUnplaced, HasItsPlaces}
 use Rattle.rs_plan.specs.Published.{lists_after_publish}
 use Rattle.rs_plan.specs.Turned.{no_body, first_of, lists_after_item, lists_after_items}
 
--- these bodies stand in these extents, each in its own
+-- these bodies lie in these extents, one body in every extent
 abbrev pub AreBodies : List ℕ → List Extent → List (List ℕ) → Type 0
 AreBodies image extents bodies = AllZip (λ extent bytes. part extent (length bytes) image ≡ bytes) extents bodies
 
--- The lists after a command at its moment: where its bodies stand in these extents, their state is the one that follows
+-- The lists after a command at its moment: where its bodies lie in these extents, their state is the one that follows
 -- the state of the old lists; and their stored pages are pages of the old ones.
 pub record IsNext (old : Contents) (command : Command) (moment : ℕ) (bodies : List Extent) (c : Contents) : Type 0 where
   pub turns : (image : List ℕ) → AreBodies image bodies (bodies_of_command command)
@@ -40,10 +40,10 @@ pub record IsNext (old : Contents) (command : Command) (moment : ℕ) (bodies : 
   pub catalogue : KeepsPages old.catalogue c.catalogue
   pub history : KeepsPages old.history.pages c.history.pages
 
--- The lists after a command at its moment, whose bodies stand in these extents, before their pages have places: by the
+-- The lists after a command at its moment, whose bodies lie in these extents, before their pages have places: by the
 -- page rule a record is bound or unbound in the pages of the catalogue, and a change is appended to those of the
--- history; by a group so for each of its items. A publication lists the pages of the catalogue, and drops the first
--- changes of the history.
+-- history; a group does so for all its items in turn. A publication lists the pages of the catalogue, and drops the
+-- first changes of the history.
 abbrev pub lists_after : Contents → Command → ℕ → List Extent → Contents
 lists_after old (Put name kind bytes) moment bodies = lists_after_item old (single.Put name kind bytes) moment (first_of bodies)
 lists_after old (Delete name) moment bodies = lists_after_item old (single.Delete name) moment no_body
@@ -51,12 +51,12 @@ lists_after old Publish moment bodies = lists_after_publish old moment
 lists_after old (Group items) moment bodies = lists_after_items old items moment bodies
 
 -- the numbers of blocks that a command needs at its moment, in the order in which they are found: of its bodies, and of
--- the touched pages and the directory of the lists after it, which need as many wherever the bodies stand
+-- the touched pages and the directory of the lists after it, which need as many wherever the bodies lie
 abbrev pub command_needed : Contents → Command → ℕ → List ℕ
 command_needed old command moment = bodies_needed (bodies_of_command command) ++ lists_needed (lists_after old command moment [])
 
--- The disk is full for a command: the blocks that the root reaches are used, runs for what the command needs are taken
--- one after another, each the lowest of its own length, and one of them is not there.
+-- The disk is full for a command: the blocks that the root reaches are used, runs for the parts of the command are
+-- taken one after another, each the lowest of its own length, and the disk has no run for one of them.
 pub record IsFullFor (old : Rooted) (command : Command) (moment : ℕ) : Type 0 where
   pub used : List Bool
   pub are_used : AreUsed old used
@@ -85,9 +85,9 @@ planned_listing p = listing written_format (once_stored p.contents)
 abbrev pub planned_root : Root → Plan → Root
 planned_root root p = next root p.directory (length (planned_listing p)) (digests (planned_listing p)).sha256
 
--- Each part of a plan gets the lowest run of its size, in the order of `places`, where the blocks that the root reaches
--- are used: first its bodies; then the catalogue pages and the change pages of the lists after the command, whose touched
--- pages have no place yet; then the directory.
+-- Every part of a plan gets the lowest run of its size, in the order of `places`, where the blocks that the root
+-- reaches are used: first its bodies; then the catalogue pages and the change pages of the lists after the command,
+-- whose touched pages have no place yet; then the directory.
 pub record TakesInTurn (old : Rooted) (command : Command) (moment : ℕ) (p : Plan) : Type 0 where
   pub used : List Bool
   pub after_bodies : List Bool
@@ -96,9 +96,9 @@ pub record TakesInTurn (old : Rooted) (command : Command) (moment : ℕ) (p : Pl
   pub unplaced : AreUnplaced (lists_after old.contents command moment p.bodies.items)
   pub placed : HasItsPlaces after_bodies p.bodies.items (lists_after old.contents command moment p.bodies.items) p
 
--- What a plan takes and gives back: its places are listed; what it gives back is reached by the old root, no two things
--- of it with a block in common; and the next root reaches what the old one reached, less what is given back, and the
--- places.
+-- The blocks that a plan takes and gives back: its places are listed; the old root reaches the blocks that it gives
+-- back, no two extents of which share a block; and the next root reaches the blocks that the old one reached, less
+-- those given back, and the places.
 pub record TakesAndGives (old : Rooted) (p : Plan) : Type 0 where
   pub taken : p.taken.items ≡ places p
   pub apart : AreApart p.freed.items
@@ -106,9 +106,9 @@ pub record TakesAndGives (old : Rooted) (p : Plan) : Type 0 where
   pub next : (b : ℕ) → is_kept (planned_root old.root p) (once_stored p.contents) b
       ≡ ((is_kept old.root old.contents b && not (in_some p.freed.items b)) || in_some (places p) b)
 
--- A plan leads from these lists to those after a command, and has its reply: what it writes goes into blocks that the
--- root does not reach, no two parts of it into the same; each part has a place of its size, the lowest that there is in
--- its turn; what the next root no longer reaches is given back; and what it reaches keeps all rules.
+-- A plan leads from these lists to those after a command, and has its reply: it writes into blocks that the root does
+-- not reach, no two parts of it into the same; every part has a place of its size, the lowest that there is in its
+-- turn; the blocks that the next root no longer reaches are given back; and the next root and its lists keep all rules.
 pub record IsPlanned (old : Rooted) (command : Command) (moment : ℕ) (p : Plan) : Type 0 where
   pub next : IsNext old.contents command moment p.bodies.items p.contents
   pub reply : (image : List ℕ) → p.reply ≡ reply_to (state_in image old.contents) command moment
@@ -124,7 +124,7 @@ pub record IsPlanned (old : Rooted) (command : Command) (moment : ℕ) (p : Plan
   pub whole : IsWhole old.size (planned_root old.root p) (once_stored p.contents)
   pub blocks : TakesAndGives old p
 
--- All that a plan writes stands in an image, these bodies among it.
+-- All parts that a plan writes are in an image, these bodies among them.
 pub record AreWritten (p : Plan) (written : List (List ℕ)) (image : List ℕ) : Type 0 where
   pub bodies : AreBodies image p.bodies.items written
   pub catalogue : All (IsWritten record_format image) p.contents.catalogue

@@ -1,4 +1,4 @@
--- What a publication makes of the lists.
+-- The lists after a publication.
 use Rattle.std.specs.Prelude.{ℕ, ◌+◌, take}
 use Rattle.rs_record.specs.Changes.{last_moment}
 use Rattle.rs_changes.specs.History.{changes_of, without_parts}

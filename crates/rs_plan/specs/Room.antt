@@ -1,4 +1,4 @@
--- The blocks that a command needs, and what it means that there are none.
+-- The blocks that a command needs, and the definition of a disk that lacks them.
 use Rattle.std.specs.Prelude.{◌≡◌, ◌⊎◌, ◌≤◌, ◌+◌, ◌++◌, ℕ, Bool, true, not, is_some, if◌then◌else◌, List, [], ◌∷◌, length, map, filter, bytes_eq}
 use Rattle.std.specs.List.{list_any}
 use Rattle.rs_extent.specs.declared.Extent.{Extent}
@@ -32,12 +32,12 @@ pub record IsFoundRun (used : List Bool) (n : ℕ) (extent : Extent) : Type 0 wh
 abbrev pub HasNoRun : List Bool → ℕ → Type 0
 HasNoRun used n = (1 ≤ n) × ((first : ℕ) → IsFreeRun used first n → ⊥)
 
--- runs of these lengths are taken one after another, each the lowest of its own length, and the next one has none
+-- runs of these lengths are taken one after another, each the lowest of its own length, and the next one has no run
 abbrev pub HasNoRoom : List Bool → List ℕ → Type 0
 HasNoRoom used [] = ⊥
 HasNoRoom used (n ∷ ns) = HasNoRun used n ⊎ ((used' : List Bool) × (extent : Extent) × Takes used n extent used' × HasNoRoom used' ns)
 
--- the number of blocks of each page that is not stored
+-- the numbers of blocks of the pages that are not stored
 abbrev pub pages_needed : {T : Type 0} → ItemFormat T → List (Page T) → List ℕ
 pages_needed format pages = map (λ page. blocks_needed format page.items) (filter (λ page. not (is_some (stored_ref page.place))) pages)
 
@@ -64,7 +64,7 @@ bodies_of_command (Delete name) = []
 bodies_of_command Publish = []
 bodies_of_command (Group items) = bodies_kept items
 
--- the number of blocks of each of these bodies
+-- the numbers of blocks of these bodies
 abbrev pub bodies_needed : List (List ℕ) → List ℕ
 bodies_needed bodies = map (λ bytes. blocks_of (length bytes)) bodies
 

@@ -25,7 +25,7 @@ use Rattle.rs_plan.specs.Room.{is_named_in}
 abbrev pub no_body : Extent
 no_body = record { first = 0; blocks = 0 }
 
--- the first of these extents, and the others
+-- the first of these extents, `no_body` if there is none; and the extents after it
 abbrev pub first_of : List Extent → Extent
 first_of [] = no_body
 first_of (extent ∷ extents) = extent
@@ -43,12 +43,12 @@ abbrev pub change_of_item : Contents → Item → ℕ → Change
 change_of_item old (single.Put name kind bytes) moment = change_put old name kind bytes moment
 change_of_item old (single.Delete name) moment = deleted name moment
 
--- the pages of a catalogue after an item at its moment, whose body stands in an extent: a record is bound or unbound
+-- the pages of a catalogue after an item at its moment, whose body lies in an extent: a record is bound or unbound
 abbrev pub catalogue_after : Item → ℕ → Extent → List (Page Record) → List (Page Record)
 catalogue_after (single.Put name kind bytes) moment body pages = bound_in (λ (r : Record). r.name) (record_made name kind bytes body moment) pages
 catalogue_after (single.Delete name) moment body pages = unbound_in (λ (r : Record). r.name) name pages
 
--- the lists with these pages of the catalogue, and with a change behind all others, after a command at this moment
+-- the lists with these pages of the catalogue, and with a change after all others, after a command at this moment
 abbrev pub lists_with : Contents → List (Page Record) → Change → ℕ → Contents
 lists_with old catalogue change moment =
     record {
@@ -58,7 +58,7 @@ lists_with old catalogue change moment =
       published = old.published;
     }
 
--- the lists after one item at its moment, whose body stands in an extent
+-- the lists after one item at its moment, whose body lies in an extent
 abbrev pub lists_after_item : Contents → Item → ℕ → Extent → Contents
 lists_after_item old item moment body =
     lists_with old (catalogue_after item moment body old.catalogue) (change_of_item old item moment) moment
@@ -78,7 +78,7 @@ is_written (single.Put name kind bytes) items = not (is_named_in name items)
 is_written (single.Delete name) items = false
 
 -- The extent of an item's body among those of the bodies that are written from this item on; a body that is not written
--- has none.
+-- has no blocks.
 abbrev pub extent_for : Item → List Item → List Extent → Extent
 extent_for item items bodies = if is_written item items then first_of bodies else no_body
 
@@ -86,21 +86,21 @@ extent_for item items bodies = if is_written item items then first_of bodies els
 abbrev pub extents_left : Item → List Item → List Extent → List Extent
 extents_left item items bodies = if is_written item items then others_of bodies else bodies
 
--- The lists after these items, the first of them at this moment and each other one millisecond after the one before it.
--- The bodies that no later item replaces or deletes stand in these extents, in their order; any other has none.
+-- The lists after these items, the first at this moment and every later one a millisecond after the one before it. The
+-- bodies that no later item replaces or deletes lie in these extents, in their order; the others have no blocks.
 abbrev pub lists_after_items : Contents → List Item → ℕ → List Extent → Contents
 lists_after_items old [] moment bodies = old
 lists_after_items old (item ∷ items) moment bodies =
     lists_after_items (lists_after_item old item moment (extent_for item items bodies)) items (moment + 1) (extents_left item items bodies)
 
--- the extents that a function of the lists and a name gives for each item, in the lists before it
+-- the extents that a function of the lists and a name gives for every item, in the lists before it
 abbrev pub of_each_item : (Contents → List ℕ → List Extent) → Contents → List Item → ℕ → List Extent → List Extent
 of_each_item f old [] moment bodies = []
 of_each_item f old (item ∷ items) moment bodies =
     f old (name_of item)
     ++ of_each_item f (lists_after_item old item moment (extent_for item items bodies)) items (moment + 1) (extents_left item items bodies)
 
--- Each of these items may be done in the lists before it.
+-- Every one of these items may be done in the lists before it.
 abbrev pub MayDoEach : Contents → List Item → ℕ → List Extent → Type 0
 MayDoEach old [] moment bodies = Unit {0}
 MayDoEach old (item ∷ items) moment bodies =

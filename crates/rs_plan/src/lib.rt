@@ -1,9 +1,9 @@
-//! What a command of a source writes, and where on its disk.
+//! Plans of the writes of a command, with blocks for all of them.
 //!
-//! A [`Plan`] has the lists after a command, and blocks for each part that the command writes: the
+//! A [`Plan`] has the lists after a command, and blocks for every part that the command writes: the
 //! bodies, the touched pages and the directory. [`plan_put`], [`plan_delete`], [`plan_publish`] and
-//! [`plan_group`] make one from the lists in memory, without a call of the disk, or find that the
-//! disk has no room.
+//! [`plan_group`] make a plan from the lists in memory, without a call of the disk, or find that
+//! the disk has no room.
 #![tactic(auto)]
 
 mod plan;

@@ -1,4 +1,4 @@
-//! What a command writes.
+//! The writes of a command.
 
 use rs_extent::Extent;
 use rs_fixity::Digests;
@@ -6,21 +6,21 @@ use rs_image::Contents;
 use rs_model::Reply;
 use rs_record::Name;
 
-/// What a command writes, and where.
+/// The writes of a command, and their blocks.
 #[derive(Debug, Drop)]
 pub struct Plan {
-    /// The lists after the command. Each touched page has its blocks.
+    /// The lists after the command. Every touched page has its blocks.
     pub contents: Contents,
-    /// The blocks of each body that the command writes, in the order of writing.
+    /// The blocks of the bodies that the command writes, in the order of writing.
     pub bodies: Vec<Extent>,
     /// The blocks of the directory.
     pub directory: Extent,
     /// The reply to the command.
     pub reply: Reply,
-    /// All the blocks that it writes: for the bodies, the touched pages and the directory, in the
-    /// order in which they were found.
+    /// All the blocks that the command writes: for the bodies, the touched pages and the directory,
+    /// in the order in which the plan found them.
     pub taken: Vec<Extent>,
-    /// What the old root reaches and the next one does not.
+    /// The blocks that the old root reaches and the next root does not.
     pub freed: Vec<Extent>,
 }
 
@@ -28,8 +28,8 @@ impl Plan {
     ghost use Rattle.std.specs.Prelude.{◌≡◌};
     ghost use Rattle.rs_plan.specs.Drafts.{AwaitsBody, plan_filled};
 
-    /// Fills in the digests of the body that a draft binds to this name. Nothing else changes, and it
-    /// asks for no memory.
+    /// Fills in the digests of the body that a draft binds to this name. It changes no other part
+    /// of the plan, and asks for no memory.
     pub fn fill(&mut self, name: &Name, digests: Digests)
         requires { AwaitsBody name.now self.old }
         ensures { self.new ≡ plan_filled name.now digests self.old }

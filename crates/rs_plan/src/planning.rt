@@ -1,5 +1,5 @@
-//! Planning a command: the lists after it, the blocks that its writes take, and those that it gives
-//! back.
+//! The plan of a command: the lists after it, the blocks that its writes take, and the blocks that
+//! it gives back.
 
 ghost use Rattle.std.specs.Prelude.{◌≡◌, ℕ, List, length, IfOk, IsErrOf};
 ghost use Rattle.rs_model.specs.declared.command.Command.TheVariants.{Put, Delete, Publish};
@@ -38,13 +38,13 @@ use rs_time::Moment;
 use std::alloc::{AllocError, Global};
 use thiserror::Error;
 
-/// Why a command has no plan.
+/// The reason why a command has no plan.
 #[derive(Clone, Copy, Debug, PartialEq, Eq, Error)]
 pub enum PlanFault {
     /// A part that the command writes has no run of free blocks.
     #[error("the disk is full")]
     Full,
-    /// A growth of memory was refused.
+    /// The allocator refused memory.
     #[error("out of memory")]
     NoMemory,
 }
@@ -117,7 +117,7 @@ pub fn draft_put(
     place_lists(alloc, used, bodies, lists, reply, freed)
 }
 
-/// In place of digests that are not known yet.
+/// A placeholder for digests that are not known yet.
 const UNKNOWN: Digests = Digests {
     md5: [0; 16],
     sha256: [0; 32],
@@ -213,7 +213,7 @@ pub fn plan_publish(
     place_lists(alloc, used, Vec::new(alloc), lists, reply, freed)
 }
 
-/// What the page rule keeps in the lists of a draft and of a group.
+/// Proves the facts that the page rule keeps in the lists of a draft and of a group.
 fn page_rule_is_kept()
     ensures { IsPageRuleKept }
 {
@@ -224,7 +224,7 @@ fn page_rule_is_kept()
     last_items_are_filled::<Change>();
 }
 
-/// What the types of these lists and of this moment keep.
+/// Proves the facts that the types of these lists and of this moment keep.
 fn types_are_kept(contents: &Contents, moment: Moment)
     ensures lists { AreLists contents.now }
     ensures moment { IsMoment moment }

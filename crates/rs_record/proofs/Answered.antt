@@ -1,4 +1,4 @@
--- What a reader's answer says of the bytes, for any format.
+-- The meaning of a reader's answer for the bytes, for any format.
 use Rattle.std.proofs.Common.{◌≡◌, ℕ, List, ◌++◌, Option, Some, None, Result, Ok, Err, refl, sym, ap, ◌∙◌}
 use Rattle.std.specs.Prelude.{IfOk, IsErrOf, IsSome, ◌↔◌}
 use Rattle.std.specs.Option.{option_map}
@@ -13,11 +13,11 @@ first_read : {A : Type 0} (o : Option (A × List ℕ)) (x : A) → option_map (�
 first_read None x e = absurd cc
 first_read (Some y) x e = (y.1, ap (λ z. Some (z, y.1)) (some_is y.0 x e))
 
--- where the bytes begin with a lawful format, it is read
+-- if the bytes begin with a lawful format, it is read
 reads : {A : Type 0} (read : List ℕ → Option (A × List ℕ)) (write : A → List ℕ) (IsLawful : A → Type 0) → IsFormat read write IsLawful → (bytes : List ℕ) (x : A) → IsLawful x → (begins : BeginsWith bytes (write x)) → read bytes ≡ Some (x, begins.0)
 reads read write IsLawful format bytes x lawful begins = ap read begins.1 ∙ format.again x begins.0 lawful
 
--- the value of what is some
+-- the value of an option that has one
 some_read : {A : Type 0} (o : Option A) → IsSome o → (x : A) × (o ≡ Some x)
 some_read None h = absurd cc
 some_read (Some x) h = (x, refl)
@@ -30,7 +30,7 @@ module _ {A : Type 0} (read : List ℕ → Option (A × List ℕ)) (write : A �
       (t.lawful, (y.0, t.parts))
   found (Err e) h = tt
 
-  -- the bytes begin with what was read
+  -- the bytes begin with the value that was read
   begins_with : (x : A × List ℕ) → read bytes ≡ Some x → ((y : A) → IsLawful y → BeginsWith bytes (write y) → ⊥) → ⊥
   begins_with x e none = let t = format.takes bytes x fits e in none x.0 t.lawful (x.1, t.parts)
 

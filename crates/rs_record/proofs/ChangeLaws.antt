@@ -1,4 +1,4 @@
--- What is read is what was written, and what was written is read: changes.
+-- A value that is read was written, and a value that was written is read: changes.
 use Rattle.std.proofs.Common.{◌≡◌, ℕ, Bool, true, false, cond, List, [], ◌∷◌, ◌++◌, Option, Some, None, refl, ap, ◌∙◌}
 use Rattle.std.specs.Prelude.{IsTrue, IfSome, ◌||◌, ◌==◌}
 use Rattle.std.specs.List.{concat}
@@ -25,11 +25,11 @@ binding_byte what one true e f h = eqb-true what 2 f
 binding_byte what true false e f h = eqb-true what 1 e
 binding_byte what false false e f h = absurd cc
 
--- what a change begins with
+-- the fields at the front of a change
 abbrev head : ℕ → List ℕ → ℕ → List (List ℕ)
 head what name m = (what ∷ []) ∷ counted_text name ∷ to_be_bytes w64 m ∷ []
 
--- what follows a name that was bound
+-- the rest of a change by which a name was bound
 bound_takes : (what : ℕ) (name : List ℕ) (m : ℕ) (bytes rest : List ℕ) (x : Change × List ℕ) (again : Bool) → what ≡ what_byte (binding again)
     → IsTrue (is_name name) → IsMoment m → AreBytes rest → bytes ≡ concat (head what name m) ++ rest → bound_at name again m rest ≡ Some x → Takes change_bytes IsLawfulChange bytes x
 unfolding bound_at
@@ -44,7 +44,7 @@ bound_takes what name m bytes rest x again is lawful low fits e h =
       lawful = record { name = lawful; moment = low; facts = t.lawful };
     })
 
--- where the byte, the name and the moment were read off the front, so is what follows
+-- if the byte, the name and the moment were read off the front, so is the rest of the change
 by_byte : (what : ℕ) (name : List ℕ) (m : ℕ) (bytes rest : List ℕ) (x : Change × List ℕ) (three one two : Bool) → (what == 3) ≡ three → (what == 1) ≡ one → (what == 2) ≡ two
     → IsTrue (is_name name) → IsMoment m → AreBytes rest → bytes ≡ concat (head what name m) ++ rest
     → cond three (Some (deleted name m, rest)) (cond (one || two) (bound_at name two m rest) None) ≡ Some x → Takes change_bytes IsLawfulChange bytes x

@@ -1,4 +1,4 @@
--- Changes are equal where their fields are.
+-- Changes are equal if their fields are.
 use Rattle.std.proofs.Common.{◌≡◌, ℕ, List, Option, IsTrue, ap, subst}
 use Rattle.std.proofs.Props.{props}
 use Rattle.rs_record.specs.ChangeKind.{agree}

@@ -40,7 +40,7 @@ first_clean c (part ∷ parts) h =
     let front = and_parts (is_clean c) (clean part) both.0 in
     and_from (is_clean c) (clean part && list_all clean parts) front.0 (and_from (clean part) (list_all clean parts) front.1 both.1)
 
--- the byte at which a text is cut is clean, and each other byte is in a part
+-- the byte at which a text is cut is clean, and every other byte is in a part
 cut_clean : (b : Bool) (c : ℕ) (rest : List ℕ) → (c == 47) ≡ b → IsTrue (list_all clean (cond b ([] ∷ segments rest) (onto_first c (segments rest)))) → IsTrue (is_clean c && list_all clean (segments rest))
 cut_clean true c rest e h =
     and_from (is_clean c) (list_all clean (segments rest)) (clean_byte (λ x. x == 47) c refl refl refl e) h

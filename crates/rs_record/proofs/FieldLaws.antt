@@ -1,4 +1,4 @@
--- What is read is what was written, and what was written is read: pieces, numbers, texts and moments.
+-- A value that is read was written, and a value that was written is read: pieces, numbers, texts and moments.
 use Rattle.std.proofs.Common.{◌≡◌, ℕ, suc, ◌+◌, ◌^◌, ◌<◌, ◌≤◌, Bool, true, false, cond, leb, List, [], ◌∷◌, ◌++◌, length, get_or, take, drop, Option, Some, None, refl, sym, ap, subst, ◌∙◌, append_assoc, ◌⊎◌, arith, inl, inr}
 use Rattle.std.specs.Prelude.{IsTrue}
 use Rattle.std.specs.List.{concat}
@@ -11,7 +11,7 @@ use Rattle.rs_time.specs.Moment.{IsMoment, moment_of}
 use Rattle.rs_record.specs.Format.{counted_text}
 use Rattle.rs_record.specs.Reading.{◌>>=◌, piece_at, number_in, counted_at, text_at, moment_in}
 
--- each is a byte
+-- all elements are bytes
 abbrev pub AreBytes : List ℕ → Type 0
 AreBytes xs = (i : ℕ) → get_or xs i 0 < 256
 
@@ -22,13 +22,13 @@ pub record IsBytes (n : ℕ) (xs : List ℕ) : Type 0 where
 
 -- ---- reading and writing
 
--- what a reader took off the front
+-- a reader took a lawful value off the front
 pub record Takes {A : Type 0} (write : A → List ℕ) (IsLawful : A → Type 0) (bytes : List ℕ) (x : A × List ℕ) : Type 0 where
   pub parts : bytes ≡ write x.0 ++ x.1
   pub rest : AreBytes x.1
   pub lawful : IsLawful x.0
 
--- A reader takes the format of a lawful value, and reads each one.
+-- A reader takes only formats of lawful values, and reads the format of every lawful value.
 pub record IsFormat {A : Type 0} (read : List ℕ → Option (A × List ℕ)) (write : A → List ℕ) (IsLawful : A → Type 0) : Type 0 where
   pub takes : (bytes : List ℕ) (x : A × List ℕ) → AreBytes bytes → read bytes ≡ Some x → Takes write IsLawful bytes x
   pub again : (x : A) (rest : List ℕ) → IsLawful x → read (write x ++ rest) ≡ Some (x, rest)
@@ -46,7 +46,7 @@ guard_some false x y e = absurd cc
 pub some_is : {A : Type 0} (x y : A) → Some x ≡ Some y → x ≡ y
 some_is x y e = cc
 
--- what was taken under its other name
+-- the value was taken also under its other name
 pub takes_as : {A : Type 0} {write : A → List ℕ} {IsLawful : A → Type 0} {bytes : List ℕ} (x y : A × List ℕ) → Some x ≡ Some y → Takes write IsLawful bytes x → Takes write IsLawful bytes y
 takes_as {A} {write} {IsLawful} {bytes} x y e t = subst (Takes write IsLawful bytes) (some_is x y e) t
 
@@ -234,7 +234,7 @@ piece_none n bytes e = guard_none (leb n (length bytes)) refl e
     guard_none true is e = absurd cc
     guard_none false is e = grind (arith, nat_tests, is)
 
--- a step that gave nothing
+-- a step that gave no value
 bind_none : {A B : Type 0} (o : Option A) (f : A → Option B) → (o >>= f) ≡ None → (o ≡ None) ⊎ ((x : A) × (o ≡ Some x) × (f x ≡ None))
 bind_none None f e = inl refl
 bind_none (Some x) f e = inr (x, refl, e)
@@ -242,7 +242,7 @@ bind_none (Some x) f e = inr (x, refl, e)
 some_is_none : {A : Type 0} (x : A) → Some x ≡ None → ⊥
 some_is_none x e = absurd cc
 
--- where four bytes and k more are not there
+-- if four bytes and k more are not there
 pub number_none : {B : Type 0} (k : ℕ) (bytes : List ℕ) (f : ℕ × List ℕ → Option B) → AreBytes bytes → (number_in w32 bytes >>= f) ≡ None
     → ((x : ℕ × List ℕ) → AreBytes x.1 → f x ≡ None → length x.1 < k) → length bytes < 4 + k
 number_none k bytes f fits e more = elim (bind_none (number_in w32 bytes) f e) [

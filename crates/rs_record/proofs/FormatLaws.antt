@@ -1,4 +1,4 @@
--- What is read is what was written, and what was written is read: facts, records and changes.
+-- A value that is read was written, and a value that was written is read: facts, records and changes.
 use Rattle.std.proofs.Common.{◌≡◌, ℕ, List, [], ◌∷◌, ◌++◌, Some, refl, ap, ◌∙◌}
 use Rattle.std.specs.Int.{w32, w64, to_be_bytes}
 use Rattle.rs_record.specs.Name.{is_name}

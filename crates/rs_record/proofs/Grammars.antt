@@ -1,4 +1,4 @@
--- The tests of names and media types accept what the grammars have, and nothing else.
+-- The tests of names and media types accept the texts of the grammars, and no other text.
 use Rattle.std.proofs.Common.{◌≡◌, ◌≢◌, ◌⊎◌, inl, inr, ⊎_elim, ℕ, ◌-◌, ◌<◌, Bool, true, false, cond, List, [], ◌∷◌, ◌++◌, length, take, drop, nat_eq, nat_le, refl, sym, ap, subst, ◌∙◌, arith, true≢false}
 use Rattle.std.specs.Prelude.{codes, IsTrue, ◌==◌, ◌&&◌, ◌||◌, ◌↔◌, not}
 use Rattle.std.specs.List.{list_all, join_with_byte, All, ends_with}
@@ -117,7 +117,7 @@ path_passes (more {text} {first} {rest} e s p) =
 
 -- ---- media types
 
--- the bytes of a token at the front, and what is left after them
+-- the bytes of a token at the front, and the bytes after them
 front_from : (bytes : List ℕ) → (front : List ℕ) × IsTrue (list_all is_tchar front) × (bytes ≡ front ++ after_token bytes)
 front_from [] = ([], refl, refl)
 front_from (c ∷ rest) = one_more_token c rest (is_tchar c) refl (front_from rest)
@@ -166,7 +166,7 @@ typed_passes bytes is =
       ap (λ (l : List ℕ). begins_subtype (after_token l)) is.parts ∙ ap begins_subtype (token_passed is.kind (is.subtype ++ is.rest) is.kind_token.chars) ∙ token_begins is.subtype is.rest is.subtype_token,
     )
 
--- the last byte is a space exactly where the text is some front and a space
+-- the last byte is a space exactly if the text is some front and a space
 one_space : (bytes : List ℕ) → IsTrue (pointwise nat_eq (codes " ") bytes) → bytes ≡ codes " "
 one_space [] h = absurd cc
 one_space (c ∷ []) h = ap (λ (n : ℕ). n ∷ []) (sym (eqb-true 32 c (and_parts (nat_eq 32 c) true h).0))

@@ -1,4 +1,4 @@
--- Appending piece by piece, and how long the formats are.
+-- Appending piece by piece, and the lengths of the formats.
 use Rattle.std.proofs.Common.{◌≡◌, ℕ, ◌≤◌, ◌+◌, List, ◌++◌, length, arith, [], ◌∷◌, append_assoc, ap, sym}
 use Rattle.std.specs.List.{concat}
 use Rattle.std.proofs.lemmas.List.{length-append, append-nil}

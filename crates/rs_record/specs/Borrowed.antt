@@ -1,4 +1,4 @@
--- Values that were read, wherever they lie in memory.
+-- Values that were read, at any place in memory.
 use Rattle.std.specs.Prelude.{IsTrue}
 use Rattle.rs_record.specs.Name.{is_name}
 use Rattle.rs_record.specs.MediaType.{is_media_type}

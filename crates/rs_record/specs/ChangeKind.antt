@@ -1,4 +1,4 @@
--- When a change has facts.
+-- The changes that have facts.
 use Rattle.std.specs.Prelude.{Bool, Option, is_some, is_none}
 use Rattle.rs_record.specs.declared.facts.Facts.{Facts}
 use Rattle.rs_record.specs.declared.change.What.{What}

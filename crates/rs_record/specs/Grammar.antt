@@ -6,7 +6,7 @@ use Rattle.rs_record.specs.Bytes.{is_between, is_hex}
 use Rattle.rs_record.specs.Name.{is_plain}
 use Rattle.rs_record.specs.MediaType.{is_tchar}
 
--- Any number of `pchar` (RFC 3986, 3.3), each a plain byte or `%` and two hexadecimal digits (2.1).
+-- Any number of `pchar` (RFC 3986, 3.3): plain bytes, and `%` with two hexadecimal digits (2.1).
 pub data ArePchars : List ℕ → Type 0 where
   none : ArePchars []
   plain : {c : ℕ} {rest : List ℕ} → IsTrue (is_plain c) → ArePchars rest → ArePchars (c ∷ rest)
@@ -29,7 +29,7 @@ pub record IsToken (text : List ℕ) : Type 0 where
   pub some : text ≢ []
   pub chars : IsTrue (list_all is_tchar text)
 
--- A type, `/`, a subtype and what follows them (RFC 9110, 8.3.1).
+-- A type, `/`, a subtype and the bytes after them (RFC 9110, 8.3.1).
 pub record IsTyped (text : List ℕ) : Type 0 where
   pub kind : List ℕ
   pub subtype : List ℕ

@@ -1,4 +1,4 @@
--- What the types keep of their fields.
+-- The laws that the types keep for their fields.
 use Rattle.std.specs.Prelude.{◌≡◌, ◌<◌, ◌^◌, length, IsTrue, IfSome}
 use Rattle.rs_time.specs.Moment.{IsMoment}
 use Rattle.rs_record.specs.Name.{is_name}

@@ -1,4 +1,4 @@
--- How much a source holds at most.
+-- The limits of the content of a source.
 use Rattle.std.specs.Prelude.{ℕ}
 
 -- the greatest number of bytes of a body

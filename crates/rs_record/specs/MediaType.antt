@@ -13,7 +13,7 @@ abbrev pub begins_token : List ℕ → Bool
 begins_token [] = false
 begins_token (c ∷ rest) = is_tchar c
 
--- what is left after the bytes of a token
+-- the rest after the bytes of a token
 abbrev pub after_token : List ℕ → List ℕ
 after_token [] = []
 after_token (c ∷ rest) = if is_tchar c then after_token rest else c ∷ rest

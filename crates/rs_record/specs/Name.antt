@@ -13,12 +13,12 @@ two_hex [] = false
 two_hex (a ∷ []) = false
 two_hex (a ∷ b ∷ rest) = is_hex a && is_hex b
 
--- Each byte is plain, or a `%` before two hexadecimal digits, which are plain too.
+-- All bytes are plain, or a `%` before two hexadecimal digits, which are plain too.
 abbrev pub are_pchars : List ℕ → Bool
 are_pchars [] = true
 are_pchars (c ∷ rest) = (is_plain c || ((c == 37) && two_hex rest)) && are_pchars rest
 
--- nothing, `.` or `..`
+-- the empty text, `.` or `..`
 abbrev pub is_dots : List ℕ → Bool
 is_dots [] = true
 is_dots (a ∷ []) = a == 46

@@ -1,10 +1,10 @@
--- Words of the readers' own contracts: each takes a field off the front of some bytes, and gives a value and the bytes
--- after it, or nothing. Format says what the public readers owe.
+-- Words of the readers' own contracts: a reader takes a field off the front of some bytes, and gives a value and the
+-- bytes after it, or no value. Format states the duties of the public readers.
 use Rattle.std.specs.Prelude.{◌≡◌, ℕ, List, [], ◌∷◌, length, take, drop, Bool, ◌||◌, ◌==◌, nat_le, if◌then◌else◌, Option, Some, None, IsSome, Result, Ok, Err}
 use Rattle.std.specs.Option.{option_map}
 use Rattle.std.specs.Int.{Width, w32, w64, byte_len, from_be_bytes}
 use Rattle.rs_time.specs.Moment.{moment_of}
--- the next step, where there was a value
+-- the next step, if there was a value
 pub use Rattle.rs_fixity.specs.Cut.{◌>>=◌}
 use Rattle.rs_record.specs.Name.{is_name}
 use Rattle.rs_record.specs.MediaType.{is_media_type}
@@ -15,12 +15,13 @@ use Rattle.rs_record.specs.declared.facts.Facts.{Facts}
 use Rattle.rs_record.specs.declared.record.Record.{Record}
 use Rattle.rs_record.specs.declared.change.Change.{Change}
 
--- What a reader returned, seen by view, is what reading gives.
+-- The result of a reader, seen by view, is the result of reading.
 abbrev pub IsSeenAs : {X Y : Type 0} → (X → Y) → Option X → Option Y → Type 0
 IsSeenAs view None read = read ≡ None
 IsSeenAs view (Some x) read = read ≡ Some (view x)
 
--- What a reader returned is the value at the front and the length of its format. It lacks memory only where there is one.
+-- The result of a reader is the value at the front and the length of its format. It lacks memory only if there is a
+-- value.
 abbrev pub IsValueAt : {A : Type 0} → (A → List ℕ) → Result (A × ℕ) ValueFault → Option (A × List ℕ) → Type 0
 IsValueAt write (Ok x) read = (option_map (λ y. y.0) read ≡ Some x.0) × (x.1 ≡ length (write x.0))
 IsValueAt write (Err Malformed) read = read ≡ None
@@ -39,7 +40,7 @@ unfoldable pub counted_at : List ℕ → Option (List ℕ × List ℕ)
 counted_at [] = None
 counted_at (n ∷ rest) = piece_at n rest
 
--- the same, where the text is lawful
+-- the same, if the text is lawful
 unfoldable pub text_at : (List ℕ → Bool) → List ℕ → Option (List ℕ × List ℕ)
 text_at is_lawful bytes = do
   text ← counted_at bytes
@@ -52,7 +53,7 @@ moment_in bytes = do
   moment ← moment_of ms.0
   Some (moment, ms.1)
 
--- what is known of a body
+-- the facts of a body
 unfoldable pub facts_at : List ℕ → Option (Facts × List ℕ)
 facts_at bytes = do
   kind ← text_at is_media_type bytes
@@ -87,7 +88,7 @@ bound_at name again moment bytes = do
   facts ← facts_at bytes
   Some (bound name again moment facts.0, facts.1)
 
--- what follows the moment of a change, by what happened
+-- the rest of a change after its moment, by its kind
 unfoldable pub change_after : ℕ → List ℕ → ℕ → List ℕ → Option (Change × List ℕ)
 change_after what name moment bytes =
     if what == 3 then Some (deleted name moment, bytes)

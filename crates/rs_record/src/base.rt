@@ -9,7 +9,7 @@ use crate::fault::ValueFault;
 use std::alloc::{AllocError, Global};
 use std::marker::Model;
 
-/// What the URIs of a source begin with: 8 to 128 bytes, seen as the list of its bytes.
+/// The prefix of the URIs of a source: 8 to 128 bytes, seen as the list of its bytes.
 ///
 /// It is `http://` or `https://` and one or more letters, digits or bytes of `.:/_~-`, and does
 /// not end in `/`. The URI of a resource is the base, `/resource/` and the name (RFC 3986).
@@ -30,12 +30,12 @@ impl Model for Base {
 }
 
 impl Base {
-    /// The base of these bytes, copied into memory of its own.
+    /// Returns the base of these bytes, copied into memory of its own.
     ///
     /// # Errors
     ///
-    /// `Malformed` exactly where the bytes are no lawful base, without asking for memory;
-    /// `NoMemory` where the memory for the copy was refused.
+    /// `Malformed` exactly if the bytes are no lawful base, without asking for memory; `NoMemory` if the memory for the
+    /// copy was refused.
     pub fn new(alloc: Global, bytes: &[u8]) -> Result<Base, ValueFault>
         ensures value { IfOk result (λ base. base ≡ bytes.now) }
         ensures lawful { OnOk result (IsTrue (is_base bytes.now)) }
@@ -47,7 +47,7 @@ impl Base {
         Base::from_lawful(alloc, bytes).map_err(|_| ValueFault::NoMemory)
     }
 
-    /// The bytes of the base, 8 to 128.
+    /// Returns the bytes of the base, 8 to 128.
     pub fn bytes(&self) -> &[u8]
         ensures value { result.now ≡ self.now }
         ensures lawful { IsTrue (is_base self.now) }
@@ -55,18 +55,18 @@ impl Base {
         self.bytes.as_slice()
     }
 
-    /// A copy of the base.
+    /// Returns a copy of the base.
     ///
     /// # Errors
     ///
-    /// An error where the memory for the copy was refused.
+    /// An error if the memory for the copy was refused.
     pub fn copy(&self, alloc: Global) -> Result<Base, AllocError>
         ensures { IfOk result (λ base. base ≡ self.now) }
     {
         Base::from_lawful(alloc, self.bytes())
     }
 
-    /// The base of lawful bytes.
+    /// Returns the base of lawful bytes.
     fn from_lawful(alloc: Global, bytes: &[u8]) -> Result<Base, AllocError>
         requires { IsTrue (is_base bytes.now) }
         ensures { IfOk result (λ base. base ≡ bytes.now) }
@@ -77,7 +77,7 @@ impl Base {
     }
 }
 
-/// Whether the bytes are a base.
+/// Returns whether the bytes are a base.
 fn is_lawful(bytes: &[u8]) -> bool
     ensures { result ≡ is_base bytes.now }
 {
@@ -87,7 +87,7 @@ fn is_lawful(bytes: &[u8]) -> bool
         && !bytes.ends_with(b"/")
 }
 
-/// Whether the bytes are the scheme and then one or more bytes of a base.
+/// Returns whether the bytes are the scheme and then one or more bytes of a base.
 fn has_scheme(scheme: &[u8], bytes: &[u8]) -> bool
     ensures { result ≡ scheme_first scheme.now bytes.now }
 {
@@ -97,14 +97,14 @@ fn has_scheme(scheme: &[u8], bytes: &[u8]) -> bool
     }
 }
 
-/// Whether each byte may stand in a base after its scheme.
+/// Returns whether all bytes may occur in a base after its scheme.
 fn are_base_chars(bytes: &[u8]) -> bool
     ensures { result ≡ list_all base_byte bytes.now }
 {
     bytes.iter().all(|byte| is_base_char(*byte))
 }
 
-/// Whether the byte may stand in a base after its scheme.
+/// Returns whether the byte may occur in a base after its scheme.
 fn is_base_char(byte: u8) -> bool
     ensures { result ≡ base_byte byte }
 {

@@ -21,7 +21,7 @@ pub struct FactsFields<'a> {
 impl FactsFields<'_> {
     ghost use Rattle.rs_record.specs.Borrowed.{facts_seen};
 
-    /// The facts, with memory of their own.
+    /// Returns the facts, with memory of their own.
     pub fn to_facts(&self, alloc: Global) -> Result<Facts, AllocError>
         requires { IsTrue (is_media_type self.now.kind.now) }
         ensures { IfOk result (λ facts. facts ≡ facts_seen self.now) }
@@ -46,7 +46,7 @@ pub struct RecordFields<'a> {
 impl RecordFields<'_> {
     ghost use Rattle.rs_record.specs.Borrowed.{record_seen};
 
-    /// The record, with memory of its own.
+    /// Returns the record, with memory of its own.
     pub fn to_record(&self, alloc: Global) -> Result<Record, AllocError>
         requires name { IsTrue (is_name self.now.name.now) }
         requires kind { IsTrue (is_media_type self.now.facts.kind.now) }
@@ -81,7 +81,7 @@ pub enum ChangeFields<'a> {
 impl ChangeFields<'_> {
     ghost use Rattle.rs_record.specs.Borrowed.{change_seen, AreLawfulTexts};
 
-    /// The change, with memory of its own.
+    /// Returns the change, with memory of its own.
     pub fn to_change(&self, alloc: Global) -> Result<Change, AllocError>
         requires { AreLawfulTexts self.now }
         ensures { IfOk result (λ made. made ≡ change_seen self.now) }

@@ -1,4 +1,4 @@
-//! What happened to a resource.
+//! Changes of a resource.
 
 ghost use Rattle.std.specs.Prelude.{◌≡◌, IfOk, IsTrue};
 ghost use Rattle.rs_record.specs.ChangeKind.{agree};
@@ -7,29 +7,29 @@ use crate::{Facts, Name};
 use rs_time::Moment;
 use std::alloc::{AllocError, Global};
 
-/// What happened to a resource: the values of the attribute `change` of Z39.99.
+/// The kind of a change: the values of the attribute `change` of Z39.99.
 #[derive(Clone, Copy, Debug, PartialEq, Eq)]
 pub enum What {
     /// The name was bound, and had not been.
     Created,
-    /// The name was bound again, in place of what it was bound to.
+    /// The name was bound again, and its earlier body replaced.
     Updated,
     /// The name was unbound.
     Deleted,
 }
 
-/// What happened to a resource, and when. It has facts unless the resource was deleted.
+/// A change of a resource: its kind, its moment, and facts unless the resource was deleted.
 ///
 /// `bound` and `deleted` make changes, and keep this.
 #[derive(Debug, Drop)]
 pub struct Change {
     /// The name of the resource.
     pub name: Name,
-    /// What happened to it.
+    /// The kind of the change.
     pub what: What,
     /// When it happened.
     pub moment: Moment,
-    /// What is known of the body that the name was bound to; none where it was unbound.
+    /// The facts of the body that the name was bound to; `None` if the name was unbound.
     pub facts: Option<Facts>,
     pub ghost agreed: { IsTrue (agree what facts) },
 }
@@ -37,8 +37,8 @@ pub struct Change {
 impl Change {
     ghost use Rattle.rs_record.specs.Changes.{bound, deleted};
 
-    /// The change that binds the name to these facts: `Updated` if `again`, that is if the name was
-    /// bound before, else `Created`.
+    /// Returns the change that binds the name to these facts: `Updated` if `again`, that is if the name was bound
+    /// before, else `Created`.
     pub fn bound(name: Name, again: bool, moment: Moment, facts: Facts) -> Change
         ensures { result ≡ bound name again moment facts }
     {
@@ -50,7 +50,7 @@ impl Change {
         }
     }
 
-    /// The change that unbinds the name.
+    /// Returns the change that unbinds the name.
     pub fn deleted(name: Name, moment: Moment) -> Change
         ensures { result ≡ deleted name moment }
     {
@@ -62,11 +62,11 @@ impl Change {
         }
     }
 
-    /// A copy of the change.
+    /// Returns a copy of the change.
     ///
     /// # Errors
     ///
-    /// An error where the memory for the copy was refused.
+    /// An error if the memory for the copy was refused.
     pub fn copy(&self, alloc: Global) -> Result<Change, AllocError>
         ensures { IfOk result (λ change. change ≡ self.now) }
     {

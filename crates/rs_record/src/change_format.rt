@@ -20,7 +20,7 @@ const UPDATED: u8 = 2;
 
 const DELETED: u8 = 3;
 
-/// How many bytes the format of a change has: 11 to 403.
+/// Returns the number of bytes of the format of a change: 11 to 403.
 pub fn change_size(change: &Change) -> usize
     ensures size { result ≡ length (change_bytes change.now) }
     ensures bound { result ≤ 403 }
@@ -36,7 +36,7 @@ pub fn change_size(change: &Change) -> usize
 ///
 /// # Errors
 ///
-/// An error where the vector had no room and more memory was refused; its elements stay.
+/// An error if the vector had no room and more memory was refused; its elements stay.
 pub fn write_change(change: &Change, out: &mut Vec<u8>) -> Result<(), AllocError>
     ensures ok { OnOk result (out.new.items ≡ out.old.items ++ change_bytes change.now) }
     ensures err { OnErr result (out.new.items ≡ out.old.items) }
@@ -73,15 +73,15 @@ pub fn write_change(change: &Change, out: &mut Vec<u8>) -> Result<(), AllocError
     }
 }
 
-/// The change whose format the bytes begin with, and how many bytes the format has. Other bytes may
-/// follow it.
+/// Returns the change whose format the bytes begin with, and the number of bytes of the format. Other bytes may follow
+/// it.
 ///
 /// It asks for memory for the name and the media type alone, of the lengths that were read.
 ///
 /// # Errors
 ///
-/// `Malformed` exactly where the bytes begin with no format of a lawful change; `NoMemory` where
-/// the memory for the name or the media type was refused.
+/// `Malformed` exactly if the bytes begin with no format of a lawful change; `NoMemory` if the memory for the name or
+/// the media type was refused.
 pub fn read_change(alloc: Global, bytes: &[u8]) -> Result<(Change, usize), ValueFault>
     ensures found { IfOk result (λ read. IsLawfulChange read.0
         × BeginsWith bytes.now (change_bytes read.0)) }
@@ -106,7 +106,7 @@ fn change_of(alloc: Global, bytes: &[u8]) -> Result<(Change, usize), ValueFault>
     Ok((change, size))
 }
 
-/// A change, and the bytes after it.
+/// Returns a change, and the bytes after it.
 #[tactic(auto, unfolding(crate::specs::Reading::change_at, crate::specs::Reading::moment_in, crate::specs::Reading::change_after, crate::specs::Reading::bound_at))]
 fn change_at(bytes: &[u8]) -> Option<(ChangeFields<'_>, &[u8])>
     ensures read { IsSeenAs (λ x. (change_seen x.0, x.1.now)) result (change_read bytes.now) }
@@ -133,7 +133,7 @@ fn change_at(bytes: &[u8]) -> Option<(ChangeFields<'_>, &[u8])>
     }
 }
 
-/// The byte of what happened.
+/// Returns the byte of a kind of change.
 fn what_byte(what: What) -> u8
     ensures { result ≡ byte_of what }
 {

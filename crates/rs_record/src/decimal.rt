@@ -4,7 +4,8 @@ ghost use Rattle.std.specs.Prelude.{◌≡◌, ◌≤◌, length};
 ghost use Rattle.std.specs.Fmt.{decimal};
 ghost use Rattle.rs_record.specs.Decimal.{number_in};
 
-/// The number that `text` writes in 1 to `most` decimal digits, or `None` where it is anything else. Leading zeros are digits.
+/// Returns the number that `text` writes in 1 to `most` decimal digits, or `None` for any other text. Leading zeros are
+/// digits.
 #[tactic(auto, unfolding(crate::specs::Decimal::number_in))]
 pub fn number(text: &[u8], most: usize) -> Option<u64>
     requires { most ≤ 18 }
@@ -23,7 +24,7 @@ pub fn number(text: &[u8], most: usize) -> Option<u64>
     Some(value)
 }
 
-/// How many decimal digits a number has, without leading zeros.
+/// Returns the number of decimal digits of a number, without leading zeros.
 pub fn count_digits(number: u64) -> u64
     ensures value { result ≡ length (decimal number) }
     ensures few { result ≤ 20 }

@@ -7,11 +7,11 @@ use std::alloc::{AllocError, Global};
 
 /// A value that takes memory to copy.
 pub trait Duplicate: Drop {
-    /// A copy of the value.
+    /// Returns a copy of the value.
     ///
     /// # Errors
     ///
-    /// An error where the memory for the copy was refused.
+    /// An error if the memory for the copy was refused.
     fn duplicate(&self, alloc: Global) -> Result<Self, AllocError>
         ensures { IfOk result (λ copied. copied ≡ self.now) };
 }
@@ -46,11 +46,11 @@ impl<A: Duplicate, B: Duplicate> Duplicate for (A, B) {
     }
 }
 
-/// Copies of the values, in their order.
+/// Returns copies of the values, in their order.
 ///
 /// # Errors
 ///
-/// An error where memory for the list or for one of the copies was refused.
+/// An error if memory for the list or for one of the copies was refused.
 pub fn duplicate_all<T: Duplicate>(alloc: Global, items: &[T]) -> Result<Vec<T>, AllocError>
     ensures { IfOk result (λ copied. copied.items ≡ items.now) }
 {

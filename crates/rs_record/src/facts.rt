@@ -1,4 +1,4 @@
-//! What is known of a body.
+//! The facts of a body.
 
 ghost use Rattle.std.specs.Prelude.{◌≡◌, IfOk};
 
@@ -6,8 +6,8 @@ use crate::MediaType;
 use rs_fixity::Digests;
 use std::alloc::{AllocError, Global};
 
-/// What is known of a body: what a Change List and a Resource List say of it (Z39.99, the
-/// attributes `type`, `length` and `hash`).
+/// The facts of a body, which a Change List and a Resource List state (Z39.99, the attributes `type`, `length` and
+/// `hash`).
 #[derive(Debug, Drop)]
 pub struct Facts {
     /// Its media type.
@@ -19,11 +19,11 @@ pub struct Facts {
 }
 
 impl Facts {
-    /// A copy of the facts.
+    /// Returns a copy of the facts.
     ///
     /// # Errors
     ///
-    /// An error where the memory for the copy was refused.
+    /// An error if the memory for the copy was refused.
     pub fn copy(&self, alloc: Global) -> Result<Facts, AllocError>
         ensures { IfOk result (λ facts. facts ≡ self.now) }
     {

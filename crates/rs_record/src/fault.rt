@@ -1,8 +1,8 @@
-//! Why bytes gave no value.
+//! Faults of bytes that gave no value.
 
 use thiserror::Error;
 
-/// Why bytes gave no value.
+/// The fault of bytes that gave no value.
 #[derive(Clone, Copy, Debug, PartialEq, Eq, Error)]
 pub enum ValueFault {
     /// The bytes are no lawful value, or begin with no format of one.

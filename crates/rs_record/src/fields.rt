@@ -1,7 +1,7 @@
 //! Fields of the formats of the disk, read off the front of some bytes and appended to others.
 //!
-//! Each reader gives the field and the bytes after it, or `None` where the bytes do not begin with
-//! one. Numbers are big endian.
+//! A reader gives the field and the bytes after it, or `None` if the bytes do not begin with one. Numbers are big
+//! endian.
 
 ghost use Rattle.std.specs.Prelude.{◌≡◌, ◌<◌, ◌≤◌, ◌+◌, ◌++◌, vec_len, vec_capacity, IsTrue, OnOk, OnErr, IfSome, length, map};
 ghost use Rattle.std.specs.Int.{w16, w32, w64};
@@ -16,7 +16,7 @@ use crate::{MediaType, Name};
 use rs_fixity::Digests;
 use std::alloc::AllocError;
 
-/// A number of 2 bytes.
+/// Reads a number of 2 bytes.
 pub fn u16_at(bytes: &[u8]) -> Option<(u16, &[u8])>
     ensures { IsSeenAs (λ x. (x.0, x.1.now)) result (number_in w16 bytes.now) }
 {
@@ -24,7 +24,7 @@ pub fn u16_at(bytes: &[u8]) -> Option<(u16, &[u8])>
     Some((u16::from_be_bytes(*number), rest))
 }
 
-/// A number of 4 bytes.
+/// Reads a number of 4 bytes.
 pub fn u32_at(bytes: &[u8]) -> Option<(u32, &[u8])>
     ensures { IsSeenAs (λ x. (x.0, x.1.now)) result (number_in w32 bytes.now) }
 {
@@ -32,7 +32,7 @@ pub fn u32_at(bytes: &[u8]) -> Option<(u32, &[u8])>
     Some((u32::from_be_bytes(*number), rest))
 }
 
-/// A number of 8 bytes.
+/// Reads a number of 8 bytes.
 pub fn u64_at(bytes: &[u8]) -> Option<(u64, &[u8])>
     ensures { IsSeenAs (λ x. (x.0, x.1.now)) result (number_in w64 bytes.now) }
 {
@@ -40,7 +40,7 @@ pub fn u64_at(bytes: &[u8]) -> Option<(u64, &[u8])>
     Some((u64::from_be_bytes(*number), rest))
 }
 
-/// A byte of length, and that many bytes: 0 to 255.
+/// Reads a byte of length, and that many bytes: 0 to 255.
 #[tactic(auto, unfolding(crate::specs::Reading::counted_at))]
 pub fn counted_at(bytes: &[u8]) -> Option<(&[u8], &[u8])>
     ensures { IsSeenAs (λ x. (x.0.now, x.1.now)) result (counted_read bytes.now) }
@@ -49,7 +49,7 @@ pub fn counted_at(bytes: &[u8]) -> Option<(&[u8], &[u8])>
     rest.split_at_checked(*length as usize)
 }
 
-/// A byte of length, and a lawful name of that length.
+/// Reads a byte of length, and a lawful name of that length.
 #[tactic(auto, unfolding(crate::specs::Reading::text_at))]
 pub(crate) fn name_at(bytes: &[u8]) -> Option<(&[u8], &[u8])>
     ensures read { IsSeenAs (λ x. (x.0.now, x.1.now)) result (text_at is_name bytes.now) }
@@ -62,7 +62,7 @@ pub(crate) fn name_at(bytes: &[u8]) -> Option<(&[u8], &[u8])>
     Some((name, rest))
 }
 
-/// A byte of length, and a lawful media type of that length.
+/// Reads a byte of length, and a lawful media type of that length.
 #[tactic(auto, unfolding(crate::specs::Reading::text_at))]
 fn media_type_at(bytes: &[u8]) -> Option<(&[u8], &[u8])>
     ensures read { IsSeenAs (λ x. (x.0.now, x.1.now)) result (text_at is_media_type bytes.now) }
@@ -75,7 +75,7 @@ fn media_type_at(bytes: &[u8]) -> Option<(&[u8], &[u8])>
     Some((kind, rest))
 }
 
-/// What is known of a body.
+/// Reads the facts of a body.
 #[tactic(auto, unfolding(crate::specs::Reading::facts_at))]
 pub(crate) fn facts_at(bytes: &[u8]) -> Option<(FactsFields<'_>, &[u8])>
     ensures read { IsSeenAs (λ x. (facts_seen x.0, x.1.now)) result (facts_read bytes.now) }
@@ -97,7 +97,7 @@ pub(crate) fn facts_at(bytes: &[u8]) -> Option<(FactsFields<'_>, &[u8])>
     Some((facts, rest))
 }
 
-/// How many bytes the format of facts with this media type and these digests has: 56 to 153.
+/// Returns the number of bytes of the format of facts with this media type and these digests: 56 to 153.
 pub(crate) fn facts_size(kind: &MediaType, digests: Digests) -> usize
     ensures size { result ≡ 5 + length kind.now + length digests.md5 + length digests.sha256 }
     ensures bound { result ≤ 153 }
@@ -105,7 +105,7 @@ pub(crate) fn facts_size(kind: &MediaType, digests: Digests) -> usize
     5 + kind.bytes().len() + digests.md5.len() + digests.sha256.len()
 }
 
-/// Appends these pieces, which have `size` bytes in all. If memory is refused, it appends nothing.
+/// Appends these pieces, which have `size` bytes in all. If memory is refused, it appends no byte.
 pub(crate) fn append(size: usize, pieces: &[&[u8]], out: &mut Vec<u8>) -> Result<(), AllocError>
     requires { size ≡ length (concat (map (λ piece. piece.now) pieces.now)) }
     ensures ok { OnOk result (out.new.items

@@ -1,5 +1,5 @@
-//! Names, media types, bases, decimal numbers, what is kept of a resource and of a change to it, and how
-//! these are spelled on the disk. [`fields`] reads what every format of the disk is made of.
+//! Names, media types, bases, decimal numbers, records of resources, changes, and their formats on the disk. [`fields`]
+//! reads the fields of every format of the disk.
 #![tactic(auto)]
 
 mod base;

@@ -1,4 +1,4 @@
-//! How much a source holds at most.
+//! The limits of the content of a source.
 
 /// The greatest number of bytes of a body: 16 MiB.
 pub const LONGEST_BODY: u32 = 16_777_216;

@@ -13,12 +13,11 @@ use std::marker::Model;
 
 /// A media type with its parameters: 3 to 100 bytes, seen as the list of its bytes.
 ///
-/// It begins with a token, `/` and a token (RFC 9110, sections 8.3.1 and 5.6.2), each byte is
-/// printable ASCII (32 to 126), and the last one is no space. What follows the second token is
-/// kept as it was given.
+/// It begins with a token, `/` and a token (RFC 9110, sections 8.3.1 and 5.6.2), all bytes are printable ASCII (32 to
+/// 126), and the last byte is no space. The bytes after the second token are kept as given.
 ///
-/// A media type of at most 24 bytes, as `application/octet-stream`, lies in the value, and a longer
-/// one in memory of its own.
+/// A media type of at most 24 bytes, as `application/octet-stream`, lies in the value, and a longer one in memory of
+/// its own.
 #[derive(Debug, Drop)]
 pub struct MediaType {
     bytes: SmallVec<u8, 24>,
@@ -36,12 +35,12 @@ impl Model for MediaType {
 }
 
 impl MediaType {
-    /// The media type of these bytes, copied.
+    /// Returns the media type of these bytes, copied.
     ///
     /// # Errors
     ///
-    /// `Malformed` exactly where the bytes are no lawful media type, without asking for memory;
-    /// `NoMemory` where the memory for the copy was refused.
+    /// `Malformed` exactly if the bytes are no lawful media type, without asking for memory; `NoMemory` if the memory
+    /// for the copy was refused.
     pub fn new(alloc: Global, bytes: &[u8]) -> Result<MediaType, ValueFault>
         ensures value { IfOk result (λ kind. kind ≡ bytes.now) }
         ensures lawful { OnOk result (IsTrue (is_media_type bytes.now)) }
@@ -54,7 +53,7 @@ impl MediaType {
         MediaType::from_lawful(alloc, bytes).map_err(|_| ValueFault::NoMemory)
     }
 
-    /// Whether the bytes are a lawful media type.
+    /// Returns whether the bytes are a lawful media type.
     pub fn is_lawful(bytes: &[u8]) -> bool
         ensures { result ≡ is_media_type bytes.now }
     {
@@ -66,7 +65,7 @@ impl MediaType {
             && !bytes.ends_with(b" ")
     }
 
-    /// The bytes of the media type, 3 to 100.
+    /// Returns the bytes of the media type, 3 to 100.
     pub fn bytes(&self) -> &[u8]
         ensures value { result.now ≡ self.now }
         ensures lawful { IsTrue (is_media_type self.now) }
@@ -74,22 +73,22 @@ impl MediaType {
         self.bytes.as_slice()
     }
 
-    /// A copy of the media type.
+    /// Returns a copy of the media type.
     ///
     /// # Errors
     ///
-    /// An error where the memory for the copy was refused.
+    /// An error if the memory for the copy was refused.
     pub fn copy(&self, alloc: Global) -> Result<MediaType, AllocError>
         ensures { IfOk result (λ kind. kind ≡ self.now) }
     {
         MediaType::from_lawful(alloc, self.bytes())
     }
 
-    /// The media type of lawful bytes, copied.
+    /// Returns the media type of lawful bytes, copied.
     ///
     /// # Errors
     ///
-    /// An error where the memory for the copy was refused.
+    /// An error if the memory for the copy was refused.
     pub fn from_lawful(alloc: Global, bytes: &[u8]) -> Result<MediaType, AllocError>
         requires { IsTrue (is_media_type bytes.now) }
         ensures { IfOk result (λ kind. kind ≡ bytes.now) }
@@ -100,14 +99,14 @@ impl MediaType {
     }
 }
 
-/// Whether each byte is printable ASCII.
+/// Returns whether all bytes are printable ASCII.
 fn are_printable(bytes: &[u8]) -> bool
     ensures { result ≡ list_all (is_between 32 126) bytes.now }
 {
     bytes.iter().all(|byte| 32 <= *byte && *byte <= 126)
 }
 
-/// Whether the bytes begin with a token.
+/// Returns whether the bytes begin with a token.
 fn begins_token(bytes: &[u8]) -> bool
     ensures { result ≡ token_first bytes.now }
 {
@@ -117,7 +116,7 @@ fn begins_token(bytes: &[u8]) -> bool
     }
 }
 
-/// Whether the bytes begin with `/` and a token.
+/// Returns whether the bytes begin with `/` and a token.
 fn begins_subtype(bytes: &[u8]) -> bool
     ensures { result ≡ subtype_first bytes.now }
 {
@@ -127,7 +126,7 @@ fn begins_subtype(bytes: &[u8]) -> bool
     }
 }
 
-/// What is left after the bytes of a token.
+/// Returns the rest after the bytes of a token.
 fn after_token(bytes: &[u8]) -> &[u8]
     ensures { result.now ≡ token_rest bytes.now }
 {
@@ -139,7 +138,7 @@ fn after_token(bytes: &[u8]) -> &[u8]
     &[]
 }
 
-/// Whether a token may have the byte.
+/// Returns whether a token may have the byte.
 fn is_tchar(byte: u8) -> bool
     ensures { result ≡ token_byte byte }
 {

@@ -38,12 +38,12 @@ impl Model for Name {
 }
 
 impl Name {
-    /// The name of these bytes, copied.
+    /// Returns the name of these bytes, copied.
     ///
     /// # Errors
     ///
-    /// `Malformed` exactly where the bytes are no lawful name, without asking for memory;
-    /// `NoMemory` where the memory for the copy was refused.
+    /// `Malformed` exactly if the bytes are no lawful name, without asking for memory; `NoMemory` if the memory for the
+    /// copy was refused.
     pub fn new(alloc: Global, bytes: &[u8]) -> Result<Name, ValueFault>
         ensures value { IfOk result (λ name. name ≡ bytes.now) }
         ensures lawful { OnOk result (IsTrue (is_name bytes.now)) }
@@ -55,14 +55,14 @@ impl Name {
         Name::from_lawful(alloc, bytes).map_err(|_| ValueFault::NoMemory)
     }
 
-    /// Whether the bytes are a lawful name.
+    /// Returns whether the bytes are a lawful name.
     pub fn is_lawful(bytes: &[u8]) -> bool
         ensures { result ≡ is_name bytes.now }
     {
         bytes.len() <= 240 && are_segments(bytes)
     }
 
-    /// The bytes of the name, 1 to 240.
+    /// Returns the bytes of the name, 1 to 240.
     pub fn bytes(&self) -> &[u8]
         ensures value { result.now ≡ self.now }
         ensures lawful { IsTrue (is_name self.now) }
@@ -70,29 +70,29 @@ impl Name {
         self.bytes.as_slice()
     }
 
-    /// Compares the names byte by byte. A name sorts before each longer name that begins with it.
+    /// Compares the names byte by byte. A name sorts before every longer name that begins with it.
     pub fn compare(&self, other: &Name) -> Ordering
         ensures { result ≡ slice_cmp nat_cmp self.now other.now }
     {
         self.bytes().cmp(other.bytes())
     }
 
-    /// A copy of the name.
+    /// Returns a copy of the name.
     ///
     /// # Errors
     ///
-    /// An error where the memory for the copy was refused.
+    /// An error if the memory for the copy was refused.
     pub fn copy(&self, alloc: Global) -> Result<Name, AllocError>
         ensures { IfOk result (λ name. name ≡ self.now) }
     {
         Name::from_lawful(alloc, self.bytes())
     }
 
-    /// The name of lawful bytes, copied.
+    /// Returns the name of lawful bytes, copied.
     ///
     /// # Errors
     ///
-    /// An error where the memory for the copy was refused.
+    /// An error if the memory for the copy was refused.
     pub fn from_lawful(alloc: Global, bytes: &[u8]) -> Result<Name, AllocError>
         requires { IsTrue (is_name bytes.now) }
         ensures { IfOk result (λ name. name ≡ bytes.now) }
@@ -103,7 +103,7 @@ impl Name {
     }
 }
 
-/// Whether each part between the `/` is a segment.
+/// Returns whether every part between the `/` is a segment.
 fn are_segments(bytes: &[u8]) -> bool
     ensures { result ≡ list_all segment_bytes (segments bytes.now) }
 {
@@ -112,14 +112,14 @@ fn are_segments(bytes: &[u8]) -> bool
         .all(|part| is_segment(part))
 }
 
-/// Whether the bytes are a segment.
+/// Returns whether the bytes are a segment.
 fn is_segment(bytes: &[u8]) -> bool
     ensures { result ≡ segment_bytes bytes.now }
 {
     are_pchars(bytes) && !matches!(bytes, [] | [b'.'] | [b'.', b'.'])
 }
 
-/// Whether a segment may have each of the bytes, a `%` only before two hexadecimal digits.
+/// Returns whether a segment may have all the bytes, a `%` only before two hexadecimal digits.
 fn are_pchars(bytes: &[u8]) -> bool
     ensures { result ≡ pchar_bytes bytes.now }
 {
@@ -131,7 +131,7 @@ fn are_pchars(bytes: &[u8]) -> bool
     true
 }
 
-/// Whether the bytes begin with two hexadecimal digits.
+/// Returns whether the bytes begin with two hexadecimal digits.
 fn two_hex(bytes: &[u8]) -> bool
     ensures { result ≡ two_hex_bytes bytes.now }
 {
@@ -141,7 +141,7 @@ fn two_hex(bytes: &[u8]) -> bool
     }
 }
 
-/// Whether a segment may have the byte as it is, other than by `%`.
+/// Returns whether a segment may have the byte as it is, other than by `%`.
 fn is_plain(byte: u8) -> bool
     ensures { result ≡ plain_byte byte }
 {

@@ -1,4 +1,4 @@
-//! A resource, and where its body lies.
+//! A resource, and the place of its body.
 
 ghost use Rattle.std.specs.Prelude.{◌≡◌, IfOk};
 
@@ -8,8 +8,7 @@ use rs_fixity::Digests;
 use rs_time::Moment;
 use std::alloc::{AllocError, Global};
 
-/// A resource that is held: its name, what is known of its body, since when, and where the body
-/// lies on the disk.
+/// A resource that is held: its name, the facts of its body, its moment, and the place of the body on the disk.
 #[derive(Debug, Drop)]
 pub struct Record {
     /// The name of the resource.
@@ -27,11 +26,11 @@ pub struct Record {
 }
 
 impl Record {
-    /// A copy of the record.
+    /// Returns a copy of the record.
     ///
     /// # Errors
     ///
-    /// An error where the memory for the copy was refused.
+    /// An error if the memory for the copy was refused.
     pub fn copy(&self, alloc: Global) -> Result<Record, AllocError>
         ensures { IfOk result (λ copied. copied ≡ self.now) }
     {

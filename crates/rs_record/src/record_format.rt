@@ -17,7 +17,7 @@ use rs_extent::Extent;
 use rs_time::Moment;
 use std::alloc::{AllocError, Global};
 
-/// How many bytes the format of a record has: 74 to 410.
+/// Returns the number of bytes of the format of a record: 74 to 410.
 pub fn record_size(record: &Record) -> usize
     ensures size { result ≡ length (record_bytes «record».now) }
     ensures bound { result ≤ 410 }
@@ -29,7 +29,7 @@ pub fn record_size(record: &Record) -> usize
 ///
 /// # Errors
 ///
-/// An error where the vector had no room and more memory was refused; its elements stay.
+/// An error if the vector had no room and more memory was refused; its elements stay.
 pub fn write_record(record: &Record, out: &mut Vec<u8>) -> Result<(), AllocError>
     ensures ok { OnOk result (out.new.items ≡ out.old.items ++ record_bytes «record».now) }
     ensures err { OnErr result (out.new.items ≡ out.old.items) }
@@ -59,15 +59,15 @@ pub fn write_record(record: &Record, out: &mut Vec<u8>) -> Result<(), AllocError
     append(record_size(record), &pieces, out)
 }
 
-/// The record whose format the bytes begin with, and how many bytes the format has. Other bytes may
-/// follow it.
+/// Returns the record whose format the bytes begin with, and the number of bytes of the format. Other bytes may follow
+/// it.
 ///
 /// It asks for memory for the name and the media type alone, of the lengths that were read.
 ///
 /// # Errors
 ///
-/// `Malformed` exactly where the bytes begin with no format of a lawful record; `NoMemory` where
-/// the memory for the name or the media type was refused.
+/// `Malformed` exactly if the bytes begin with no format of a lawful record; `NoMemory` if the memory for the name or
+/// the media type was refused.
 pub fn read_record(alloc: Global, bytes: &[u8]) -> Result<(Record, usize), ValueFault>
     ensures found { IfOk result (λ read. IsLawfulRecord read.0
         × BeginsWith bytes.now (record_bytes read.0)) }
@@ -92,7 +92,7 @@ fn record_of(alloc: Global, bytes: &[u8]) -> Result<(Record, usize), ValueFault>
     Ok((record, size))
 }
 
-/// A record, and the bytes after it.
+/// Returns a record, and the bytes after it.
 #[tactic(auto, unfolding(crate::specs::Reading::record_at, crate::specs::Reading::moment_in))]
 fn record_at(bytes: &[u8]) -> Option<(RecordFields<'_>, &[u8])>
     ensures read { IsSeenAs (λ x. (record_seen x.0, x.1.now)) result (record_read bytes.now) }

@@ -1,4 +1,4 @@
--- What was accepted in a run was acknowledged before its end.
+-- Every command that was accepted in a run was acknowledged before its end.
 use Rattle.std.proofs.Common.{◌≡◌, ◌≤◌, ℕ, [], ◌∷◌, length, take, refl, sym, ap, subst, arith}
 use Rattle.std.specs.List.{AllByRecursion}
 use Rattle.std.proofs.lemmas.List.{take_all}
@@ -24,7 +24,7 @@ same_length {D} device old [] [] new turn = refl
 same_length {D} device old (c ∷ cs) (a ∷ acks) new turn = let more : length cs ≡ length acks = same_length device turn.2 cs acks new turn.5 in omega (arith, more)
 same_length {D} device old cs acks new turn = absurd turn
 
--- Where all answers came by m calls, all that were accepted were acknowledged by then.
+-- If all answers came by m calls, all accepted commands were acknowledged by then.
 accepted_by : (m : ℕ) (cs : Commands) (acks : Acks) → length cs ≡ length acks → AllByRecursion (λ a. a.at_call ≤ m) acks → length (answered is_accepted cs acks) ≤ acknowledged m acks
 accepted_by m cs acks same all =
     let n = length acks in
@@ -34,7 +34,7 @@ accepted_by m cs acks same all =
     let these : answered is_accepted (take n cs) (take n acks) ≡ answered is_accepted cs acks = λ i. answered is_accepted (all_cs i) (all_acks i) in
     omega (arith, few, ap length these)
 
--- all that were accepted were acknowledged before the end
+-- all accepted commands were acknowledged before the end
 pub all_acknowledged : {D : Type 0} (device : D → DiskState) → CallsRise device → (old : Stored D) (cs : Commands) (acks : Acks) (new : Stored D) → InTurn device old cs acks new
     → length (answered is_accepted cs acks) ≤ acknowledged (device new.disk).calls acks
 all_acknowledged {D} device rise old cs acks new turn =

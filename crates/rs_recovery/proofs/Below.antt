@@ -1,4 +1,4 @@
--- What the crates below promise, for the proofs of this one.
+-- The promises of the crates below, for the proofs of this one.
 use Rattle.std.proofs.Common.{◌≡◌, ℕ, Bool, List, [], ◌∷◌, ◌++◌, cond, Err}
 use Rattle.rs_disk.specs.Medium.{DiskState}
 use Rattle.rs_disk.specs.Leaves.{Leaves}
@@ -15,7 +15,7 @@ Commands = List (Command × ℕ)
 abbrev pub Acks : Type 0
 Acks = List Ack
 
--- where the device failed in a command, that command counts, and none after it
+-- if the device failed in a command, that command counts, and no later one does
 pub counts_alone : (c : Command × ℕ) (cs : Commands) (call : ℕ) (acks : Acks) → AreClosed acks
     → counted_commands (c ∷ cs) (record { reply = Err Device; at_call = call } ∷ acks) ≡ c ∷ []
 counts_alone c cs call acks closed = λ i.
@@ -24,6 +24,6 @@ counts_alone c cs call acks closed = λ i.
 abbrev pub one : Bool → ℕ
 one b = cond b 1 0
 
--- a run of calls also leaves whatever follows from what it leaves
+-- a run of calls that leaves P leaves every Q that follows from P
 pub weaker : (old new : DiskState) (P Q : ℕ → List ℕ → Type 0) → ((m : ℕ) (image : List ℕ) → P m image → Q m image) → Leaves old new P → Leaves old new Q
 weaker old new P Q from left = record { later = left.later; before = left.before; each = λ m image ge le at. from m image (left.each m image ge le at) }

@@ -25,7 +25,7 @@ module _ {D : Type 0} (device : D → DiskState) (command : CommandsAreTurns dev
   put_turn (Err ShortBody) a = idle old new name kind n now came (inr a)
   put_turn (Err refusal) a = (may_fit n came refusal a.0, λ body begins. command old new (Put name kind body) now (Err refusal) (a.1 body begins))
 
-  -- a put that is refused with its body cut is not done
+  -- a refused put whose body was cut is not done
   refused_leaves : (refusal : Refusal) → EarlyFaultsLeave device → (refusal ≡ Device) ⊎ (is_device (Err refusal) ≡ false) → RefusedIsNotDone device
       → AnswersFrom device old new (coming_put name kind n now) came (Err refusal)
       → ((body : List ℕ) → IsBodyOf n came body → Answers device old new (Put name kind body) now (Err refusal))

@@ -1,5 +1,4 @@
--- What a state has behind it, which each accepted command raises, so that an image stands for one number of commands
--- alone.
+-- The count of a state, which every accepted command raises, so that an image represents only one number of commands.
 use Rattle.std.proofs.Common.{◌≡◌, inl, inr, ℕ, zero, suc, ◌+◌, ◌-◌, ◌*◌, ◌<◌, ◌≤◌, Bool, true, false, ◌||◌, List, [], ◌∷◌, ◌++◌, length, take, drop, refl, sym, ap, subst, arith, cond, Option, Some, None, Result, Ok, Err, div-mul-le_self}
 use Rattle.std.specs.Prelude.{nat_le, MatchOption}
 use Rattle.std.proofs.lemmas.Bool.{cases_lt}
@@ -27,14 +26,14 @@ use Rattle.rs_image.specs.Laws.{StandsOnce}
 use Rattle.rs_recovery.proofs.Below.{Commands, Acks, one, counts_alone}
 use Rattle.rs_recovery.proofs.FromBelow.{all_closed}
 
--- the changes that were dropped, those that are kept, and the publications
+-- the count: dropped changes, kept changes and publications
 pub behind : Source → ℕ
 behind s = s.first * s.limit + length s.changes + s.number
 
 add_one : (gone a b n : ℕ) → a ≡ b + 1 → gone + a + n ≡ gone + b + n + 1
 add_one gone a b n more = omega (arith, more)
 
--- one change more
+-- one more change
 change_more : (s : Source) (change : Change) → s.first * s.limit + length (s.changes ++ change ∷ []) + s.number ≡ s.first * s.limit + length s.changes + s.number + 1
 change_more s change =
     add_one (s.first * s.limit) (length (s.changes ++ change ∷ [])) (length s.changes) s.number (length-append s.changes (change ∷ []))
@@ -53,7 +52,7 @@ dropped_within : (s : Source) → dropped_changes s ≤ length s.changes
 dropped_within s =
     omega (arith, div-mul-le_self (passed_by s.at s.changes) s.limit, passed_within s.at s.changes)
 
--- what a publication drops is counted by its parts
+-- the parts count the changes that a publication drops
 one_further : (first parts limit kept left n : ℕ) → parts * limit ≤ kept → left ≡ kept - parts * limit
     → (first + parts) * limit + left + (n + 1) ≡ first * limit + kept + n + 1
 one_further first parts limit kept left n within rest = grind arith
@@ -78,7 +77,7 @@ publication_more s t =
     one_further s.first (dropped_parts s) s.limit (length s.changes) (length (drop (dropped_changes s) s.changes)) s.number
     (dropped_within s) (length-drop (dropped_changes s) s.changes)
 
--- each accepted command raises the number of changes behind: a group by its number of items, at least one
+-- every accepted command raises the count: a group by its number of items, at least one
 next_more : (s : Source) (command : Command) (now t : ℕ) → refusal_of s command now ≡ None → behind s < behind (next_state s command t)
 next_more s (Put name kind bytes) now t none = omega (arith, item_more s (single.Put name kind bytes) t)
 next_more s (Delete name) now t none = omega (arith, item_more s (single.Delete name) t)
@@ -96,14 +95,14 @@ unrefused : (o : Option model.Refusal) (next made : Source × Reply) → accepte
 unrefused None next made is = refl
 unrefused (Some refusal) next made is = absurd cc
 
--- the number of changes behind rises with each of these commands
+-- the count rises with each of these commands
 abbrev Rises : Source → Commands → Type 0
 Rises s commands = (j k : ℕ) → j < k → k ≤ length commands → behind (fold_of s (take j commands)) < behind (fold_of s (take k commands))
 
 none_rise : (s : Source) → Rises s []
 none_rise s j k less most = absurd (omega (arith, less, most))
 
--- where it rises, fewer commands leave fewer changes behind
+-- if it rises, the count is least before the commands
 rises_from : (s : Source) (commands : Commands) (k : ℕ) → Rises s commands → k ≤ length commands → behind s ≤ behind (fold_of s (take k commands))
 rises_from s commands zero rises most = omega arith
 rises_from s commands (suc k) rises most = omega (arith, rises zero (suc k) (omega arith) most)
@@ -117,7 +116,7 @@ one_before s c commands more rises zero (suc k) less most =
     omega (arith, more, rises_from (state_after s (step s c.0 c.1)) commands k rises within)
 one_before s c commands more rises (suc j) (suc k) less most = rises j k (omega (arith, less)) (omega (arith, most))
 
--- where it rises, two numbers of commands that leave as many changes behind are equal
+-- if it rises, two numbers of commands that lead to the same count are equal
 one_alone : (s : Source) (commands : Commands) (j k : ℕ) → Rises s commands → j ≤ length commands → k ≤ length commands
     → behind (fold_of s (take j commands)) ≡ behind (fold_of s (take k commands)) → k ≡ j
 one_alone s commands j k rises first second same = elim (cases_lt j k) [
@@ -158,7 +157,7 @@ begun_counts m (c ∷ cs) (a ∷ acks) same =
 begun_counts m [] (a ∷ acks) same = absurd (omega (arith, same))
 begun_counts m (c ∷ cs) [] same = absurd (omega (arith, same))
 
--- there is an answer to each command
+-- every command has an answer
 pub answered_length : (old : DiskState) (is : Condition) (cs : Commands) (acks : Acks) (new : DiskState) → AreAnswered old is cs acks new → length cs ≡ length acks
 answered_length old is [] [] new all = refl
 answered_length old is (c ∷ cs) (a ∷ acks) new all =
@@ -179,7 +178,7 @@ pub accepted_in_doubt : (o : Option model.Refusal) → MatchOption o (IsBeyondMo
 accepted_in_doubt None may = refl
 accepted_in_doubt (Some r) may = absurd (named_otherwise r may)
 
--- the number of changes behind the state rises with each counted command
+-- the count of the state rises with every counted command
 pub counted_rise : (s : Source) (old : DiskState) (cs : Commands) (acks : Acks) (new : DiskState) → AreAnswered old (Holding s) cs acks new
     → Rises s (counted_commands cs acks)
 counted_rise s old [] [] new all = none_rise s
@@ -203,7 +202,7 @@ counted_rise s old (c ∷ cs) (a ∷ acks) new all = after a.reply all.1.reply a
     after (Err refusal) may rest on = on s rest
 counted_rise s old cs acks new all = absurd all
 
--- an image stands for one number of a session's counted commands
+-- an image represents only one number of a session's counted commands
 pub one_number : StandsOnce → (s : Source) (old : DiskState) (cs : Commands) (acks : Acks) (new : DiskState) → AreAnswered old (Holding s) cs acks new → (m : ℕ) (image : List ℕ) (j k : ℕ)
     → j ≤ begun m acks → k ≤ begun m acks → StandsFor image (fold_of s (take j (counted_commands cs acks))) → StandsFor image (fold_of s (take k (counted_commands cs acks))) → k ≡ j
 one_number once s old cs acks new all m image j k most_j most_k stands also =

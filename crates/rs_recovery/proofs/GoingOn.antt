@@ -42,7 +42,7 @@ answers_join is old mid new (c ∷ cs) ds [] late first then = absurd first
 abbrev IsNoDevice : Ack → Type 0
 IsNoDevice a = ¬ IsErrOf a.reply Device
 
--- one answer more, which is not Device
+-- one more answer, which is not Device
 one_more : (s : Source) (c : Command × ℕ) (cs : Commands) (reply : Result Reply Refusal) (call : ℕ) (acks : Acks) → ¬ IsErrOf reply Device
     → ((t : Source) → condition_behind (Holding t) cs acks ≡ Holding (fold_of t (counted_commands cs acks)))
     → condition_behind (condition_after (Holding s) c reply) cs acks ≡ Holding (fold_of s (counted_commands (c ∷ cs) (record { reply = reply; at_call = call } ∷ acks)))
@@ -50,7 +50,7 @@ one_more s c cs (Ok reply) call acks other rest = rest (state_after s (step s c.
 one_more s c cs (Err Device) call acks other rest = absurd (other refl)
 one_more s c cs (Err refusal) call acks other rest = rest s
 
--- where no answer is Device, the counted commands make the state that is left
+-- if no answer is Device, the counted commands make the final state
 open_behind : (s : Source) (cs : Commands) (acks : Acks) → AreNotDevice acks → condition_behind (Holding s) cs acks ≡ Holding (fold_of s (counted_commands cs acks))
 open_behind s [] acks none = refl
 open_behind s (c ∷ cs) [] none = refl

@@ -1,4 +1,4 @@
--- Why a run from a formatting on halted.
+-- The cause of a halt of a run that begins with a formatting.
 use Rattle.std.proofs.Common.{◌≡◌, ◌⊎◌, inl, inr, ℕ, ◌<◌, Bool, true, false, List, refl, arith, Result, Err}
 use Rattle.std.specs.Prelude.{◌↔◌, IsTrue, IsErrAnd}
 use Rattle.std.proofs.lemmas.Bool.{cases_lt}
@@ -29,7 +29,7 @@ module _ {D : Type 0} (base : List ℕ) (limit size : ℕ) (result : Result (Sto
   lawful_base true same other = same
   lawful_base false same other = absurd (other (bad_base.1 same))
 
-  -- a formatting that was not refused for a cause has none of the causes
+  -- if a formatting was not refused for any of the causes, no cause exists
   pub may_format : ¬ IsErrAnd result (λ e. e.1 ≡ BadBase) → ¬ IsErrAnd result (λ e. e.1 ≡ BadLimit) → ¬ IsErrAnd result (λ e. e.1 ≡ TooSmall)
       → MayFormat base limit size
   may_format no_base no_limit no_size =

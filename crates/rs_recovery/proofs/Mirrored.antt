@@ -1,4 +1,4 @@
--- Whoever asks sources of several sessions for both lists mirrors what was held.
+-- A destination that asks sources of several sessions for both lists mirrors resources that were held.
 use Rattle.std.proofs.Common.{◌≡◌, ◌⊎◌, inl, inr, ◌<◌, ◌≤◌, ◌+◌, ◌-◌, ℕ, zero, suc, Bool, true, false, List, [], ◌∷◌, ◌++◌, length, take, drop, map, refl, sym, ◌∙◌, ap, subst, arith, cond, Option, IsTrue, is_some, length-append}
 use Rattle.std.specs.List.{AllByRecursion}
 use Rattle.std.proofs.Math.Seq.{take-append_seam}
@@ -24,7 +24,7 @@ use Rattle.rs_recovery.specs.Mirrored.{AreLawfulSessions, list_head, changes_hea
 use Rattle.rs_recovery.proofs.Below.{Commands, Acks}
 use Rattle.rs_recovery.proofs.Recorded.{tried, tried_behind, split_at, within_next}
 
--- what holds of each of some elements
+-- if all elements have a property, all have every property that follows from it
 all_so : {A : Type 0} (P Q : A → Type 0) → ((x : A) → P x → Q x) → (xs : List A) → AllByRecursion P xs → AllByRecursion Q xs
 all_so P Q so [] all = tt
 all_so P Q so (x ∷ xs) all = (so x all.0, all_so P Q so xs all.1)
@@ -42,7 +42,7 @@ all_first P zero xs all = tt
 all_first P (suc n) [] all = tt
 all_first P (suc n) (x ∷ xs) all = (all.0, all_first P n xs all.1)
 
--- the standing commands are lawful
+-- the surviving commands are lawful
 one_more : (b : Bool) (c : Command × ℕ) (rest : Commands) → IsLawfulTimed c → AllByRecursion IsLawfulTimed rest → AllByRecursion IsLawfulTimed (cond b (c ∷ rest) rest)
 one_more true c rest one all = (one, all)
 one_more false c rest one all = all
@@ -102,7 +102,7 @@ module _ (mirrors : DestinationMirrors) (was_held : MirrorWasHeld) (catalogued :
   abbrev latest : ℕ
   latest = length before + length both.behind_last
 
-  -- what was answered is what the walk answers
+  -- the answers are those of the walk
   answered_alike : (path : List ℕ) → answered_by both.asking path ≡ fetched_at formatted events when path
   answered_alike path =
       let served = stand.served (both.asking path) (both.behind path) (both.served path) in
@@ -113,7 +113,7 @@ module _ (mirrors : DestinationMirrors) (was_held : MirrorWasHeld) (catalogued :
   alike : answered_by both.asking ≡ fetched_at formatted events when
   alike = λ i path. answered_alike path i
 
-  -- an earlier request has no more commands behind it
+  -- an earlier request comes after no more commands
   later_path : (path other : List ℕ) → IsNoLater (both.asking path) (both.asking other) → when path ≤ when other
   later_path path other order =
       let front = stand.ordered (both.asking path) (both.asking other) (both.behind path) (both.behind other) order (both.served path) (both.served other) in
@@ -163,7 +163,7 @@ module _ (mirrors : DestinationMirrors) (was_held : MirrorWasHeld) (catalogued :
         (record { resources = ap gather_resources alike ∙ resources; changes = ap gather_changes alike ∙ moves });
   }
 
-  -- a mirror is what was held after the first j standing commands, and then the first changes of the next one
+  -- a mirror equals the resources held after the first j surviving commands, and then the first changes of the next one
   abbrev IsHeldWith : ℕ → Names Entry → List Change → Type 0
   IsHeldWith j mirror made =
       AreOfNext start (take j whole) both.behind_last made × (mirror ≡ mirror_of (entries (fold_of start (take j whole)).held) start.start made)
@@ -188,7 +188,7 @@ module _ (mirrors : DestinationMirrors) (was_held : MirrorWasHeld) (catalogued :
       let made : List Change = take k (changes_made (fold_of start (take j whole)) at.0) in
       (made, (inr (record { next = at.0; comes = front; count = k; fewer = found.0; first = refl }), is ∙ found.1))
 
-  -- the same of what was held at a point of the walk
+  -- the same for the resources held at a point of the walk
   held_at : (j : ℕ) (mirror : Names Entry) (w : WasHeld formatted events when latest mirror) → w.passed.point ≡ length before + j
       → (made : List Change) × IsHeldWith j mirror made
   held_at j mirror w at =

@@ -23,7 +23,7 @@ may_fail : (o : Option model.Refusal) → o ≡ None → MatchOption o (IsBeyond
 may_fail None is = tt
 may_fail (Some r) is = absurd cc
 
--- within a command each image is of the source before it, or after it if it is accepted
+-- within a command every image is of the source before it, or after it if it is accepted
 within_doubt : (s : Source) (c : Command × ℕ) (reply : Result Reply Refusal) (image : List ℕ)
     → StandsFor image s ⊎ MayStandFor (condition_after (Holding s) c reply) image → MayStandFor (InDoubt s (state_after s (step s c.0 c.1))) image
 within_doubt s c reply image (inl stands) = inl stands
@@ -31,7 +31,7 @@ within_doubt s c (Ok reply) image (inr stands) = inr stands
 within_doubt s c (Err Device) image (inr stands) = stands
 within_doubt s c (Err refusal) image (inr stands) = inl stands
 
--- behind a command each image is one that a doubt allows
+-- after a command every image is one that a doubt allows
 behind_doubt : (s : Source) (c : Command × ℕ) (reply : Result Reply Refusal) (image : List ℕ)
     → MayStandFor (condition_after (Holding s) c reply) image → MayStandFor (InDoubt s (state_after s (step s c.0 c.1))) image
 behind_doubt s c reply image stands = within_doubt s c reply image (inr stands)
@@ -58,7 +58,7 @@ last_missing t c a old last none all =
       started last (λ _. Doubt) (λ image is. exit_images ready last (λ _. Doubt) whole image is),
     )
 
--- the same behind commands that leave the source holding a state
+-- the same after commands that leave the source holding a state
 missing_behind : (is : Condition) (old : DiskState) (cs : Commands) (acks : Acks) (c : Command × ℕ) (a : Ack) (last : DiskState)
     → AreAnswered old is (cs ++ c ∷ []) (acks ++ a ∷ []) last → (t : Source) → condition_behind is cs acks ≡ Holding t → refusal_of t c.0 c.1 ≡ None
     → AreAnswered old is (cs ++ c ∷ []) (acks ++ record { reply = Err Device; at_call = last.calls } ∷ []) last

@@ -1,4 +1,4 @@
--- What an opening gives back.
+-- The result of an opening.
 use Rattle.std.proofs.Common.{◌≡◌, ℕ, List, Some, None, sym, ◌∙◌, subst, Result, Ok, Err}
 use Rattle.std.specs.Prelude.{IsTrue, IfOk, IfErr}
 use Rattle.rs_disk.specs.Medium.{DiskState}

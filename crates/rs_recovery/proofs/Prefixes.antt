@@ -1,4 +1,4 @@
--- Commands that are asked one by one are a run, and a stop leaves what the first of them make.
+-- Commands that are asked one by one are a run, and a stop leaves the state after the first of them.
 use Rattle.std.proofs.Common.{◌≡◌, ◌⊎◌, inl, inr, ⊎_elim, ℕ, ◌+◌, ◌≤◌, Bool, true, false, ◌&&◌, ◌||◌, List, [], ◌∷◌, ◌++◌, length, refl, sym, ◌∙◌, ap, subst, arith, cond, Result, Ok, Err, append_assoc, append-nil}
 use Rattle.std.specs.Prelude.{nat_le}
 use Rattle.std.proofs.lemmas.Bool.{leb-true, le-leb}
@@ -22,7 +22,7 @@ use Rattle.rs_recovery.proofs.Counts.{begun_counts}
 use Rattle.rs_recovery.proofs.Acknowledged.{all_acknowledged, all_by, same_length}
 use Rattle.rs_recovery.proofs.Sessions.{answered_joined}
 
--- what was acknowledged stays so
+-- acknowledged commands stay acknowledged
 later_one : (b : Bool) (call m n : ℕ) → m ≤ n → one (b && nat_le call m) ≤ one (b && nat_le call n)
 later_one false call m n le = omega arith
 later_one true call m n le = elim (nat_le call m) as (λ x. nat_le call m ≡ x → one x ≤ one (nat_le call n)) [
@@ -37,7 +37,7 @@ acknowledged_rises [] m n le = omega arith
 acknowledged_rises (a ∷ acks) m n le =
     omega (arith, later_one (is_accepted a) a.at_call m n le, acknowledged_rises acks m n le)
 
--- one command more, where the rest has begun at most one more than was acknowledged
+-- one more command, if the rest has begun at most one more than was acknowledged
 one_begun : (by accepted doubt : Bool) (rest done : ℕ) → rest ≤ done + 1 → (doubt ≡ true → rest ≡ 0)
     → one (accepted || doubt) + cond by rest 0 ≤ one (accepted && by) + done + 1
 one_begun true true doubt rest done le none = omega (arith, le)
@@ -152,7 +152,7 @@ module _ {D : Type 0} (device : D → DiskState) (below : Below device) where
           record { most = omega (arith, p.most, all); stands = p.stands },
         )
 
-    -- at the end at most one is not acknowledged, and none where the source is open
+    -- at the end at most one command is not acknowledged, and no command if the source is open
     all_done : (j : ℕ) → acknowledged (device new.disk).calls acks ≤ j → j ≤ length (counted_commands cs acks)
         → (length (counted_commands cs acks) ≤ j + 1) × (new.is_closed ≡ false → j ≡ length (counted_commands cs acks))
     all_done j least most =

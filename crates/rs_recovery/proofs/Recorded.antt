@@ -1,4 +1,4 @@
--- What a walk of commands records, and its catalogue between two commands and within one.
+-- The changes that a walk of commands records, and its catalogue between two commands and within one.
 use Rattle.std.proofs.Common.{◌≡◌, ◌<◌, ◌≤◌, ◌+◌, ◌-◌, ℕ, zero, suc, List, [], ◌∷◌, ◌++◌, length, take, drop, map, refl, sym, ◌∙◌, ap, subst, arith, append_assoc, length-append, Option, Some, None}
 use Rattle.std.proofs.Math.Seq.{take-append-add}
 use Rattle.std.proofs.lemmas.List.{take_all, take-append-le}
@@ -30,7 +30,7 @@ tried_walk s commands zero = refl
 tried_walk s [] (suc n) = refl
 tried_walk s (c ∷ commands) (suc n) = tried_walk (state_after s (step s c.0 c.1)) commands n
 
--- the same behind other commands
+-- the same after other commands
 pub tried_behind : (s : Source) (before whole : Commands) (n : ℕ) → state_at s (map tried (before ++ whole)) (length before + n) ≡ fold_of (fold_of s before) (take n whole)
 tried_behind s before whole n =
     tried_walk s (before ++ whole) (length before + n)
@@ -74,7 +74,7 @@ fold_start s (c ∷ commands) =
     fold_start (state_after s (step s c.0 c.1)) commands
     ∙ step_start s (refusal_of s c.0 c.1) (next_state s c.0 t, reply_to s c.0 t) (next_start s c.0 t)
 
--- what commands record, and more after them
+-- the changes that commands record, and those of more commands after them
 recorded-append : (s : Source) (first more : Commands) → recorded s (map tried (first ++ more)) ≡ recorded s (map tried first) ++ recorded (fold_of s first) (map tried more)
 recorded-append s [] more = refl
 recorded-append s (c ∷ first) more =
@@ -87,7 +87,7 @@ mirror_append : (m : Names Entry) (at : ℕ) (first more : List Change) → mirr
 mirror_append m at [] more = refl
 mirror_append m at (c ∷ first) more = mirror_append (mirror_step at c m) at first more
 
--- all of a front, and the first of what is behind it
+-- all of a front, and the first elements after it
 front_and_more : {A : Type 0} (front next rest : List A) (n : ℕ) → length front ≤ n → n < length (front ++ (next ++ []))
     → (n - length front < length next) × (take n (front ++ (next ++ rest)) ≡ front ++ take (n - length front) next)
 front_and_more {A} front next rest n low high =
@@ -97,7 +97,7 @@ front_and_more {A} front next rest n low high =
     let within : k ≤ length next = omega (arith, few) in
     (few, ap (λ m. take m (front ++ (next ++ rest))) is ∙ take-append-add front (next ++ rest) k ∙ ap (λ l. front ++ l) (take-append-le k next rest within))
 
--- Within a command: the catalogue is what was held before it, followed by the first of the changes that it makes.
+-- Within a command the catalogue has the resources held before it, followed by the first of the changes that it makes.
 within : HeldIsCatalogued → (base : List ℕ) (limit moment : ℕ) (first rest : Commands) (c : Command × ℕ) (n : ℕ)
     → let s = start_of base limit moment in
     let k = n - length (recorded s (map tried first)) in
@@ -124,7 +124,7 @@ split_at n [] less = absurd (omega (arith, less))
 split_at zero (x ∷ xs) less = (x, refl, refl)
 split_at (suc n) (x ∷ xs) less = let at = split_at n xs (omega (arith, less)) in (at.0, ap (λ l. x ∷ l) at.1, ap (λ l. x ∷ l) at.2)
 
--- The same at a place of some commands behind others.
+-- The same at a place of some commands after others.
 pub within_next : HeldIsCatalogued → (base : List ℕ) (limit moment : ℕ) (before whole : Commands) (j n : ℕ) (below : j < length whole)
     → let s = start_of base limit moment in
     let start = fold_of s before in

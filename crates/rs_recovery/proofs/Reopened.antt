@@ -18,7 +18,7 @@ use Rattle.rs_recovery.specs.Surviving.{IsRunFrom, IsLost}
 use Rattle.rs_recovery.specs.Reopened.{Disks, Run, run_of, IsRunOn, TwoPrefixes, RanTwice, AreLeftBy, SurvivesTwice, IsOtherThanLeft, IsOtherThanLeftThen}
 use Rattle.rs_recovery.proofs.Below.{Commands, Acks}
 
--- what is an excuse is no loss
+-- an excuse is no loss
 pub not_lost : (before after : DiskState) (fault : OpenFault) → IsExcuse before after fault → IsLost (Opening fault) → ⊥
 not_lost before after openings.NotASource excuse lost = excuse
 not_lost before after openings.Damaged excuse lost = excuse
@@ -87,7 +87,7 @@ module _ {A B C : Type 0} (disks : Disks A B C) (base : List ℕ) (limit moment 
       let is = headline base limit moment [] second (first ∷ []) are_sessions refl honest in
       by_two source is.standing is.left is.state is.yields
 
-  -- where no source was opened on the third disk, the opening did not call it empty or damaged
+  -- if no source was opened on the third disk, the opening did not call it empty or damaged
   pub none_lost : (back : C) (fault : OpenFault) → Headline disks.three third (Err (back, fault)) → IsTrue (disks.three back).honest
       → IsLost (Opening fault) → ⊥
   none_lost back fault headline honest =

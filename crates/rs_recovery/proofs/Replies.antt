@@ -1,4 +1,4 @@
--- What the disk sees of commands that are answered in their turn.
+-- Commands that are answered in their turn, as the disk sees them.
 use Rattle.std.proofs.Common.{◌≡◌, [], ◌∷◌, ◌++◌, refl, ap, ◌∙◌}
 use Rattle.rs_disk.specs.Medium.{DiskState}
 use Rattle.rs_store.specs.Laws.{AreClosed}
@@ -6,7 +6,7 @@ use Rattle.rs_recovery.specs.Below.{Below}
 use Rattle.rs_recovery.specs.Replies.{reply_in, replies_in, TurnsAreSeen}
 use Rattle.rs_recovery.proofs.Below.{Acks}
 
--- a closed source replies nothing
+-- a closed source gives no reply
 closed_is_no_reply : (acks : Acks) → AreClosed acks → replies_in acks ≡ []
 closed_is_no_reply [] all = refl
 closed_is_no_reply (a ∷ acks) all = ap (λ result. reply_in result ++ replies_in acks) all.0 ∙ closed_is_no_reply acks all.1

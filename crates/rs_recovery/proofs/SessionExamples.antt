@@ -43,7 +43,7 @@ use Rattle.rs_recovery.specs.Mirrored.{AreLawfulSessions, list_head, changes_hea
 use Rattle.rs_recovery.proofs.Below.{Commands, Acks}
 use Rattle.rs_recovery.proofs.Missing.{answers_may_be_missing}
 
--- the bytes of a disk before a write of the last two and behind it, and those that a stop in between may leave
+-- the bytes of a disk before a write of the last two and after it, and those that a stop in between may leave
 abbrev old_bytes : List ℕ
 old_bytes = 1 ∷ 2 ∷ 3 ∷ []
 
@@ -53,12 +53,12 @@ new_bytes = 1 ∷ 8 ∷ 9 ∷ []
 abbrev torn_bytes : List ℕ
 torn_bytes = 1 ∷ 7 ∷ 9 ∷ []
 
--- what the disk holds within the write, and within the sync that follows
+-- the content of the disk within the write, and within the sync that follows
 abbrev held_within : ℕ → Medium
 held_within zero = widened (resting old_bytes) 1 2
 held_within (suc m) = written (resting old_bytes) 1 (8 ∷ 9 ∷ [])
 
--- the disk after so many calls, all settled
+-- the disk after this many calls, all settled
 abbrev disk_after : ℕ → List ℕ → DiskState
 disk_after calls bytes = record {
   size = 3;
@@ -70,7 +70,7 @@ disk_after calls bytes = record {
   within = held_within;
 }
 
--- The write settles nothing. So until the sync has ended, any bytes may stand where it goes.
+-- The write settles no bytes. So until the sync has ended, the place of the write may have any bytes.
 beside_write : (i : ℕ) → i < 3 → get_or (marked (replicate 3 false) 1 2) i false ≡ false
     → get_or torn_bytes i 0 ≡ get_or old_bytes i 0
 beside_write zero lt off = refl
@@ -82,7 +82,7 @@ pub is_image : (m : ℕ) → IsImage (held_within m) torn_bytes
 is_image zero = record { size = refl; same = beside_write }
 is_image (suc m) = record { size = refl; same = beside_write }
 
--- A stop comes within the write or within the sync, or at the end, where it leaves what a read gives.
+-- A stop comes within the write or within the sync, or at the end, where it leaves the bytes that a read gives.
 pub are_stops :
     IsStop (disk_after 0 old_bytes) (disk_after 2 new_bytes) 0 torn_bytes
     × IsStop (disk_after 0 old_bytes) (disk_after 2 new_bytes) 1 torn_bytes
@@ -145,8 +145,7 @@ second f g image = record { first = f; commands = second_commands; acks = second
 abbrev two : (d e f g : DiskState) (image other : List ℕ) → List Session
 two d e f g image other = second f g other ∷ first d e image ∷ []
 
--- They are sessions, where the disks saw the commands answered, and the first stop left the image of a source without
--- `c`.
+-- They are sessions if the disks saw the commands answered, and the first stop left the image of a source without `c`.
 pub are_sessions : (d e f g : DiskState) (image other : List ℕ) (a : Ack)
     → AreAnswered d (Holding start) (first_commands ++ put (codes "c") ∷ []) (first_acks ++ a ∷ []) e → IsStop d e 27 image
     → StandsFor image published → AreAnswered f (Holding published) second_commands second_acks g → IsStop f g 38 other
@@ -158,7 +157,7 @@ are_sessions d e f g image other a one is_stop left then is_later = (
   answers_may_be_missing d start published first_commands first_acks (put (codes "c")) a e 27 image one refl refl is_stop,
 )
 
--- A disk that holds what the first stop left, all of it settled, is as the first session left it.
+-- A disk with the bytes that the first stop left, all of them settled, is as the first session left it.
 pub is_left : (d e disk : DiskState) (image : List ℕ) → IsStop d e 27 image → disk.now ≡ resting image → IsLeftBy (first d e image) disk
 is_left d e disk image is_stop now = record {
   images = λ other is.
@@ -179,11 +178,11 @@ item_is_lawful = refl
 pub group_is_lawful : IsLawfulCommand (Group (single.Put (codes "a") (codes "text/plain") [] ∷ single.Delete (codes "b") ∷ []))
 group_is_lawful = ((refl, refl), (item_is_lawful, tt))
 
--- Of each session two commands survive.
+-- Two commands of each session survive.
 abbrev standing : List ℕ
 standing = 2 ∷ 2 ∷ []
 
--- The source could be asked behind the two answers of each session.
+-- The source could be asked after the two answers of each session.
 pub could_serve_first : (d e : DiskState) (image : List ℕ) → CouldServe start (first d e image) 2 published
 could_serve_first d e image = record { before = (omega arith, (omega arith, tt)); held = refl }
 
@@ -205,7 +204,7 @@ served_in : (d e f g : DiskState) (image other : List ℕ) (is_first : Bool) →
 served_in d e f g image other true = inr (inl (record { after = refl; could = could_serve_first d e image; behind = refl }))
 served_in d e f g image other false = inl (served_second d e f g image other)
 
--- The Resource List is asked for in the first session, all else in the second.
+-- The Resource List is asked for in the first session, everything else in the second.
 abbrev asking : List ℕ → Asking
 asking path = asking_in (same_bytes path list_head)
 
@@ -237,7 +236,7 @@ between path from until = record { path = path; start = from; until = until }
 abbrev index : Document
 index = ChangeListIndex 0 None (between (codes "/changelist/0.xml") 0 (Some 3) ∷ between (codes "/changelist/1.xml") 3 None ∷ [])
 
--- the documents that the destination gets, and what it gathers
+-- the documents that the destination gets, and the data that it gathers
 pub documents :
     ((answered_by asking list_head >>= reads) ≡ Some (ResourceList 2 listed))
     × ((answered_by asking changes_head >>= reads) ≡ Some index)
@@ -278,7 +277,7 @@ asks_both = record {
       omega (arith, at, from);
 }
 
--- The mirror is what the source held after the commands of both sessions.
+-- The mirror equals the resources that the source held after the commands of both sessions.
 pub is_mirrored : (d e f g : DiskState) (image other : List ℕ)
     → IsMirrored start (two d e f g image other) standing (both d e f g image other)
 unfolding both
@@ -292,7 +291,7 @@ is_mirrored d e f g image other = record {
   mirrored = refl;
 }
 
--- the first change of a group that comes behind the first session
+-- the first change of a group that comes after the first session
 abbrev then_group : Command × ℕ
 then_group = (Group (single.Put (codes "c") (codes "text/plain") [] ∷ single.Delete (codes "a") ∷ []), 0)
 

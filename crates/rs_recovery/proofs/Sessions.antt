@@ -59,7 +59,7 @@ first_of_more test (suc n) (suc m) (c ∷ cs) (a ∷ acks) le =
       | false ↦ more
     ]
 
--- those of the first n that were accepted were acknowledged, where all were answered by then
+-- of the first n commands, the accepted ones were acknowledged if all were answered by then
 pub few_answered : (m n : ℕ) (cs : Commands) (acks : Acks) → AllByRecursion (λ a. a.at_call ≤ m) (take n acks) → length (answered is_accepted (take n cs) (take n acks)) ≤ acknowledged m acks
 few_answered m zero cs acks all = omega arith
 few_answered m (suc n) [] acks all = omega arith
@@ -73,14 +73,14 @@ few_answered m (suc n) (c ∷ cs) (a ∷ acks) all =
       | false ↦ λ e. omega (arith, e, more)
     ] here
 
--- what stands behind a prefix of a front stands behind a prefix of the whole
+-- a prefix stays a prefix if more commands follow the whole
 prefix_on : (front whole more : Commands) → IsPrefixOf front whole → IsPrefixOf front (whole ++ more)
 prefix_on front whole more (rest, is) = (rest ++ more, sym (append_assoc front rest more) ∙ ap (λ (l : Commands). l ++ more) is)
 
 prefix_under : (base front whole : Commands) → IsPrefixOf front whole → IsPrefixOf (base ++ front) (base ++ whole)
 prefix_under base front whole (rest, is) = (rest, append_assoc base front rest ∙ ap (λ (l : Commands). base ++ l) is)
 
--- the answers to commands, and to more behind them
+-- the answers to commands, and to more commands after them
 pub answered_joined : (test : Ack → Bool) (cs more : Commands) (acks late : Acks) → length cs ≡ length acks
     → answered test (cs ++ more) (acks ++ late) ≡ answered test cs acks ++ answered test more late
 answered_joined test [] more [] late same = refl
@@ -98,7 +98,7 @@ acknowledged_more : (m : ℕ) (acks late : Acks) → acknowledged m acks ≤ ack
 acknowledged_more m [] late = omega arith
 acknowledged_more m (a ∷ acks) late = omega (arith, acknowledged_more m acks late)
 
--- a session's commands with answers, beside all its commands
+-- the answered commands of a session have as many answers, if all its commands do
 with_answers : (commands : Commands) (acks : Acks) (o : Option (Command × ℕ)) (n : ℕ) → length (all_asked commands o) ≡ length (all_ended acks o n) → length commands ≡ length acks
 with_answers commands acks None n same = same
 with_answers commands acks (Some c) n same =
@@ -118,7 +118,7 @@ answered_first test commands acks (Some c) n same =
 prefix_in : (front mid whole : Commands) → IsPrefixOf front mid → IsPrefixOf mid whole → IsPrefixOf front whole
 prefix_in front mid whole (rest, is) more = subst (λ (l : Commands). IsPrefixOf front l) more.1 (subst (λ (l : Commands). IsPrefixOf front (l ++ more.0)) is (rest ++ more.0, sym (append_assoc front rest more.0)))
 
--- where the answers leave a source that holds a state, none of them leaves a doubt, and the accepted commands make the state
+-- if the answers leave a source that holds a state, no answer leaves a doubt, and the accepted commands make the state
 held_is_made : (s : Source) (cs : Commands) (acks : Acks) (t : Source) → condition_behind (Holding s) cs acks ≡ Holding t
     → (answered is_in_doubt cs acks ≡ []) × (t ≡ fold_of s (answered is_accepted cs acks))
 held_is_made s [] acks t is = (refl, sym (held_is s t is))
@@ -137,7 +137,7 @@ session_lengths : (s : Source) (x : Session) → IsSessionFrom s x → length x.
 session_lengths s x is =
     with_answers x.commands x.acks x.unanswered x.last.calls (answered_length x.first (Holding s) (asked x) (ended x) x.last is.answered)
 
--- what a session could serve
+-- the state that a session could serve is that of its commands, the first surviving ones
 serves : (start : Source) (before : Commands) (x : Session) (j n : ℕ) (t : Source) → length x.commands ≡ length x.acks → acknowledged x.stop (ended x) ≤ j → CouldServe (fold_of start before) x n t
     → (t ≡ fold_of start (before ++ counted_commands (take n x.commands) (take n x.acks)))
     × IsPrefixOf (before ++ counted_commands (take n x.commands) (take n x.acks)) (before ++ take j (counted x))
@@ -158,7 +158,7 @@ serves start before x j n t same least could =
       prefix_under before (counted_commands cs acks) (take j (counted x)) (subst (λ (l : Commands). IsPrefixOf l (take j (counted x))) (sym these) front),
     )
 
--- what a session could serve, and then later
+-- the commands of a session at one answer are the first of those at a later one
 serves_on : (s : Source) (x : Session) (n m : ℕ) (t : Source) → n ≤ m → CouldServe s x n t
     → IsPrefixOf (counted_commands (take n x.commands) (take n x.acks)) (counted_commands (take m x.commands) (take m x.acks))
 serves_on s x n m t le could =
@@ -170,7 +170,7 @@ serves_on s x n m t le could =
     (first_of_more is_accepted n m x.commands x.acks le) in
     subst (λ (l : Commands). IsPrefixOf l (counted_commands (take m x.commands) (take m x.acks))) (sym these) front
 
--- what was served was served in one session
+-- a served source was asked in one of the sessions
 served_in : (start : Source) (sessions : List Session) (standing : List ℕ) (asking : Asking) (commands : Commands) → HasServed start sessions standing asking commands → asking.sessions < length sessions
 served_in start [] standing asking commands has = absurd has
 served_in start (x ∷ past) [] asking commands has = absurd has
@@ -226,11 +226,11 @@ module _ (once : StandsOnce) where
       subst (λ (t : Source). IsSessionFrom t x) (once y.image s made stands (image_left start y past standing left)) is
 
   module _ (leave : AnswersLeavePrefixes) where
-    -- what a stop of a session leaves
+    -- the state that a stop of a session leaves
     stopped_at : (s : Source) (x : Session) → IsSessionFrom s x → StandsForPrefix s (asked x) (ended x) x.stop x.image
     stopped_at s x is = (leave s x.first (asked x) (ended x) x.last is.answered).each x.stop x.image is.stopped.from is.stopped.to is.stopped.left
 
-    -- one session more
+    -- one more session
     one_more : (start : Source) (x : Session) (past : List Session) (standing : List ℕ)
         → IsSessionFrom (fold_of start (commands_left past standing)) x
         → AreLeft start past standing → AreServed start past standing → AreOrdered start past standing
@@ -260,7 +260,7 @@ module _ (once : StandsOnce) where
         let stand = past_stand.1 in
         one_more start x (y ∷ past) past_stand.0 (begins_at start are.0 x y past past_stand.0 stand.holds are.1 are.2) stand.holds stand.served stand.ordered
 
-  -- two numbers of surviving commands of the latest session, where those of the sessions before are the same
+  -- two numbers of surviving commands of the latest session, if those of the sessions before are the same
   same_latest : (start : Source) (x : Session) (past : List Session) (standing : List ℕ) (j k : ℕ)
       → IsSessionFrom (fold_of start (commands_left past standing)) x
       → AreLeft start (x ∷ past) (j ∷ standing) → AreLeft start (x ∷ past) (k ∷ standing) → k ≡ j
@@ -296,6 +296,6 @@ openings_stop_too start x past before after are as_left opening =
     again [] are at = stopped_with start are at
     again (y ∷ past) are at = (are.0, are.1, stopped_with are.0 are.2 at, are.3)
 
--- what a regular state yields
+-- a regular state yields its held resources
 pub yields_held : (t : Source) → IsRegular t → YieldsHeld t
 yields_held t regular = record { mirrored = regular.mirrored; facts = regular.sound }

@@ -1,4 +1,4 @@
--- What joins a run of commands.
+-- The requests that join into a run of commands.
 use Rattle.std.proofs.Common.{◌≡◌, inl, inr, ℕ, Bool, true, List, sym, ◌∙◌, ap, subst, cond, Some, None}
 use Rattle.std.specs.Prelude.{replicate}
 use Rattle.std.proofs.lemmas.List.{length-replicate}
@@ -21,7 +21,7 @@ use Rattle.rs_store.specs.Laws.{HeldStands}
 use Rattle.rs_recovery.proofs.Below.{weaker}
 use Rattle.rs_recovery.specs.Turns.{ReadingsIdle, CutPutsIdle}
 
--- a source that was only read holds what it held
+-- a source that was only read still holds its state
 pub holds_on : {D : Type 0} (device : D → DiskState) (old new : Stored D) → OnlyReads device old new → (s : Source) → Holds device old s → Holds device new s
 holds_on device old new reads s holds = record {
   is_open = reads.is_closed ∙ holds.is_open;

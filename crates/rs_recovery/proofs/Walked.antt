@@ -1,4 +1,4 @@
--- What a command leaves of a source, as a walk.
+-- The effect of a command on a source, as a walk.
 use Rattle.std.proofs.Common.{◌≡◌, ◌⊎◌, inl, inr, ⊎_elim, true≢false, ℕ, Bool, true, false, List, [], ◌∷◌, ◌++◌, refl, sym, ◌∙◌, ap, subst, cond, Option, Some, None, Result, Ok, Err}
 use Rattle.rs_disk.specs.Medium.{DiskState, IsMedium}
 use Rattle.rs_recovery.proofs.FromBelow.{exit_images}
@@ -62,14 +62,14 @@ walked device stands s M new events are holds = record {
 
 module _ {D : Type 0} (device : D → DiskState) (sound : (disk : D) → IsMedium (device disk).size (device disk).now) (stands : HeldStands device) where
   module _ (old new : Stored D) (s : Source) (command : Command) (now : ℕ) (holds : Holds device old s) where
-    -- what the model refuses an open source refuses
+    -- an open source refuses every command that the model refuses
     decides_so : (reason : model.Refusal) → refusal_of s command now ≡ Some reason → decided old (state_of device old) command now ≡ Some (named_as reason)
     decides_so reason is =
         ap (λ (t : Source). decided old t command now) (told device sound old s holds)
         ∙ ap (λ (b : Bool). cond b (Some Closed) (or_spent (refusal_of s command now) (is_spent old))) holds.is_open
         ∙ ap (λ (found : Option model.Refusal). or_spent found (is_spent old)) is
 
-    -- and its step changes nothing
+    -- and its step does not change the state
     no_step : (reason : model.Refusal) → refusal_of s command now ≡ Some reason → s ≡ state_after s (step s command now)
     no_step reason is =
         let t = moment_at s now in

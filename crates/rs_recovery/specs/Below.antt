@@ -1,4 +1,4 @@
--- The laws of the crates below that runs rest on.
+-- The laws of the crates below on which runs rest.
 use Rattle.rs_disk.specs.Medium.{DiskState}
 use Rattle.rs_image.specs.Laws.{StandsOnce}
 use Rattle.rs_store.specs.Laws.{ClosedStays, DeviceCloses, ClosedCountNone, RunsAreAnswered, RunsLeavePrefixes, OpenHoldsAll}

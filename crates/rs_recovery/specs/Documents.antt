@@ -10,7 +10,7 @@ use Rattle.rs_store.specs.Views.{shown_in}
 use Rattle.rs_caps.specs.DocumentTexts.{document_text}
 use Rattle.rs_caps.specs.Shows.{shown_of}
 
--- Each document that the lists of a source show is the document of the state in these lists, whatever the disk holds.
+-- Every document that the lists of a source show is the document of the state in these lists, whatever the disk holds.
 abbrev pub DocumentsAreOfTheState : Type 0
 DocumentsAreOfTheState = (image : List ℕ) (c : Contents) (doc : Doc) → document_text (shown_in c) doc ≡ document_text (shown_of (state_in image c)) doc
 

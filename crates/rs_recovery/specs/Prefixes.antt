@@ -1,4 +1,4 @@
--- What a stop leaves of commands that a source gets one by one, as from a script or from requests.
+-- The effect of a stop on commands that a source gets one by one, as from a script or from requests.
 use Rattle.std.specs.Prelude.{◌≡◌, ℕ, ◌+◌, ◌≤◌, false, List, [], ◌∷◌, ◌++◌, length, take, Result, Ok, Err}
 use Rattle.std.specs.List.{AllByRecursion}
 use Rattle.rs_disk.specs.Medium.{DiskState, IsImage}
@@ -16,7 +16,7 @@ use Rattle.rs_store.specs.Answered.{Answers}
 use Rattle.rs_store.specs.Counted.{counted_commands, acknowledged}
 use Rattle.rs_store.specs.Runs.{IsIdle, InTurn, Holding, AreAnswered}
 
--- A command counts where it was accepted, and where the device failed in it, since its step may stand then.
+-- A command counts if it was accepted, and if the device failed in it, since its step may have been applied then.
 abbrev pub counted_as : Command → ℕ → Result Reply Refusal → List (Command × ℕ)
 counted_as command now (Ok reply) = (command, now) ∷ []
 counted_as command now (Err Device) = (command, now) ∷ []
@@ -29,22 +29,23 @@ pub record IsRunOf {D : Type 0} (device : D → DiskState) (old : Stored D) (com
   pub turn : InTurn device old asked acks new
   pub count : counted_commands asked acks ≡ commands
 
--- an image stands for what the first j of these commands make of a state
+-- an image represents the state after the first j of these commands
 pub record StandsForFirst (s : Source) (commands : List (Command × ℕ)) (j : ℕ) (image : List ℕ) : Type 0 where
   pub most : j ≤ length commands
   pub stands : StandsFor image (fold_of s (take j commands))
 
--- What commands leave of a source that held a state, whenever a stop comes.
--- `asked`, `acks`: all commands that it got, those that it refused too, and their answers.
+-- The effect of commands on a source that held a state, whenever a stop comes.
+-- `asked`, `acks`: all commands that it got, also the refused ones, and their answers.
 -- `answered`: its disk saw them answered in their order, so they are commands of a session.
 -- `count`: these of them count.
--- `by_exit`: each answer came before the end.
--- `each`: an image of a crash after m calls stands for what the commands make that were acknowledged by then, or for one
--- more, which had begun.
--- `rises`: what was acknowledged stays so. So a later image stands for at most one command fewer than an earlier one.
--- `holds`: a source that is open at the end holds what all of them make.
--- `at_exit`: each image at the end stands for all of them. The last one may be missing where the source is closed,
--- since the device failed in it.
+-- `by_exit`: all answers came before the end.
+-- `each`: an image of a crash after m calls represents the state after the commands that were acknowledged by then, or
+-- after one more, which had begun.
+-- `rises`: acknowledged commands stay acknowledged. So a later image represents at most one command fewer than an
+-- earlier one.
+-- `holds`: a source that is open at the end holds the state after all of them.
+-- `at_exit`: every image at the end represents the state after all of them. The last command may be missing if the
+-- source is closed, since the device failed in it.
 pub record LeavesPrefixes {D : Type 0} (device : D → DiskState) (old : Stored D) (s : Source) (commands : List (Command × ℕ)) (new : Stored D) : Type 0 where
   pub asked : List (Command × ℕ)
   pub acks : List Ack
@@ -58,11 +59,11 @@ pub record LeavesPrefixes {D : Type 0} (device : D → DiskState) (old : Stored 
   pub at_exit : (image : List ℕ) → IsImage (device new.disk).now image
       → (j : ℕ) × (length commands ≤ j + 1) × (new.is_closed ≡ false → j ≡ length commands) × StandsForFirst s commands j image
 
--- Where the source held a state before these commands, a stop leaves what the first of them make.
+-- If the source held a state before these commands, a stop leaves the state after the first of them.
 abbrev pub Recovers : {D : Type 0} → (D → DiskState) → Stored D → List (Command × ℕ) → Stored D → Type 0
 Recovers device old commands new = (s : Source) → Holds device old s → LeavesPrefixes device old s commands new
 
--- A stop of any run leaves what the first commands that count make.
+-- A stop of any run leaves the state after the first counted commands.
 abbrev pub RunsRecover : {D : Type 0} → (D → DiskState) → Type 0
 RunsRecover {D} device = (old new : Stored D) (commands : List (Command × ℕ)) → IsRunOf device old commands new → Recovers device old commands new
 
@@ -75,7 +76,7 @@ abbrev pub CommandIsRun : {D : Type 0} → (D → DiskState) → Type 0
 CommandIsRun {D} device = (old new : Stored D) (command : Command) (now : ℕ) (reply : Result Reply Refusal)
     → Answers device old new command now reply → IsRunOf device old (counted_as command now reply) new
 
--- One run and then another are a run.
+-- Two runs, one after the other, are one run.
 abbrev pub RunsJoin : {D : Type 0} → (D → DiskState) → Type 0
 RunsJoin {D} device = (old mid new : Stored D) (first then : List (Command × ℕ))
     → IsRunOf device old first mid → IsRunOf device mid then new → IsRunOf device old (first ++ then) new

@@ -1,4 +1,4 @@
--- What a source is after two stops, where its disk is opened anew after each, as one of another type.
+-- A source after two stops, if its disk is reopened after each, as a disk of another type.
 use Rattle.std.specs.Prelude.{◌≡◌, ◌⊎◌, ℕ, ◌≤◌, List, ◌++◌, take, IsTrue, Option, Some}
 use Rattle.rs_disk.specs.Medium.{DiskState}
 use Rattle.rs_model.specs.State.{Source}
@@ -14,8 +14,8 @@ use Rattle.rs_recovery.specs.Recovered.{YieldsHeld}
 use Rattle.rs_recovery.specs.declared.surviving.Halt.{Halt}
 use Rattle.rs_recovery.specs.Surviving.{IsRunFrom, IsLost}
 
--- Three disks, one after another, of three types: the state of each, which second disk is given for the one that the
--- first run left, and which third disk for the one that the second run left.
+-- Three disks, one after another, of three types: the state of each, which second disk is given for the disk that the
+-- first run left, and which third disk for the disk that the second run left.
 pub record Disks (A B C : Type 0) : Type 1 where
   pub one : A → DiskState
   pub two : B → DiskState
@@ -36,14 +36,14 @@ pub record Run : Type 0 where
 abbrev pub run_of : List (Command × ℕ) → List Ack → Run
 run_of commands acks = record { commands = commands; acks = acks }
 
--- The source on a disk of these bytes was opened, which left the disk `opened`. Its disk saw these commands answered from
--- then on, from a state that the bytes stand for, if the device had followed the model.
+-- The source on a disk of these bytes was opened, which left the disk `opened`. If the device had followed the model,
+-- its disk saw these commands answered from then on, from a state that the bytes represent.
 abbrev pub IsRunOn : List ℕ → DiskState → Run → DiskState → Type 0
 IsRunOn bytes opened run left =
     IsTrue opened.honest → (s : Source) × StandsFor bytes s × AreAnswered opened (Holding s) run.commands run.acks left
 
--- These are the first of the counted commands of two runs. The first run stopped at m counted calls, the second at n.
--- Of each run no command that was acknowledged by then is missing, and none is there that had not begun.
+-- These are the first counted commands of two runs. The first run stopped at m counted calls, the second at n. Of each
+-- run they include every command that was acknowledged by then, and no command that had not begun.
 pub record TwoPrefixes (earlier later : Run) (m n : ℕ) (these : List (Command × ℕ)) : Type 0 where
   pub j : ℕ
   pub least : acknowledged m earlier.acks ≤ j
@@ -62,17 +62,17 @@ pub record RanTwice {A B C : Type 0} (disks : Disks A B C) (start : Source) (ear
   pub opened : DiskState
   pub run_on : IsRunOn (disks.two second).now.seen opened later (disks.two left)
 
--- The bytes of the second disk are an image that a stop of the first run may have left at m counted calls, and those of
--- the third disk one that a stop of the second run may have left at n. The second disk had followed the model when it
--- had been opened.
+-- The second disk has the bytes of an image that a stop of the first run may have left at m counted calls, and the
+-- third disk those of an image that a stop of the second run may have left at n. The second disk had followed the model
+-- when it had been opened.
 pub record AreLeftBy {A B C : Type 0} {disks : Disks A B C} {start : Source} {earlier later : Run} {left : B}
     (ran : RanTwice disks start earlier later left) (third : C) (m n : ℕ) : Type 0 where
   pub stop : IsStop ran.run.0 (disks.one ran.left_first) m (disks.two ran.second).now.seen
   pub honest : IsTrue ran.opened.honest
   pub stop_then : IsStop ran.opened (disks.two left) n (disks.three third).now.seen
 
--- Whatever the two stops, the source that was opened on the third disk holds the state that the first commands of both
--- runs make. What was published, followed by the changes after it, yields what is held.
+-- Whatever the two stops, the source that was opened on the third disk holds the state after the first commands of both
+-- runs. The publication, followed by the changes after it, yields the held resources.
 pub record SurvivesTwice {A B C : Type 0} (disks : Disks A B C) (start : Source) (earlier later : Run) (source : Stored C) : Type 0 where
   pub left : B
   pub ran : RanTwice disks start earlier later left
@@ -93,7 +93,7 @@ pub record IsOtherThanLeft {A B C : Type 0} (disks : Disks A B C) (start : Sourc
   pub back : B
   pub other : (m : ℕ) → IsStop run.0 (disks.one left) m (disks.two second).now.seen → ¬ IsTrue (disks.two back).honest
 
--- The same of the third disk, after both runs.
+-- The same for the third disk, after both runs.
 pub record IsOtherThanLeftThen {A B C : Type 0} (disks : Disks A B C) (start : Source) (commands more : List (Command × ℕ)) : Type 0 where
   pub left : B
   pub acks : List Ack
@@ -104,7 +104,7 @@ pub record IsOtherThanLeftThen {A B C : Type 0} (disks : Disks A B C) (start : S
   pub back : C
   pub other : (m n : ℕ) → AreLeftBy ran third m n → ¬ IsTrue (disks.three back).honest
 
--- Where an opening calls a disk empty or damaged, that disk is not one that a stop has left.
+-- If an opening calls a disk empty or damaged, no stop has left that disk.
 abbrev pub LosesNone : {A B C : Type 0} → Disks A B C → Source → List (Command × ℕ) → List (Command × ℕ) → Halt → Type 0
 LosesNone disks start commands more halt =
     IsLost halt → IsOtherThanLeft disks start commands ⊎ IsOtherThanLeftThen disks start commands more

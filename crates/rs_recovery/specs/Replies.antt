@@ -1,4 +1,4 @@
--- What a source answered, as its disk saw it.
+-- The answers of a source, as its disk saw them.
 use Rattle.std.specs.Prelude.{◌≡◌, ℕ, true, false, List, [], ◌∷◌, flat_map, Option, None, Some, Result, Ok, Err}
 use Rattle.rs_disk.specs.Medium.{DiskState}
 use Rattle.rs_disk.specs.Runs.{Rests}
@@ -18,17 +18,17 @@ pub record AnsweredCommand : Type 0 where
   pub asked : Command × ℕ
   pub ack : Ack
 
--- the command, where there is one
+-- the command, if there is one
 abbrev pub command_of : Option AnsweredCommand → List (Command × ℕ)
 command_of None = []
 command_of (Some answered) = answered.asked ∷ []
 
--- the answer to it, where there is one
+-- the answer to it, if there is one
 abbrev pub ack_of : Option AnsweredCommand → List Ack
 ack_of None = []
 ack_of (Some answered) = answered.ack ∷ []
 
--- the reply in an answer, where the command was accepted
+-- the reply in an answer, if the command was accepted
 abbrev pub reply_in : Result Reply Refusal → List Reply
 reply_in (Ok reply) = reply ∷ []
 reply_in (Err refusal) = []
@@ -37,11 +37,11 @@ reply_in (Err refusal) = []
 abbrev pub replies_in : List Ack → List Reply
 replies_in acks = flat_map (λ a. reply_in a.reply) acks
 
--- What a source did, where it answered these commands in their turn.
--- `answered`: where it held a state, its disk saw them answered in their order, from that state on.
--- `holds`, `sound`: if it is open at the end, it holds the state after those that count, and answered Device to none. So what comes
--- next begins with that state.
--- `closed`: where it was closed, it accepts none and stays closed, and only the counts of the disk change.
+-- The effect on a source of answering these commands in their turn.
+-- `answered`: if it held a state, its disk saw them answered in their order, from that state on.
+-- `holds`, `sound`: if it is open at the end, it holds the state after the counted commands, and no answer was Device.
+-- So the next commands begin with that state.
+-- `closed`: if it was closed, it accepts no command and stays closed, and only the counts of the disk change.
 pub record HasAnswered {D : Type 0} (device : D → DiskState) (old : Stored D) (commands : List (Command × ℕ)) (acks : List Ack) (new : Stored D) : Type 0 where
   pub answered : (s : Source) → Holds device old s → AreAnswered (device old.disk) (Holding s) commands acks (device new.disk)
   pub holds : (s : Source) → Holds device old s → new.is_closed ≡ false → Holds device new (fold_of s (counted_commands commands acks))

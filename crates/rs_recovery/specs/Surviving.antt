@@ -1,4 +1,4 @@
--- What a source on a memory disk is after a stop.
+-- A source on a memory disk after a stop.
 use Rattle.std.specs.Prelude.{◌≡◌, ℕ, ◌<◌, ◌≤◌, false, IsTrue, List, length, take}
 use Rattle.rs_record.specs.Base.{is_base}
 use Rattle.rs_directory.specs.Limit.{IsLimit}
@@ -25,8 +25,8 @@ use Rattle.rs_recovery.specs.Recovered.{YieldsHeld}
 abbrev pub IsRunFrom : Source → List (Command × ℕ) → List Ack → DiskState → Type 0
 IsRunFrom start commands acks left = (first : DiskState) × AreAnswered first (Holding start) commands acks left
 
--- The run left this disk. Its image by this choice stands for the state after the first j counted commands, for some j.
--- The source holds that state, and each accepted command is among these.
+-- The run left this disk. Its image by this choice represents the state after the first j counted commands, for some j.
+-- The source holds that state, and these commands include every accepted one.
 pub record Survives (start : Source) (commands : List (Command × ℕ)) (acks : List Ack) (left : MemoryDisk) (choice : List ℕ) (source : Stored MemoryDisk) : Type 0 where
   pub run : IsRunFrom start commands acks (memory_state left)
   pub j : ℕ
@@ -51,8 +51,8 @@ pub record MayFormat (base : List ℕ) (limit size : ℕ) : Type 0 where
   pub among : IsLimit limit
   pub room : 16 ≤ blocks_of_disk size
 
--- Why it halted: the first cause that refuses the formatting; or without such a cause, a failed device or refused
--- memory in the named step.
+-- The cause of a halt: the first cause that refuses the formatting; or without that, a failed device or refused memory
+-- in the named step.
 abbrev pub HasHalted : List ℕ → ℕ → ℕ → Halt → Type 0
 HasHalted base limit size (Formatting formattings.BadBase) = is_base base ≡ false
 HasHalted base limit size (Formatting formattings.BadLimit) = IsTrue (is_base base) × (¬ IsLimit limit)

@@ -1,4 +1,4 @@
--- What joins a run of commands.
+-- The requests that join into a run of commands.
 use Rattle.std.specs.Prelude.{◌≡◌, ◌⊎◌, ◌<◌, ◌≤◌, ℕ, List, [], ◌∷◌, length, Result, Ok, Err}
 use Rattle.rs_disk.specs.Medium.{DiskState}
 use Rattle.rs_disk.specs.Leaves.{Leaves}
@@ -25,12 +25,13 @@ abbrev pub CommandsAreTurns : {D : Type 0} → (D → DiskState) → Type 0
 CommandsAreTurns {D} device = (old new : Stored D) (command : Command) (now : ℕ) (reply : Result Reply Refusal)
     → Answers device old new command now reply → IsOneTurn device old command now reply new
 
--- A source that only reads, as for a body or for the damaged ones, idles, whatever it answers.
+-- A source that only reads, as for a body or for the list of damaged bodies, idles, whatever it answers.
 abbrev pub ReadingsIdle : {D : Type 0} → (D → DiskState) → Type 0
 ReadingsIdle {D} device = (old new : Stored D) → OnlyReads device old new → IsIdle device old new
 
--- A put is one command, of the bytes that came, where it is accepted. It is none where the reader failed or ended within the body. With
--- any other refusal the missing bytes do not matter: whatever body begins with those that came, its put was refused so.
+-- An accepted put is one command, of the bytes that came. A put is no command if the reader failed or ended within the
+-- body. With any other refusal the missing bytes do not matter: for every body that begins with the bytes that came,
+-- the put gets this refusal.
 abbrev pub IsPutTurn : {D : Type 0} → (D → DiskState) → Stored D → ComingPut → List ℕ → Result Reply Refusal → Stored D → Type 0
 IsPutTurn device old put came (Ok reply) new =
     (length came ≡ put.size) × IsOneTurn device old (Put put.name put.kind came) put.now (Ok reply) new
@@ -39,7 +40,8 @@ IsPutTurn device old put came (Err ShortBody) new = InTurn device old [] [] new
 IsPutTurn device old put came (Err refusal) new = (length came ≤ put.size)
     × ((body : List ℕ) → IsBodyOf put.size came body → IsOneTurn device old (Put put.name put.kind body) put.now (Err refusal) new)
 
--- A put of which these bytes came, as a turn. `cut`: where its body did not come whole, it is not done, whatever the answer.
+-- A put of which these bytes came, as a turn. `cut`: if its body did not come whole, it is not done, whatever the
+-- answer.
 pub record ComesInTurn {D : Type 0} (device : D → DiskState) (old : Stored D) (put : ComingPut) (came : List ℕ) (result : Result Reply Refusal) (new : Stored D) : Type 0 where
   pub turn : IsPutTurn device old put came result new
   pub cut : length came < put.size → (s : Source) → Holds device old s → Leaves (device old.disk) (device new.disk) (λ _ image. StandsFor image s)
@@ -49,7 +51,7 @@ abbrev pub PutsComeInTurn : {D : Type 0} → (D → DiskState) → Type 0
 PutsComeInTurn {D} device = (old new : Stored D) (name kind : List ℕ) (n now : ℕ) (came : List ℕ) (result : Result Reply Refusal)
     → AnswersFrom device old new (coming_put name kind n now) came result → ComesInTurn device old (coming_put name kind n now) came result new
 
--- A source idles where the body of a put does not come whole: the reader fails, or its input ends.
+-- A source idles if the body of a put does not come whole: the reader fails, or its input ends.
 abbrev pub CutPutsIdle : {D : Type 0} → (D → DiskState) → Type 0
 CutPutsIdle {D} device = (old new : Stored D) (name kind : List ℕ) (n now : ℕ) (came : List ℕ)
     → AnswersFrom device old new (coming_put name kind n now) came (Err ReadFault) ⊎ AnswersFrom device old new (coming_put name kind n now) came (Err ShortBody) → IsIdle device old new

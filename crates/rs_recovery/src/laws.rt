@@ -1,6 +1,6 @@
 //! Laws of runs and of sessions, over their definitions alone.
 //!
-//! Each function here does nothing: its contract is the law, which the check proves.
+//! The functions here have no effect: the contract of a function is the law, which the check proves.
 
 ghost use Rattle.std.specs.Prelude.{ℕ, List};
 ghost use Rattle.rs_model.specs.State.{Source};
@@ -39,9 +39,9 @@ use rs_store::laws::{
     refused_is_not_done, runs_are_answered, runs_leave_prefixes, turns_go_on,
 };
 
-/// All requests to a source join into runs. One run and then another are one run. One command is a run of its own, and so
-/// is a put whose body comes from a reader. A source idles while it only reads, as for a body or for the list of damaged
-/// ones, and when the body of a put does not come whole.
+/// All requests to a source join into runs. Two runs, one after the other, are one run. One command is a run of its
+/// own, and so is a put whose body comes from a reader. A source idles while it only reads, as for a body or for the
+/// list of damaged bodies, and when the body of a put does not come whole.
 pub fn runs_go_on<D: Disk>()
     ensures join { TurnsGoOn D.state }
     ensures command { CommandsAreTurns D.state }
@@ -57,9 +57,9 @@ pub fn runs_go_on<D: Disk>()
 
 /// Requests to a source one by one are a run: each command by itself, reads between them, and one run after another.
 /// The disk sees the commands answered in their order, so they are commands of a session. Whenever a stop comes, it
-/// leaves what the first counted commands make: all that were answered by then, and perhaps one more, which had begun.
-/// At the end an open source holds what all of them make. A closed source may lack the last one, in which the device
-/// failed.
+/// leaves the state after the first counted commands: all that were answered by then, and perhaps one more, which had
+/// begun. At the end an open source holds the state after all of them. A closed source may lack the last one, in which
+/// the device failed.
 pub fn runs_recover<D: Disk>()
     ensures recover { RunsRecover D.state }
     ensures idle { IdleIsRun D.state }
@@ -72,14 +72,14 @@ pub fn runs_recover<D: Disk>()
 }
 
 /// The disk of a source sees the commands that the source answers in their turn, with these answers, and no others. So
-/// what a script or a request is told of its commands is what a session has.
+/// the answers that a script or a request gets for its commands are those of a session.
 pub fn turns_are_seen<D: Disk>()
     ensures { TurnsAreSeen D.state }
 {
     laws_below::<D>();
 }
 
-/// The laws of the crates below that runs rest on.
+/// The laws of the crates below on which runs rest.
 fn laws_below<D: Disk>()
     ensures { Below D.state }
 {
@@ -98,15 +98,15 @@ pub fn sessions_stand()
     answers_leave_prefixes();
 }
 
-/// Each run of commands that a stop ends is a session more. Its source was formatted or copied, or opened on the image
-/// that the latest stop before had left.
+/// Every run of commands that a stop ends is one more session. Its source was formatted or copied, or opened on the
+/// image that the latest stop before had left.
 pub fn sessions_follow()
     ensures stopped { StopsEndSessions }
     ensures first { SessionsBegin }
     ensures next { SessionsFollow }
 {}
 
-/// A source that holds a state begins a session, before it is asked anything. The session goes on from call to call. Its
+/// A source that holds a state begins a session, before it gets a request. The session goes on from call to call. Its
 /// source answers commands, is copied or read, and answers more from the state that it still holds.
 pub fn sessions_go_on<D: Disk>()
     ensures begins { HeldSourcesBegin D.state }
@@ -117,7 +117,7 @@ pub fn sessions_go_on<D: Disk>()
     held_sources_rest::<D>();
 }
 
-/// What the stops left determines how many commands of each session survive.
+/// The images that the stops left determine how many commands of each session survive.
 pub fn one_standing()
     ensures { OneStanding }
 {
@@ -148,13 +148,13 @@ pub fn held_sources_show<D: Disk>()
     documents_are_of_the_state();
 }
 
-/// Each name that is held in the state of an image is lawful.
+/// Every name that is held in the state of an image is lawful.
 pub fn held_names_are_lawful()
     ensures { HeldNamesAreLawful }
 {}
 
-/// Each state that a stop within a run of a regular source may leave is regular. What was published, followed by the
-/// changes after its moment, is what is held.
+/// Every state that a stop within a run of a regular source may leave is regular. The publication, followed by the
+/// changes after its moment, yields the held resources.
 pub fn stops_leave_regular()
     ensures regular { (s t : Source) (commands : List (Command × ℕ)) (acks : List Ack)
         (m : ℕ) (image : List ℕ)

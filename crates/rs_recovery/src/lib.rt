@@ -1,8 +1,8 @@
-//! What is recovered after a stop of a source, over any number of sessions.
+//! Recovery after a stop of a source, over any number of sessions.
 //!
 //! [`recover`] opens the source on a disk that a stop has left. Its contract is the main promise: whatever the stops,
-//! it recovers a prefix of the accepted commands that holds every acknowledged one, and what was published, followed by
-//! the changes after it, yields exactly what is held. [`laws`] has what follows from the definitions.
+//! it recovers a prefix of the accepted commands that holds every acknowledged one, and the publication, followed by
+//! the changes after it, yields exactly the held resources. [`laws`] has the consequences of the definitions.
 //! [`format_run_recover`] goes the whole way on a memory disk.
 #![tactic(auto)]
 

@@ -1,4 +1,4 @@
-//! A source whose disk is opened anew after each stop, as one of another type.
+//! A source whose disk is reopened after each stop, as a disk of another type.
 
 ghost use Rattle.std.specs.Prelude.{ℕ, List, IfOk, IfErr, IsTrue};
 ghost use Rattle.rs_disk.specs.Medium.{DiskState};
@@ -16,7 +16,7 @@ use rs_store::{Ack, Source};
 use rs_time::Moment;
 use std::alloc::Global;
 
-/// Recovers the source on a disk and runs commands on it. Gives the answers, and the disk that the run left.
+/// Recovers the source on a disk and runs commands on it. Returns the answers, and the disk that the run left.
 fn recover_and_run<D: Disk + Drop>(
     alloc: Global,
     disk: D,
@@ -40,17 +40,18 @@ fn recover_and_run<D: Disk + Drop>(
 }
 
 /// Formats a disk and runs commands, recovers the source on the disk that `second` gives and runs more, and recovers it
-/// on the disk that `third` gives. Each of the two gets the disk that the run before has left, so that it can close a
-/// file before it opens it again.
+/// on the disk that `third` gives. `second` and `third` get the disk that the run before has left, so that they can
+/// close a file before they open it again.
 ///
-/// Gives the answers of both runs, and the recovered source. The three disks may be of three types. Where the bytes of
-/// each are an image that a stop of the run before may have left, the source is what the clause `headline` of
-/// [`recover`] promises.
+/// Returns the answers of both runs, and the recovered source. The three disks may be of three types. If the bytes of
+/// the second and the third are images that a stop of the run before may have left, the source is as the clause
+/// `headline` of [`recover`] promises.
 ///
 /// # Errors
 ///
 /// Those of each step: the first cause that refuses the formatting; without such a cause a failed device, refused
-/// memory, or a disk that was not given. A disk with what the stop before has left is never called empty or damaged.
+/// memory, or a disk that was not given. A disk with the bytes that the stop before has left is never called empty or
+/// damaged.
 pub fn format_run_recover_twice<A, B, C, F, G>(
     alloc: Global,
     disk: A,

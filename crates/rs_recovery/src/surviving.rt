@@ -20,13 +20,14 @@ pub enum Halt {
     Formatting(FormatFault),
     /// No command was run.
     Running(Refusal),
-    /// No disk of an image was made: its memory was refused, or none was given.
+    /// No disk of an image was made: its memory was refused, or no disk was given.
     Imaging,
     /// The source was not opened again.
     Opening(OpenFault),
 }
 
-/// A disk with the image that a crash of the disk `left` may leave, by this choice of bytes. All its bytes are settled.
+/// Returns a disk with the image that a crash of the disk `left` may leave, by this choice of bytes. All its bytes are
+/// settled.
 fn image_disk(alloc: Global, left: &MemoryDisk, choice: &[u8]) -> Result<MemoryDisk, AllocError>
     ensures image { IfOk result (λ disk. IsImage (memory_state left.now).now
         (image_of choice.now (memory_state left.now).now)) }
@@ -36,7 +37,7 @@ fn image_disk(alloc: Global, left: &MemoryDisk, choice: &[u8]) -> Result<MemoryD
     MemoryDisk::from_bytes(alloc, &left.image(choice)?)
 }
 
-/// Formats a disk and runs commands on the source. Gives the answers, and the disk that the run left.
+/// Formats a disk and runs commands on the source. Returns the answers, and the disk that the run left.
 pub(crate) fn format_and_run<D: Disk + Drop>(
     alloc: Global,
     disk: D,
@@ -62,9 +63,9 @@ pub(crate) fn format_and_run<D: Disk + Drop>(
 }
 
 /// Formats a memory disk, runs commands, and recovers the source from the image that a crash then may leave by this
-/// choice of bytes. Where the disk is set to stop after some calls, a crash in that call may leave the image.
+/// choice of bytes. If the disk is set to stop after some calls, a crash in that call may leave the image.
 ///
-/// Gives the answers, the disk that the run left, and the recovered source.
+/// Returns the answers, the disk that the run left, and the recovered source.
 ///
 /// # Errors
 ///

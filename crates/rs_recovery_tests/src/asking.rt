@@ -8,7 +8,7 @@ use rs_time::Moment;
 use std::alloc::Global;
 use std::test::Fail;
 
-/// A command as the tests write it. Each body is `text/plain`.
+/// A command as the tests write it. All bodies are `text/plain`.
 #[derive(Clone, Copy, Debug)]
 pub(super) enum Asked {
     /// A put of this name with this body.
@@ -32,12 +32,12 @@ pub(super) enum Answer {
     Refused(Refusal),
 }
 
-/// The moment `ms` milliseconds after 1970-01-01T00:00:00.000Z.
+/// Returns the moment `ms` milliseconds after 1970-01-01T00:00:00.000Z.
 pub(super) fn at(ms: u64) -> Result<Moment, Fail> {
     Ok(Moment::new(ms).ok_or("a moment")?)
 }
 
-/// A command.
+/// Returns the command of a test.
 fn command_of(alloc: Global, asked: Asked) -> Result<Command, Fail> {
     match asked {
         Asked::Put(name, body) => Ok(Command::Put {
@@ -52,7 +52,7 @@ fn command_of(alloc: Global, asked: Asked) -> Result<Command, Fail> {
     }
 }
 
-/// These commands, all at the moment `now`, in milliseconds.
+/// Returns these commands, all at the moment `now`, in milliseconds.
 pub(super) fn commands_of(
     alloc: Global,
     asked: &[Asked],
@@ -66,7 +66,7 @@ pub(super) fn commands_of(
     Ok(commands)
 }
 
-/// An answer of a source.
+/// Returns the answer in `ack`.
 pub(super) fn answer_of(ack: &Ack) -> Answer {
     match ack.reply {
         Ok(Reply::Created(moment)) => Answer::Created(moment.ms()),
@@ -78,7 +78,8 @@ pub(super) fn answer_of(ack: &Ack) -> Answer {
     }
 }
 
-/// The bytes of a disk of 16,384 bytes on which an empty source was formatted at the moment 0, with the item limit 2.
+/// Returns the bytes of a disk of 16,384 bytes on which an empty source was formatted at the moment 0, with the item
+/// limit 2.
 pub(super) fn formatted(alloc: Global) -> Result<Vec<u8>, Fail> {
     let disk = MemoryDisk::new(alloc, 16384)?;
     match Source::format(alloc, disk, b"http://127.0.0.1:8080", 2, at(0)?) {
@@ -87,7 +88,7 @@ pub(super) fn formatted(alloc: Global) -> Result<Vec<u8>, Fail> {
     }
 }
 
-/// Appends the names that are held, with their bodies.
+/// Appends the held names, with their bodies.
 fn tell_held<D: Disk>(source: &mut Source<D>, text: &mut String) -> Result<(), Fail> {
     for record in &source.records()? {
         let body = source.body(&record.name)?;
@@ -107,7 +108,7 @@ fn tell_published<D: Disk>(source: &Source<D>, text: &mut String) -> Result<(), 
     Ok(())
 }
 
-/// A source as one line of text, such as `held: a=one; published 1: a; changes 1; last 2`.
+/// Returns a source as one line of text, such as `held: a=one; published 1: a; changes 1; last 2`.
 pub(super) fn told<D: Disk>(alloc: Global, source: &mut Source<D>) -> Result<String, Fail> {
     let mut text = String::from_str(alloc, "held:")?;
     tell_held(source, &mut text)?;
@@ -119,7 +120,7 @@ pub(super) fn told<D: Disk>(alloc: Global, source: &mut Source<D>) -> Result<Str
     Ok(text)
 }
 
-/// The source that an image opens to, as one line of text.
+/// Returns the source that an image opens to, as one line of text.
 pub(super) fn told_by(alloc: Global, image: &[u8]) -> Result<String, Fail> {
     let disk = MemoryDisk::from_bytes(alloc, image)?;
     match rs_recovery::recover(alloc, disk) {
@@ -131,7 +132,7 @@ pub(super) fn told_by(alloc: Global, image: &[u8]) -> Result<String, Fail> {
     }
 }
 
-/// The answers of a run, none where the source was not opened, and the disk.
+/// The answers of a run, or no answers if the source was not opened, and the disk.
 pub(super) type Ran = (Vec<Ack>, MemoryDisk);
 
 /// Opens the source on a disk and runs commands on it.

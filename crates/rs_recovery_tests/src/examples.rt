@@ -11,8 +11,8 @@ use std::alloc::Global;
 use std::process::Abort;
 use std::test::Fail;
 
-/// Runs commands at a moment on a disk of these bytes, where one call fails after the first `k`. Checks the answers,
-/// and gives the bytes that a read then gives.
+/// Runs commands at a moment on a disk of these bytes; one call fails after the first `k`. Checks the answers, and
+/// returns the bytes that a read then gives.
 fn answers(
     rt: &(impl Abort + AllocGlobal),
     image: &[u8],
@@ -60,7 +60,7 @@ fn a_refused_command_does_not_end_a_run(rt: HostRuntime) -> Result<(), Fail> {
     tells(&rt, &image, "held: z=; published 0:; changes 3; last 1002")
 }
 
-/// The bytes of a disk whose source has `a`.
+/// Returns the bytes of a disk whose source has `a`.
 fn with_a(rt: &(impl Abort + AllocGlobal)) -> Result<Vec<u8>, Fail> {
     let image = formatted(rt.alloc())?;
     answers(rt, &image, &[Put(b"a", b"one")], 0, NEVER, &[Created(1)])
@@ -69,8 +69,8 @@ fn with_a(rt: &(impl Abort + AllocGlobal)) -> Result<Vec<u8>, Fail> {
 #[test]
 fn a_sync_that_fails_in_a_delete(rt: HostRuntime) -> Result<(), Fail> {
     // The opening makes a sync and reads both slots, the directory and two pages. The delete writes a page and the
-    // directory; then the spare's gate is closed, the bytes behind it are written and the gate is opened, each by a
-    // write and a sync.
+    // directory; then it closes the spare's gate, writes the bytes after it and opens the gate, each by a write and a
+    // sync.
     const ROWS: [(u64, &str); 3] = [
         (6 + 3, "held: a=one; published 0:; changes 1; last 1"),
         (6 + 5, "held: a=one; published 0:; changes 1; last 1"),
@@ -92,8 +92,8 @@ fn a_sync_that_fails_in_a_delete(rt: HostRuntime) -> Result<(), Fail> {
     Ok(())
 }
 
-/// Formats a disk that stops after this many calls, runs a put and a delete, and recovers from the image in which each
-/// unsettled byte is 9. Gives the answers, and the recovered source as one line of text.
+/// Formats a disk that stops after this many calls, runs a put and a delete, and recovers from the image in which every
+/// unsettled byte is 9. Returns the answers, and the recovered source as one line of text.
 fn recovered(alloc: Global, calls: u64) -> Result<(Vec<Ack>, String), Fail> {
     let commands = commands_of(alloc, &[Put(b"a", b"one"), Delete(b"a")], 1000)?;
     let mut disk = MemoryDisk::new(alloc, 16384)?;

@@ -1,4 +1,4 @@
-//! A source on a real file, which is opened anew after each stop, each time as a disk of another type.
+//! A source on a real file, which is reopened after each stop as a disk of another type.
 
 use super::asking::Asked::{Delete, Publish, Put};
 use super::asking::{Answer, Asked, answer_of, at, commands_of, told};
@@ -8,15 +8,15 @@ use rs_store::{Ack, Source};
 use std::fs;
 use std::test::Fail;
 
-/// What the file holds when it is made.
+/// The bytes of the file when it is made.
 #[derive(Drop)]
 struct Made;
 
-/// What it holds when it is opened again.
+/// Its bytes when it is opened again.
 #[derive(Drop)]
 struct Opened;
 
-/// What it holds when it is opened a third time.
+/// Its bytes when it is opened a third time.
 #[derive(Drop)]
 struct OpenedAgain;
 
@@ -52,7 +52,7 @@ const FIRST: [Asked; 3] = [Put(b"a", b"one"), Publish, Put(b"b", b"two")];
 
 const MORE: [Asked; 2] = [Delete(b"a"), Put(b"c", b"three")];
 
-// The source after none, one, two or three commands of the first run and both of the second.
+// The source after zero, one, two or three commands of the first run and both of the second.
 const TOLD: [&str; 4] = [
     "held: c=three; published 0:; changes 1; last 1",
     "held: c=three; published 0:; changes 3; last 1002",
@@ -60,7 +60,7 @@ const TOLD: [&str; 4] = [
     "held: b=two c=three; published 1: a; changes 4; last 1004",
 ];
 
-/// The bytes of a file of this name after a source was formatted on it and ran these commands.
+/// Returns the bytes of a file of this name after a source was formatted on it and ran these commands.
 fn bytes_after(rt: &HostRuntime, path: &str, asked: &[Asked]) -> Result<Vec<u8>, Fail> {
     let commands = commands_of(rt.alloc(), asked, 1000)?;
     let disk = FileDisk::create(rt, path, 16384, Made)?;
@@ -75,8 +75,8 @@ fn bytes_after(rt: &HostRuntime, path: &str, asked: &[Asked]) -> Result<Vec<u8>,
     Ok(bytes)
 }
 
-/// Formats a file of this name and runs commands. Writes these bytes, which a stop may have left, opens the file anew,
-/// runs more commands, and opens it anew once more.
+/// Formats a file of this name and runs commands. Writes these bytes, which a stop may have left, reopens the file,
+/// runs more commands, and reopens it once more.
 fn recovered(rt: &HostRuntime, path: &str, bytes: &[u8]) -> Result<Recovered, Fail> {
     let commands = commands_of(rt.alloc(), &FIRST, 1000)?;
     let more = commands_of(rt.alloc(), &MORE, 0)?;

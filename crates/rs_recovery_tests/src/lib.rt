@@ -1,4 +1,4 @@
-//! Tests of runs of commands, of their stops, and of what is recovered then.
+//! Tests of runs of commands, of their stops, and of recovery.
 #![tactic(auto)]
 
 #[cfg(test)]

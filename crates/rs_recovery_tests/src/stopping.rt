@@ -1,5 +1,5 @@
 //! One run, stopped at each of its device calls, or with a fault at each of them; and stops within the opening that
-//! follows. Each image of a crash opens to a row of the table: the source after the first commands.
+//! follows. Every image of a crash opens to a row of the table: the source after the first commands.
 //!
 //! The last two calls of a command are the write that opens the gate of its root, and the sync that settles it.
 
@@ -27,7 +27,7 @@ const ASKED: [Asked; 11] = [
     Put(b"b", b"abc"),
 ];
 
-// The source after none of them, one, two and so on. Publications 2 and 4 each drop the two changes that are not after
+// The source after zero, one, two commands and so on. Publications 2 and 4 each drop the two changes that are not after
 // the publication before.
 const TOLD: [&str; 12] = [
     "held:; published 0:; changes 0; last 0",
@@ -51,7 +51,7 @@ struct Run {
     image: Vec<u8>,
     commands: Vec<(Command, Moment)>,
     acks: Vec<Ack>,
-    /// How many device calls it makes, with those of the opening.
+    /// The number of device calls that it makes, with those of the opening.
     calls: u64,
 }
 
@@ -70,7 +70,7 @@ impl Run {
         })
     }
 
-    /// What the run leaves where its calls end after the first `k`.
+    /// Returns the result of the run if its calls end after the first `k`.
     fn want(&self, k: u64) -> Want {
         let mut accepted: u64 = 0;
         let mut next: u64 = u64::MAX;
@@ -89,18 +89,18 @@ impl Run {
     }
 }
 
-/// What a run leaves where its calls end after the first `k`.
+/// The result of a run whose calls end after the first `k`.
 #[derive(Clone, Copy)]
 struct Want {
     k: u64,
-    /// How many commands are answered Ok.
+    /// The number of commands that are answered Ok.
     accepted: u64,
     /// Whether the next call opens a gate, or is the sync after that.
     is_late: bool,
 }
 
 impl Want {
-    /// What an image tells where each unsettled byte is zero, or one.
+    /// Returns the content of an image in which all unsettled bytes are zero, or one.
     fn told(&self, ones: bool) -> &str {
         let more = if ones && self.is_late { 1 } else { 0 };
         TOLD[(self.accepted.saturating_add(more) as usize).min(11)]
@@ -130,7 +130,7 @@ fn answers_until(rt: &impl Abort, acks: &[Ack], want: &Want) {
     }
 }
 
-/// Checks what three images of a disk tell.
+/// Checks the content of three images of a disk.
 fn images_tell(
     rt: &(impl Abort + AllocGlobal),
     disk: &MemoryDisk,
@@ -149,7 +149,7 @@ fn images_tell(
     Ok(())
 }
 
-/// Checks that three images of a disk tell what the stop before might have left.
+/// Checks that the stop before might have left the content of three images of a disk.
 fn images_are_old(
     rt: &(impl Abort + AllocGlobal),
     disk: &MemoryDisk,
@@ -164,7 +164,7 @@ fn images_are_old(
     Ok(())
 }
 
-/// Stops the disk after `k` calls of a run, and gives it back.
+/// Stops the disk after `k` calls of a run, and returns it.
 fn stopped(rt: &(impl Abort + AllocGlobal), run: &Run, k: u64) -> Result<MemoryDisk, Fail> {
     let want = run.want(k);
     let mut disk = MemoryDisk::from_bytes(rt.alloc(), &run.image)?;
@@ -185,7 +185,7 @@ fn a_stop_at_each_call(rt: HostRuntime) -> Result<(), Fail> {
     Ok(())
 }
 
-/// Stops the opening of a disk after its first calls, this many.
+/// Stops the opening of a disk after this many calls.
 fn stops_opening(
     rt: &(impl Abort + AllocGlobal),
     disk: MemoryDisk,
@@ -199,7 +199,7 @@ fn stops_opening(
     Ok(disk)
 }
 
-/// Stops the disk after `k` calls of a run, and then the opening that follows, after each number of its calls.
+/// Stops the disk after `k` calls of a run, and then the opening that follows, after every number of its calls.
 fn stops_opening_at(rt: &(impl Abort + AllocGlobal), run: &Run, k: u64) -> Result<(), Fail> {
     let mut disk = stopped(rt, run, k)?;
     // A sync, both slots, the directory and three pages.

@@ -1,4 +1,4 @@
--- The answer to each kind of request.
+-- The answer to every kind of request.
 use Rattle.std.proofs.Common.{◌≡◌, ℕ, List, [], Result, Ok, Err, Vec, Global, Bool, true, false, ◌⊎◌, ◌<◌, ◌≤◌, length, refl, inl, inr, ap, sym, subst, ◌∙◌, ◌-◌, if◌then◌else◌, ◌↔◌, arith, IsErrOf, IsTrue, codes, decimal, ◌++◌, ◌∷◌}
 use Rattle.rs_disk.specs.Medium.{DiskState}
 use Rattle.rs_script.proofs.FromBelow.{reading_none, rests}
@@ -126,7 +126,7 @@ verified_closed device s now refusal P same closed w =
 abbrev denied : Refusal → Result Request Refusal
 denied refusal = Err refusal
 
--- the line asks for nothing, or there was no memory for what it asks for
+-- the line is no request, or there was no memory for its request
 pub refused_answered : {D : Type 0} (device : D → DiskState) (s : ScriptState (Stored D)) (found : Result Request Refusal) (Room : Type 0) (refusal : Refusal) (P : List ℕ → Type 0)
     → (Err refusal ≡ found) ⊎ ((denied refusal ≡ denied (Line fault.NoMemory)) × Room) → P (outcome_text (refused refusal)) → HasAnswer (AnswerGives device s found Room) s P
 refused_answered device s found Room refusal P (inl e) w = was (unchanged s (refused refusal)) (inl (rw (sym e) refl)) w
@@ -136,7 +136,7 @@ refused_answered device s found Room refusal P (inr (e, room)) w =
 abbrev asked : Request → Result Request Refusal
 asked request = Ok request
 
--- the line asks for something
+-- the line is a request
 pub understood : {D : Type 0} (device : D → DiskState) (s new : ScriptState (Stored D)) (found : Result Request Refusal) (Room : Type 0) (request : Request) (P : List ℕ → Type 0)
     → (Ok request ≡ found) ⊎ ((asked request ≡ denied (Line fault.NoMemory)) × Room) → HasAnswer (AskedGives device s (Ok request)) new P → HasAnswer (AnswerGives device s found Room) new P
 understood device s new found Room request P (inl e) given = record {
@@ -147,7 +147,7 @@ understood device s new found Room request P (inl e) given = record {
 }
 understood device s new found Room request P (inr (e, room)) given = absurd cc
 
--- a line that asks for nothing
+-- a line that is no request
 pub foreign_answered : {D : Type 0} (device : D → DiskState) (s : ScriptState (Stored D)) (line : List ℕ) (P : List ℕ → Type 0)
     → (length line ≤ line_limit) × (request_of line ≡ Err (Line fault.BadLine)) → P (outcome_text (refused (Line fault.BadLine))) → HasAnswer (LineGives device s line) s P
 foreign_answered device s line P h w = was (unchanged s (refused (Line fault.BadLine))) (inr (h.0, inl (rw h.1 refl))) w
@@ -179,7 +179,7 @@ pub body_shown : {D : Type 0} (device : D → DiskState) (old new : Stored D) (n
     → HasAnswer (AskedGives device (script_state old now) (Ok (Body name))) (script_state new now) P
 body_shown device old new name now bytes written P a same w = was_read device old new name now (Ok bytes) P a (subst (λ b. P (shown_text b)) same w)
 
--- a source that refuses nothing is open
+-- a source that does not refuse a request is open
 pub is_open : {T : Type 0} (result : Result T denials.Refusal) (given : T) (closed : Bool) → result ≡ Ok given
     → IsErrOf result Closed ↔ IsTrue closed → closed ≡ false
 is_open result given false is h = refl

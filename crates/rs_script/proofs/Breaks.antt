@@ -15,7 +15,7 @@ not_break b h = λ e. absurd (grind (arith, nat_tests))
 is_break : (b : ℕ) → (b == 10) ≡ true → b ≡ 10
 is_break b h = grind (arith, nat_tests)
 
--- there is none before it
+-- there is no line feed before it
 pub before_break : (bytes : List ℕ) (i : ℕ) → position (λ b. b == 10) bytes ≡ Some i → HasNoBreak (take i bytes)
 before_break bytes i e =
     let at = position-some (λ b. b == 10) bytes i e in
@@ -25,7 +25,7 @@ before_break bytes i e =
     let same : get_or (take i bytes) k 0 ≡ get_or bytes k 0 = grind (arith, common_steps) in
     rw same (not_break (get_or bytes k 0) fails))
 
--- there is none at all
+-- there is no line feed at all
 pub no_break : (bytes : List ℕ) → position (λ b. b == 10) bytes ≡ None → HasNoBreak bytes
 no_break bytes e =
     let none = position-none (λ b. b == 10) bytes e in

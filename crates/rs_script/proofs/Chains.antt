@@ -37,7 +37,7 @@ pub record Follows {D : Type 0} (device : D → DiskState) (old new : Stored D) 
   pub holds : (s : Source) → Holds device old s → new.is_closed ≡ false → Holds device new (fold_of s commands)
 
 module _ {D : Type 0} (device : D → DiskState) (old : Stored D) where
-  -- nothing changed
+  -- the source did not change
   stays : Follows device old old []
   stays = record { lasts = λ h. h; opened = λ h. h; folds = λ _. refl; holds = λ s held free. held }
 
@@ -133,7 +133,7 @@ module _ {D : Type 0} (device : D → DiskState) (old : ScriptState (Stored D)) 
   statement_follows (grouped first lines) gives = answer_follows (request_by (grouped first lines)) (GroupTakesRoom lines) gives
   statement_follows cut_off gives = request_follows (request_by cut_off) gives
 
--- the generation does not fall, where the device did not fail
+-- the generation does not fall, if the device did not fail
 module _ {D : Type 0} (device : D → DiskState) (old : ScriptState (Stored D)) (answer : Answer (Stored D)) (models : ¬ IsMachine answer.outcome) where
   Rises : Answer (Stored D) → Type 0
   Rises a = old.source.slots.root.generation ≤ a.session.source.slots.root.generation

@@ -1,4 +1,4 @@
--- The end of the input: its last line, and a group that it ends within.
+-- The end of the input: its last line, and a group within which it ends.
 use Rattle.std.proofs.Common.{◌≡◌, ℕ, ◌<◌, List, [], ◌∷◌, ◌++◌, length, map, Option, Some, None, refl, ap, sym, ◌∙◌, append-nil, arith, subst}
 use Rattle.std.specs.Prelude.{Result, Ok, Err, OnOk, OnErr}
 use Rattle.rs_disk.specs.Medium.{DiskState}

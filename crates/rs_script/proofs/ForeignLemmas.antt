@@ -1,4 +1,4 @@
--- A line that does not begin as one with fields, and is longer than any without, asks for nothing.
+-- A line that does not begin as one with fields, and is longer than any without, is no request.
 use Rattle.std.proofs.Common.{◌≡◌, ◌∷◌, [], ◌++◌, ◌+◌, ◌-◌, ◌≤◌, ◌<◌, ℕ, length, take, drop, get_or, List, Option, Some, None, Bool, true, false, nat_eq, refl, arith, ap, ◌∙◌, codes, bytes_eq, Err, length-append, length-take, length-drop, nat_le, if◌then◌else◌, ◌||◌, ◌==◌, slice_index}
 use Rattle.std.specs.List.{position, starts_with}
 use Rattle.std.proofs.lemmas.List.{take_more, take-take}
@@ -41,7 +41,7 @@ other_word line word i found h =
     let yes : starts_with nat_eq line (word ++ 32 ∷ []) ≡ true = (bytes_eq-Decides (word ++ 32 ∷ []) (take (length (word ++ 32 ∷ [])) line)).1 whole in
     (cc))
 
--- a line that is no item, and has none of the words with two fields, asks for nothing
+-- a line that is no item, and whose word is not that of a line of two fields, is no request
 other_request : (line word rest : List ℕ) → bytes_eq word (codes "at") ≡ false → bytes_eq word (codes "show") ≡ false
     → bytes_eq word (codes "group") ≡ false → item_of_line line ≡ Err fault.BadLine → of_fields line (word ∷ fields 1 rest) ≡ Err (refusals.Line fault.BadLine)
 unfolding fields
@@ -55,7 +55,7 @@ pub either_false : (a b : Bool) → (a || b) ≡ false → (a ≡ false) × (b �
 either_false true b e = absurd (cc)
 either_false false b e = (refl, e)
 
--- it begins with none of the words before fields
+-- it does not begin with a word before fields
 record BeginsNone (line : List ℕ) : Type 0 where
   no_at : starts_with nat_eq line (codes "at ") ≡ false
   no_put : starts_with nat_eq line (codes "put ") ≡ false
@@ -72,7 +72,7 @@ begins_none line h =
     let g = either_false (starts_with nat_eq line (codes "group ")) false s.1 in
     record { no_at = a.0; no_put = p.0; no_delete = d.0; no_show = s.0; no_group = g.0 }
 
--- a line that does not begin as an item is none
+-- a line that does not begin as an item is no item
 pub is_no_item : (line : List ℕ) → starts_with nat_eq line (codes "put ") ≡ false → starts_with nat_eq line (codes "delete ") ≡ false → item_of_line line ≡ Err fault.BadLine
 unfolding item_of_line
 is_no_item line no_put no_delete = by_space (position is_space line) refl
@@ -83,7 +83,7 @@ is_no_item line no_put no_delete = by_space (position is_space line) refl
         rw (fields-cut line i 2 e)
         (no_item (take i line) (drop (i + 1) line) (other_word line (codes "put") i e no_put) (other_word line (codes "delete") i e no_delete))
 
--- a line that is longer than any of one field, and does not begin as one with more, asks for nothing
+-- a line that is longer than any of one field, and does not begin as one with more, is no request
 asks_alone : (line : List ℕ) → 8 ≤ length line → BeginsNone line → request_of line ≡ Err (refusals.Line fault.BadLine)
 unfolding request_of
 asks_alone line long b = by_space (position is_space line) refl
@@ -108,7 +108,7 @@ asks_nothing line long h =
     let b = begins_none line h in
     record { alone = asks_alone line long b; within = is_no_item line b.no_put b.no_delete; no_group = begins_no_group line b.no_group }
 
--- a line that is longer than any that begins a group begins none
+-- a line that is longer than any that begins a group begins no group
 long_number : (text : List ℕ) → 2 < length text → number_in 2 text ≡ None
 unfolding number_in
 long_number text long =
@@ -126,7 +126,7 @@ long_begins_none line long =
     either_none (starts_with nat_eq line (codes "group ")) (number_in 2 (drop 6 line))
     (long_number (drop 6 line) (omega (arith, length-drop 6 line)))
 
--- the first bytes of a line tell how it begins
+-- the first bytes of a line determine how it begins
 begins_same : (raw : List ℕ) (n : ℕ) → 7 ≤ n → begins_request (take n raw) ≡ begins_request raw
 begins_same raw n le =
     rw (take-take 3 n raw (omega arith), take-take 4 n raw (omega arith), take-take 7 n raw le, take-take 5 n raw (omega arith), take-take 6 n raw (omega arith)) refl

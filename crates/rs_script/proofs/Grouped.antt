@@ -10,12 +10,12 @@ use Rattle.rs_script.specs.Statements.{Statement, single, grouped, cut_off, grou
 use Rattle.rs_script.specs.Taken.{KeepsGroup}
 use Rattle.rs_script.proofs.Cut.{Splits-once}
 
--- without a group nothing is kept
+-- without a group no lines are kept
 pub none_kept : (group : Option Taking) (part : List (List ℕ)) → group ≡ None → KeepsGroup group part → part ≡ []
 none_kept None part is k = k
 none_kept (Some taking) part is k = absurd cc
 
--- what is kept of a group is a part of one
+-- the kept lines of a group are a part of one
 pub kept_part : (group : Option Taking) (part : List (List ℕ)) → KeepsGroup group part → IsPart part
 kept_part None part k = subst IsPart (sym k) tt
 kept_part (Some taking) part (first, lines, is, size, items) =
@@ -53,7 +53,7 @@ same_front (c ∷ a) (d ∷ b) x y h e =
     let tails : a ≡ b = same.0 in
     (cc, same.1)
 
--- the first statement is the same, and so is what follows
+-- the first statement is the same, and so is the rest
 first_once : (statement other : Statement) (x y : List (List ℕ)) → IsWholeStatement statement → IsWholeStatement other
     → statement_lines statement ++ x ≡ statement_lines other ++ y → (statement ≡ other) × (x ≡ y)
 first_once (single line) (single other) x y w v e = let same : line ≡ other = cc in (ap single same, cc)

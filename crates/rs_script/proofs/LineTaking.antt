@@ -37,7 +37,7 @@ module _ {D : Type 0} (device : D → DiskState) (old new : ScriptState (Stored 
     subst Written (sym (append-nil (outcome_text is.answer.outcome))) is.written,
   )
 
-  -- nothing is answered
+  -- no statement is answered
   pub more_taken : (group : Option Taking) → KeepsGroup group (begun ++ line ∷ []) → old ≡ new → Written [] → Leaves group
   more_taken group kept same written = (
     record {

@@ -177,13 +177,13 @@ module _ {D : Type 0} (device : D → DiskState) (old : ScriptState (Stored D)) 
   verify_same (Err TooManyChanges) a honest o c n = absurd a.others
   verify_same (Err Exhausted) a honest o c n = absurd a.others
 
-  -- the source was open, where its answer is the model's
+  -- the source was open, if its answer is the model's
   open_same : (outcome : LineOutcome) (closed : Bool) → old.source.is_closed ≡ closed → answer ≡ unchanged old (if_open old outcome)
       → answer ≡ unchanged old outcome
   open_same outcome true is e = machine_refused Closed tt (ap (λ (a : Answer (Stored D)). a.outcome) e ∙ ap (λ b. if b then refused (refusals.Source Closed) else outcome) is)
   open_same outcome false is e = e ∙ ap (λ b. unchanged old (if b then refused (refusals.Source Closed) else outcome)) is
 
-  -- nothing changed, and this is the outcome
+  -- the state stays the same, and this is the outcome
   left_same : (outcome : LineOutcome) → answer ≡ unchanged old outcome → IsSame device answer (unchanged (model_state device old) outcome)
   left_same outcome e = record {
     outcome = ap (λ (a : Answer (Stored D)). a.outcome) e;

@@ -21,7 +21,7 @@ use Rattle.rs_script.specs.declared.request.Request.TheVariants.{Run, Document, 
 use Rattle.rs_script.specs.Requests.{asked, at_moment, moment_in, at_request, item_request, at_document, show_request, request_alone, request_with, of_fields, request_of}
 use Rattle.rs_script.specs.Statements.{Statement, single, grouped, cut_off, items_of_group, group_request, request_by}
 
--- a path can name each document that a statement asks for
+-- every document that a statement asks for has a path
 abbrev pub HasPath : Result Request Refusal → Type 0
 HasPath (Ok (Document doc)) = HasCounts doc
 HasPath request = Unit {0}

@@ -1,4 +1,4 @@
--- The answers of a script before a stop and behind it.
+-- The answers of a script before a stop and after it.
 use Rattle.std.proofs.Common.{◌≡◌, ◌≤◌, ◌<◌, inl, inr, ℕ, Bool, true, false, List, [], ◌∷◌, ◌++◌, length, length-append, append_assoc, append-nil, Option, Some, None, Result, Ok, Err, refl, ap, sym, ◌∙◌, cond, ◌&&◌, nat_le, arith}
 use Rattle.std.proofs.lemmas.Bool.{cases_lt}
 use Rattle.std.proofs.lemmas.Bool.Decides.{nat_tests}
@@ -33,7 +33,7 @@ one_reply (Ok reply) false = refl
 one_reply (Err refusal) true = refl
 one_reply (Err refusal) false = refl
 
--- a reply for each command that was acknowledged
+-- a reply for every command that was acknowledged
 as_many : (m : ℕ) (acks : List Ack) → length (replies_by m acks) ≡ acknowledged m acks
 as_many m [] = refl
 as_many m (a ∷ acks) =
@@ -81,7 +81,7 @@ first_ones m old is (c ∷ commands) (a ∷ acks) new all =
     ]
 first_ones m old is commands acks new all = absurd all
 
--- outcomes, where these replies are in the first ones
+-- outcomes of which the first ones have exactly these replies
 record CutAt (outcomes : List LineOutcome) (replies : List Reply) : Type 0 where
   first : List LineOutcome
   later : List LineOutcome
@@ -161,7 +161,7 @@ one_told : (request : Result Request Refusal) (now : ℕ) (got : Option Answered
 one_told request now None outcome is = sym (own_is_silent request outcome is)
 one_told request now (Some got) outcome is = append-nil (reply_in got.ack.reply) ∙ sym (told_reply got.ack.reply) ∙ ap line_reply (sym is.2)
 
--- the replies to the commands that the source got are those that are told
+-- the replies to the commands that the source got are the reported replies
 all_told : (now : ℕ) (done : List DoneStatement) → AreDone now done → replies_in (acks_of done) ≡ flat_map line_reply (outcomes_of done)
 all_told now [] each = refl
 all_told now (d ∷ done) each =

@@ -1,4 +1,4 @@
--- The counts of an end after calls, where it may have failed before.
+-- The counts of an end after calls, if it may have failed before.
 use Rattle.std.proofs.Common.{◌≡◌, ℕ, ◌+◌, ◌≤◌, ◌==◌, Bool, true, false, not, Result, Ok, IsTrue, refl, sym, ap, ◌∙◌, inl, inr, arith}
 use Rattle.std.specs.Prelude.{is_err}
 use Rattle.rs_io.specs.declared.watch.Watched.{Watched}

@@ -44,7 +44,7 @@ refused_stays request now refusal = refl
 
 module _ {D : Type 0} (device : D → DiskState) (rest : RestIsIdle device) (reading : ReadingsIdle device)
     (command : CommandsAreTurns device) (join : TurnsGoOn device) where
-  -- what the source got for a request, by its outcome, and the moment behind it
+  -- the command that the source got for a request, by its outcome, and the moment after it
   record Goes (old : ScriptState (Stored D)) (request : Result Request Refusal) (answer : Answer (Stored D)) : Type 0 where
     got : Option AnsweredCommand
     is : IsStatementOutcome request old.now got answer.outcome
@@ -101,7 +101,7 @@ module _ {D : Type 0} (device : D → DiskState) (rest : RestIsIdle device) (rea
   statement_goes old (grouped first lines) answer gives = answer_goes old (request_by (grouped first lines)) (GroupTakesRoom lines) answer gives
   statement_goes old cut_off answer gives = request_goes old (request_by cut_off) answer gives
 
-  -- what the source got for statements, one after another
+  -- the commands that the source got for statements, one after another
   record AllGo (old : ScriptState (Stored D)) (statements : List Statement) (outcomes : List LineOutcome) (new : Stored D) : Type 0 where
     done : List DoneStatement
     statements_are : statements_of done ≡ statements

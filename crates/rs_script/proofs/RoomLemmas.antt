@@ -1,9 +1,9 @@
--- Which lines take memory.
+-- The lines that take memory.
 use Rattle.std.proofs.Common.{◌≡◌, ◌⊎◌, inl, inr, ℕ, ◌≤◌, List, [], ◌∷◌, length, ap, arith, length-drop}
 use Rattle.std.specs.List.{position_or_len}
 use Rattle.rs_items.specs.Fields.{fields, first_field, after_field, after_space, is_space}
 
--- what follows the first space of a line is no longer than the line
+-- the text after the first space of a line is no longer than the line
 shorter : (first word argument after : List ℕ) (n : ℕ) → length after ≤ n → first ∷ after_space (fields 0) after ≡ word ∷ argument ∷ [] → length argument ≤ n
 unfolding fields
 shorter first word argument [] n le e = absurd cc

@@ -1,4 +1,4 @@
--- A script that stops behind the first of its two replies, computed.
+-- A script that stops after the first of its two replies, computed.
 use Rattle.std.proofs.Common.{◌≡◌, ℕ, List, [], ◌∷◌, Ok, Err, refl}
 use Rattle.std.specs.Prelude.{codes}
 use Rattle.rs_model.specs.State.{Source}

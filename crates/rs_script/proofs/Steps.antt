@@ -153,7 +153,7 @@ broke_within contents a b c outcomes last wrote failed = record {
   failed = failed_after contents a b c (output_of outcomes) (outcome_text last) wrote failed;
 }
 
--- where the calls before it did not fail, a failed flush is the fault of the whole run
+-- if the calls before it did not fail, a failed flush is the fault of the whole run
 later_flush_fault : {W : Type 0} (a b c : Watched W) → failures b ≡ failures a → FlushFailed b c → FlushFailed a c
 later_flush_fault a b c same (inl rose) = inl (omega (arith, ap (λ f. f.flushes) same, rose))
 later_flush_fault a b c same (inr last) = inr last
@@ -172,7 +172,7 @@ has_line : (begun : List (List ℕ)) (line : List ℕ) → begun ++ line ∷ [] 
 has_line [] line e = cc
 has_line (first ∷ begun) line e = cc
 
--- one statement was answered, where its lines have come whole
+-- one statement was answered, if its lines have come whole
 one_answered : {D : Type 0} (device : D → DiskState) (begun : List (List ℕ)) (line : List ℕ) (whole : List Statement) (part : List (List ℕ)) (old : ScriptState (Stored D)) (outcomes : List LineOutcome)
     (commands : List (Command × ℕ)) (new : ScriptState (Stored D)) → begun ++ line ∷ [] ≡ flat_map statement_lines whole ++ part → part ≡ []
     → Transcript device old whole outcomes commands new → length outcomes ≤ 1 → (last : LineOutcome) × (outcomes ≡ last ∷ [])
@@ -216,7 +216,7 @@ take_err device contents (Err e) mid old new run k given stopped = λ h begin in
       (raws, all.whole, splits, groups),
     )
 
--- nothing has come, and nothing was written
+-- no bytes came, and no bytes were written
 pub Progress-none : {D W : Type 0} (device : D → DiskState) (contents : W → Option (List ℕ)) (here : Stand D W) (source : Stored D) → here.source ≡ source → here.pending.between.moment ≡ 0
     → here.pending.between.group ≡ None → KeepsLine here.pending.line [] → Progress device contents (record { session = script_state source 0; writer = here.writer }) [] here
 Progress-none device contents here source same now none k = record {
@@ -253,7 +253,7 @@ Progress-kept device contents begin input here writer k sound p = record {
   );
 }
 
--- what ran on a source, from the moment 0 on
+-- a script that ran on a source, from the moment 0 on
 abbrev pub ran_of : {D : Type 0} (device : D → DiskState) → ScriptsRecover device × ScriptsMakeWalks device → (old new : Stored D) (input : List ℕ) (outcomes : List LineOutcome) (commands : List (Command × ℕ)) (last : ℕ)
     → ScriptGives device (script_state old 0) input outcomes commands (script_state new last) → Ran device old new
 ran_of device laws old new input outcomes commands last gives = record {

@@ -1,5 +1,5 @@
--- What is told of the statements of a script, computed: a command comes at the moment that an `at` before it sets, and a `status` that
--- deletes something is no `status`.
+-- The reported outcomes of the statements of a script, computed: a command comes at the moment that an `at` before it
+-- sets, and a `status` that deletes a resource is no `status`.
 use Rattle.std.proofs.Common.{◌≡◌, ℕ, List, [], ◌∷◌, Some, None, Result, Ok, Err, refl}
 use Rattle.std.specs.Prelude.{codes}
 use Rattle.rs_model.specs.declared.command.Command.{Command}
@@ -42,7 +42,7 @@ worked_statements = (tt, ((refl, refl, refl), ((refl, refl, refl), tt)))
 pub worked_commands : (commands_of done ≡ (Delete (codes "a"), 5) ∷ (Publish, 5) ∷ []) × (replies_in (acks_of done) ≡ Deleted 5 ∷ [])
 worked_commands = (refl, refl)
 
--- no command comes of a line that asks for none, whatever is told
+-- a line that asks for no command gives none, whatever is reported
 asks_other : (request : Result Request Refusal) (command : Command) → request ≡ Ok Status → request ≡ Ok (Run command) → ⊥
 asks_other request command is other = absurd cc
 
@@ -50,7 +50,7 @@ pub status_asks_nothing : (now : ℕ) (got : AnsweredCommand) (outcome : LineOut
 unfolding request_of fields
 status_asks_nothing now got outcome is = asks_other (Ok Status) got.asked.0 refl is.0
 
--- nothing is shown for a `delete`, and it has no outcome of its own but a refusal
+-- a `delete` shows no bytes, and its only own outcome is a refusal
 pub delete_shows_nothing : (bytes : List ℕ) → IsOwnOutcome (request_of (codes "delete a")) (shown bytes) → ⊥
 unfolding request_of item_of_line fields
 delete_shows_nothing bytes own = own

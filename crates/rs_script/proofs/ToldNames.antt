@@ -1,4 +1,4 @@
--- The names that the outcomes of a script tell are lawful.
+-- The names in the outcomes of a script are lawful.
 use Rattle.std.proofs.Common.{◌≡◌, ◌⊎◌, true≢false, inl, inr, ℕ, Bool, true, false, not, List, [], ◌∷◌, filter, All, refl, sym, ◌∙◌, subst, cond, Option, Some, None, Result, Ok, Err, Vec, Global, IsErrOf, IsTrue}
 use Rattle.std.proofs.lemmas.List.Elements.{All-nil, All-cons, All-map, All-filter}
 use Rattle.rs_disk.specs.Medium.{DiskState, IsMedium}

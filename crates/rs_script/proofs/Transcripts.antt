@@ -19,7 +19,7 @@ fold_of-append : (s : Source) (commands more : List (Command × ℕ)) → fold_o
 fold_of-append s [] more = refl
 fold_of-append s (c ∷ commands) more = fold_of-append (state_after s (step s c.0 c.1)) commands more
 
--- each of them in the model
+-- the outcomes in the model
 abbrev outcomes_in : List (Answer Source) → List LineOutcome
 outcomes_in answers = map (λ (a : Answer Source). a.outcome) answers
 
@@ -64,7 +64,7 @@ module _ {D : Type 0} (device : D → DiskState) where
             ∙ ap (λ s. (statement_answer (model_state device old) statement).commands ++ commands_in (answers_of s statements)) same.session,
       )
 
-  -- where the model decides each outcome, a script does what the model does
+  -- if the model decides every outcome, a script does the same as the model
   pub script_same : ScriptsFollowTheModel device
   script_same old new input outcomes commands statements s h honest left is =
       let same = IsScript-once input s.0 statements s.1 is in

@@ -1,4 +1,4 @@
--- The turns of a script: each reads once, and takes what came.
+-- The turns of a script: every turn reads once, and takes the bytes that came.
 use Rattle.std.proofs.Common.{◌≡◌, ℕ, ◌+◌, ◌*◌, ◌≤◌, ◌^◌, List, [], ◌∷◌, ◌++◌, length, take, Option, IsTrue, false, sym, ap, ◌∙◌, append_assoc, append-nil, arith, subst, inl, inr}
 use Rattle.std.proofs.KnownBytes.{Consumes-trans, Appends-kept}
 use Rattle.std.proofs.lemmas.Grind.{flat_map-append}
@@ -19,11 +19,11 @@ use Rattle.rs_script.specs.Told.{NamesAreLawful, ScriptsDoStatements, ScriptsTel
 use Rattle.rs_script.proofs.ReaderCalls.{one_more, calls_more}
 use Rattle.rs_script.proofs.Steps.{Progress-whole, ran_of, broke_after, no_more}
 
--- where a script begins: from the moment 0 on
+-- the beginning of a script: from the moment 0 on
 abbrev pub from_start : {D W : Type 0} → Stored D → Watched W → Beginning D W
 from_start source writer = record { session = script_state source 0; writer = writer }
 
--- n reads gave these bytes, at most 65,536 each, and none failed
+-- n reads gave these bytes, at most 65,536 each, and no read failed
 pub record Reads {R : Type 0} (remaining : R → Option (List ℕ)) (first : Watched R) (n : ℕ) (reader : Watched R) (input : List ℕ) : Type 0 where
   pub took : Took remaining first reader input
   pub most : length input ≤ n * 65536
@@ -53,8 +53,8 @@ reads_within remaining first reader n input reads few = record {
   once = omega (arith, ap (λ f. f.all) reads.took.1);
 }
 
--- The bytes of n reads have been taken, and each read gave at least one byte. An end that had failed gives and takes
--- nothing.
+-- The bytes of n reads have been taken, and every read gave at least one byte. An end that had failed gives and takes
+-- no bytes.
 pub record Turned {D R W : Type 0} (device : D → DiskState) (remaining : R → Option (List ℕ)) (contents : W → Option (List ℕ)) (start : Stored D) (first : Watched R) (before : Watched W)
     (n : ℕ) (reader : Watched R) (here : Stand D W) : Type 0 where
   pub input : List ℕ
@@ -118,7 +118,7 @@ module _ {D R W : Type 0} (device : D → DiskState) (remaining : R → Option (
     read = read;
   }
 
--- what was told of the statements
+-- the reported outcomes of the statements
 module _ {D R W : Type 0} (device : D → DiskState) (remaining : R → Option (List ℕ)) (contents : W → Option (List ℕ)) (laws : ScriptsRecover device × ScriptsMakeWalks device)
     (doing : ScriptsDoStatements device × ScriptsTellNames device) (start : Stored D) (first reader : Watched R) (before after : Watched W) where
   Tells : Stored D → Type 0

@@ -1,4 +1,4 @@
--- Worked scripts: which events their statements are.
+-- Worked scripts: the events of their statements.
 use Rattle.std.proofs.Common.{◌≡◌, Bool, List, [], ◌∷◌, refl, inl, inr}
 use Rattle.std.specs.Prelude.{codes}
 use Rattle.rs_model.specs.State.{Source, start_of}
@@ -47,7 +47,7 @@ never_closed decides.TooManyResources is = cc
 never_closed decides.TooManyChanges is = cc
 never_closed decides.Exhausted is = cc
 
--- the publication may stand or not
+-- the publication may or may not have been applied
 pub worked_script : (stands : Bool)
     → IsWalkOf start 0 statements outcomes (delete ∷ Refused Publish ∷ Stopped Publish 5000 stands ∷ Refused Publish ∷ [])
 unfolding request_of item_of_line fields number_in

@@ -167,7 +167,7 @@ module _ {D : Type 0} (device : D → DiskState) (sound : (disk : D) → IsMediu
       let P : LineOutcome → Type 0 = λ outcome. LeavesWalk device s (FetchEvents s (body_path name) outcome) answer.session.source in
       subst P (sym r.outcome) (body_walk name r.result answer.session.source r.answers honest)
 
-  -- nothing changed, and this is no event
+  -- the source did not change, and this is no event
   still : (request : Result Request Refusal) (answer given : Answer (Stored D)) → answer ≡ given
       → StatementEvents s old.now request given.outcome [] → Holds device given.session.source s → Walk request answer
   unfolding Walk
@@ -211,7 +211,7 @@ module _ {D : Type 0} (device : D → DiskState) (sound : (disk : D) → IsMediu
   statement_walk (grouped first lines) has answer gives honest = answer_walk (request_by (grouped first lines)) (GroupTakesRoom lines) has answer gives honest
   statement_walk cut_off has answer gives honest = request_walk (request_by cut_off) has answer gives honest
 
--- A line to a closed source: the source stays closed, its disk holds the same, and the state of the walk stays.
+-- A line to a closed source: the source stays closed, the content of its disk stays, and the state of the walk stays.
 pub record Shut {D : Type 0} (device : D → DiskState) (old new : Stored D) (s : Source) (M : Kind) : Type 0 where
   pub events : List Event
   pub are : M events
@@ -224,7 +224,7 @@ module _ {D : Type 0} (device : D → DiskState) (refusing : ClosedCommandsAreRe
   ShutBy : Result Request Refusal → Answer (Stored D) → Type 0
   ShutBy request answer = Shut device old.source answer.session.source s (StatementEvents s old.now request answer.outcome)
 
-  -- nothing changed
+  -- the source did not change
   unmoved : (request : Result Request Refusal) (answer given : Answer (Stored D)) → answer ≡ given → given.session.source ≡ old.source
       → (events : List Event) → StatementEvents s old.now request given.outcome events → walk_of s events ≡ s → ShutBy request answer
   unfolding ShutBy

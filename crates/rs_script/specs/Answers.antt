@@ -1,4 +1,4 @@
--- The exact bytes of each answer.
+-- The exact bytes of every answer.
 use Rattle.std.specs.Prelude.{ℕ, List, [], ◌∷◌, ◌++◌, length, codes, flat_map}
 use Rattle.std.specs.Fmt.{decimal}
 use Rattle.rs_time.specs.Moment.{moment_text}
@@ -31,7 +31,7 @@ word_of BadGroup = codes "BadGroup"
 word_of NoSuchDocument = codes "NoSuchDocument"
 word_of (Source refusal) = refusal_word refusal
 
--- bytes, behind their number
+-- bytes, after their number
 abbrev pub shown_text : List ℕ → List ℕ
 shown_text bytes = (codes "bytes " ++ (decimal (length bytes) ++ codes "\n")) ++ (bytes ++ 10 ∷ [])
 
@@ -43,7 +43,7 @@ status_text s =
 abbrev pub damaged_line : List ℕ → List ℕ
 damaged_line name = codes "damaged " ++ (name ++ 10 ∷ [])
 
--- the damaged bodies, a line each, and the number of sound ones
+-- a line for every damaged body, and the number of sound bodies
 abbrev pub verified_text : List (List ℕ) → ℕ → List ℕ
 verified_text names sound = flat_map damaged_line names ++ (codes "verified " ++ (decimal sound ++ codes "\n"))
 

@@ -1,4 +1,4 @@
--- How a script ends, for its reader and its writer.
+-- The end of a script, for its reader and its writer.
 use Rattle.std.specs.Prelude.{◌≡◌, ◌⊎◌, ◌≤◌, ◌+◌, ◌*◌, ℕ, true, List, [], ◌++◌, length, Option}
 use Rattle.std.specs.Io.KnownBytes.{Consumes}
 use Rattle.rs_disk.specs.Medium.{DiskState}
@@ -23,7 +23,7 @@ pub record EndsWell {D : Type 0} (device : D → DiskState) (old new : Stored D)
   pub flushed : is_flushed ends.after ≡ true
 
 -- A read failed, and all answers were flushed before it; or 2^40 reads did not reach the end. The whole statements were
--- answered, and a part of one after them was not.
+-- answered; after them came at most a part of one, which was not.
 pub record StopsReading {D : Type 0} (device : D → DiskState) (old new : Stored D) (ends : Ends) : Type 0 where
   pub ran : Ran device old new
   pub part : List ℕ
@@ -31,15 +31,15 @@ pub record StopsReading {D : Type 0} (device : D → DiskState) (old new : Store
   pub wrote : Wrote bytes_of ends.before ends.after (output_of ran.outcomes)
   pub no_more : ReadsNoMore ends.left ends.rest ends.after (ran.input ++ part)
 
--- A call of the writer failed, and none of the reader. The statements so far are done; they came whole, or the input
--- had ended. A write failed within the last answer, behind the other ones; or a flush failed behind all answers.
+-- A call of the writer failed, and no call of the reader. The statements so far are done; they came whole, or the input
+-- had ended. A write failed within the last answer, after the other ones; or a flush failed after all answers.
 pub record StopsWriting {D : Type 0} (device : D → DiskState) (old new : Stored D) (ends : Ends) : Type 0 where
   pub ran : Ran device old new
   pub came : Came bytes_of ends.left ends.rest ran.input
   pub breaks : BreaksOff bytes_of ends.before ends.after ran.outcomes
   pub read : failures ends.rest ≡ failures ends.left
 
--- At most `turns` reads were made, of at most `size` bytes each, and none after one that failed.
+-- At most `turns` reads were made, of at most `size` bytes each, and no read after a failed one.
 pub record ReadsWithin (turns size : ℕ) (left rest : End) : Type 0 where
   pub gave : List ℕ
   pub came : Consumes (watched left) (watched rest) gave
@@ -47,8 +47,8 @@ pub record ReadsWithin (turns size : ℕ) (left rest : End) : Type 0 where
   pub reads : calls rest ≤ calls left + turns
   pub once : (failures rest).all ≤ (failures left).all + 1
 
--- The statements of a beginning of this input are done, up to one, and a write failed within its answer: the writer took
--- each answer before it whole. The statements came whole, or the input had ended.
+-- The statements at the start of this input are done, up to one, and a write failed within its answer: the writer took
+-- all earlier answers whole. The statements came whole, or the input had ended.
 pub record StopsWithin {D W : Type 0} (device : D → DiskState) (contents : W → Option (List ℕ)) (old new : Stored D) (before after : Watched W) (input : List ℕ) : Type 0 where
   pub ran : Ran device old new
   pub tail : List ℕ

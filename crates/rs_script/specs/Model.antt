@@ -27,7 +27,7 @@ stepped s command (Ok next) =
     record { outcome = replied next.1; commands = (command, s.now) ∷ []; session = record { source = next.0; now = s.now } }
 stepped s command (Err refusal) = unchanged s (refused (refusals.Source (named_as refusal)))
 
--- these bytes, or the refusal where there are none
+-- these bytes, or the refusal if there are no bytes
 abbrev pub shown_or : Refusal → Option (List ℕ) → LineOutcome
 shown_or refusal None = refused refusal
 shown_or refusal (Some bytes) = shown bytes
@@ -46,7 +46,7 @@ answer_to s (Ok Status) = unchanged s (counted (status_of s.source))
 answer_to s (Ok Verify) = unchanged s (verified (damaged_names s.source) (sound_count s.source))
 answer_to s (Err refusal) = unchanged s (refused refusal)
 
--- the answer of the model to a line: one past the limit is refused, whatever it says
+-- the answer of the model to a line: one past the limit is refused, whatever its content
 abbrev pub line_answer : ScriptState Source → List ℕ → Answer Source
 line_answer s line = if nat_lt line_limit (length line) then unchanged s (refused refusals.LongLine) else answer_to s (request_of line)
 

@@ -52,7 +52,7 @@ pub record ReadAnswers {D : Type 0} (device : D → DiskState) (old : ScriptStat
   pub commands : answer.commands ≡ []
   pub now : answer.session.now ≡ old.now
 
--- the outcome by the answer to `verify`, where `held` bodies are held: those that are not damaged are sound
+-- the outcome by the answer to `verify` with `held` bodies: those that are not damaged are sound
 abbrev pub verified_as : ℕ → Result (Vec (List ℕ) Global) stored.Refusal → LineOutcome
 verified_as held (Ok names) = verified names.items (held - length names.items)
 verified_as held (Err refusal) = refused (refusals.Source refusal)
@@ -81,11 +81,11 @@ AskedGives device old (Ok Status) answer = answer ≡ unchanged old (if_open old
 AskedGives device old (Ok Verify) answer = VerifyAnswers device old answer
 AskedGives device old (Err refusal) answer = answer ≡ unchanged old (refused refusal)
 
--- the outcomes of a request; or the statement takes memory, which was refused, and nothing changed
+-- the outcomes of a request; or the statement takes memory, which was refused, and the session stayed the same
 abbrev pub AnswerGives : {D : Type 0} → (D → DiskState) → ScriptState (Stored D) → Result Request Refusal → Type 0 → Answer (Stored D) → Type 0
 AnswerGives device old request Room answer = AskedGives device old request answer ⊎ (Room × (answer ≡ unchanged old (refused (refusals.Line fault.NoMemory))))
 
--- the possible outcomes of a line: one past the limit is refused, whatever it says
+-- the possible outcomes of a line: one past the limit is refused, whatever its content
 abbrev pub LineGives : {D : Type 0} → (D → DiskState) → ScriptState (Stored D) → List ℕ → Answer (Stored D) → Type 0
 LineGives device old line answer =
     ((line_limit < length line) × (answer ≡ unchanged old (refused refusals.LongLine)))
@@ -95,7 +95,7 @@ LineGives device old line answer =
 abbrev pub GroupGives : {D : Type 0} → (D → DiskState) → ScriptState (Stored D) → List (List ℕ) → Answer (Stored D) → Type 0
 GroupGives device old lines answer = AnswerGives device old (group_request (items_of_group lines)) (GroupTakesRoom lines) answer
 
--- the possible outcomes of a statement: a group that the end of the input cuts off is refused as such
+-- the possible outcomes of a statement: a group that the end of the input cuts off is refused
 abbrev pub StatementGives : {D : Type 0} → (D → DiskState) → ScriptState (Stored D) → Statement → Answer (Stored D) → Type 0
 StatementGives device old (single line) answer = LineGives device old line answer
 StatementGives device old (grouped first lines) answer = GroupGives device old lines answer

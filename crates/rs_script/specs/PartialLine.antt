@@ -1,4 +1,4 @@
--- What is kept of a line that is still coming.
+-- The kept part of a line that is still coming.
 use Rattle.std.specs.Prelude.{◌≡◌, ℕ, ◌+◌, ◌-◌, ◌<◌, ◌≤◌, false, List, length, slice_index, Err, None}
 use Rattle.rs_script.specs.declared.line.Kept.{Kept}
 use Rattle.rs_script.specs.declared.line.Kept.TheVariants as kept
@@ -30,7 +30,7 @@ KeepsLineAs line kept.TooLong raw = line_limit + 1 < length raw
 abbrev pub KeepsLine : Line → List ℕ → Type 0
 KeepsLine line raw = KeepsLineAs line line.kept raw
 
--- the line asks for nothing, by itself and in a group, and begins no group
+-- the line is no request by itself and no item in a group, and begins no group
 pub record AsksNothing (line : List ℕ) : Type 0 where
   pub alone : request_of line ≡ Err (refusals.Line fault.BadLine)
   pub within : item_of_line line ≡ Err fault.BadLine

@@ -1,4 +1,4 @@
--- How far a script has come.
+-- The progress of a script.
 use Rattle.std.specs.Prelude.{◌≡◌, ◌≤◌, ◌+◌, ◌^◌, ℕ, ◌⊎◌, true, List, [], ◌∷◌, ◌++◌, length, map, flat_map, All, Option}
 use Rattle.std.specs.Io.KnownBytes.{Consumes, IsAtEnd}
 use Rattle.rs_disk.specs.Medium.{DiskState}
@@ -26,7 +26,7 @@ pub record HasAnswer {S : Type 0} (Gives : Answer S → Type 0) (new : ScriptSta
   pub session_is : answer.session ≡ new
   pub written : Written (outcome_text answer.outcome)
 
--- a script between two lines: its session, and what is kept of a group
+-- a script between two lines: its session, and the kept lines of a group
 pub record Between (D : Type 0) : Type 0 where
   pub session : ScriptState (Stored D)
   pub group : Option Taking
@@ -34,7 +34,7 @@ pub record Between (D : Type 0) : Type 0 where
 abbrev pub between : {D : Type 0} → Stored D → BetweenLines → Between D
 between source lines = record { session = script_state source lines.moment; group = lines.group }
 
--- these lines were taken from this session on: whole statements, which were answered, and then those that are kept of a
+-- these lines were taken from this session on: whole statements, which were answered, and then the kept lines of a
 -- group
 pub record LinesTaken {D : Type 0} (device : D → DiskState) (start : ScriptState (Stored D)) (lines : List (List ℕ)) (here : Between D) : Type 0 where
   pub whole : List Statement
@@ -46,8 +46,8 @@ pub record LinesTaken {D : Type 0} (device : D → DiskState) (start : ScriptSta
   pub kept : KeepsGroup here.group part
   pub answered : Transcript device start whole outcomes commands here.session
 
--- one more line was taken, behind those that are kept of a group: one statement was answered, or none, and the text of
--- the answer has this property
+-- one more line was taken, after the kept lines of a group: at most one statement was answered, and the text of the
+-- answer has this property
 abbrev pub TakesLine : {D : Type 0} → (D → DiskState) → Between D → List ℕ → Between D → (List ℕ → Type 0) → Type 0
 TakesLine device old line new Written =
     (begun : List (List ℕ)) → KeepsGroup old.group begun
@@ -58,7 +58,7 @@ pub record Beginning (D W : Type 0) : Type 0 where
   pub session : ScriptState (Stored D)
   pub writer : Watched W
 
--- a script between two reads: what is kept of its input, its source, and its writer
+-- a script between two reads: the kept part of its input, its source, and its writer
 pub record Stand (D W : Type 0) : Type 0 where
   pub pending : Pending
   pub source : Stored D
@@ -73,7 +73,7 @@ session_at here = script_state here.source here.pending.between.moment
 abbrev pub between_at : {D W : Type 0} → Stand D W → Between D
 between_at here = between here.source here.pending.between
 
--- these bytes came: whole statements, whose answers were written, and then what is kept of the next one
+-- these bytes came: whole statements, whose answers were written, and then the kept part of the next one
 pub record Progress {D W : Type 0} (device : D → DiskState) (contents : W → Option (List ℕ)) (begin : Beginning D W) (input : List ℕ) (here : Stand D W) : Type 0 where
   pub raws : List (List ℕ)
   pub rest : List ℕ
@@ -82,7 +82,7 @@ pub record Progress {D W : Type 0} (device : D → DiskState) (contents : W → 
   pub taken : LinesTaken device begin.session (map cut_return raws) (between_at here)
   pub written : Wrote contents begin.writer here.writer (output_of taken.outcomes)
 
--- this whole input came: all its statements are answered, except a group that it ends within
+-- this whole input came: all its statements are answered, except a group within which it ends
 pub record Ended {D W : Type 0} (device : D → DiskState) (contents : W → Option (List ℕ)) (begin : Beginning D W) (input : List ℕ) (here : Stand D W) : Type 0 where
   pub raws : List (List ℕ)
   pub rest : List ℕ
@@ -95,32 +95,32 @@ abbrev pub Answered : {D W : Type 0} → (D → DiskState) → (W → Option (Li
 Answered device contents begin input here = (outcomes : List LineOutcome) × (commands : List (Command × ℕ))
     × ScriptGives device begin.session input outcomes commands (session_at here) × BreaksLast contents begin.writer here.writer outcomes
 
--- from one stand a script got to the other by these bytes
+-- a script got from one point to the other by these bytes
 abbrev pub ComesTo : {D W : Type 0} → (D → DiskState) → (W → Option (List ℕ)) → Stand D W → Stand D W → List ℕ → Type 0
 ComesTo {D} {W} device contents old new bytes =
     (begin : Beginning D W) (input : List ℕ) → Progress device contents begin input old → Progress device contents begin (input ++ bytes) new
 
--- from one stand a script got to the other by these bytes: the statements up to their end are whole, and they are
+-- a script got from one point to the other by these bytes: the statements up to their end are whole, and they are
 -- answered, but a write failed within the last answer
 abbrev pub StopsBy : {D W : Type 0} → (D → DiskState) → (W → Option (List ℕ)) → Stand D W → Stand D W → List ℕ → Type 0
 StopsBy {D} {W} device contents old new bytes =
     (begin : Beginning D W) (input : List ℕ) → Progress device contents begin input old
     → Answered device contents begin (input ++ bytes) new × AreWholeStatements (input ++ bytes)
 
--- from one stand a script got to the other by its last line
+-- a script got from one point to the other by its last line
 abbrev pub EndsLine : {D W : Type 0} → (D → DiskState) → (W → Option (List ℕ)) → Stand D W → Stand D W → Type 0
 EndsLine {D} {W} device contents old new =
     (begin : Beginning D W) (input : List ℕ) → Progress device contents begin input old → Ended device contents begin input new
 
--- from one stand a script ended at the other: all its statements are answered, and the answers are written
+-- a script got from one point to its end at the other: all its statements are answered, and the answers are written
 abbrev pub EndsAt : {D W : Type 0} → (D → DiskState) → (W → Option (List ℕ)) → Stand D W → Stand D W → Type 0
 EndsAt {D} {W} device contents old new =
     (begin : Beginning D W) (input : List ℕ) → Progress device contents begin input old
     → (outcomes : List LineOutcome) × (commands : List (Command × ℕ))
     × ScriptGives device begin.session input outcomes commands (session_at new) × Wrote contents begin.writer new.writer (output_of outcomes)
 
--- from one stand a script ended at the other: all its statements are answered, but a write failed within the last
--- answer
+-- a script got from one point to its end at the other: all its statements are answered, but a write failed within the
+-- last answer
 abbrev pub StopsAt : {D W : Type 0} → (D → DiskState) → (W → Option (List ℕ)) → Stand D W → Stand D W → Type 0
 StopsAt {D} {W} device contents old new =
     (begin : Beginning D W) (input : List ℕ) → Progress device contents begin input old → Answered device contents begin input new
@@ -129,13 +129,13 @@ StopsAt {D} {W} device contents old new =
 abbrev pub Gave : Option (List ℕ) → Option (List ℕ) → List ℕ → Type 0
 Gave old new input = (tail : List ℕ) × Consumes old new (input ++ tail)
 
--- the reader gave whole statements, and then a tail that no statement used; or it gave this input, and nothing is left
+-- the reader gave whole statements, and then a tail that no statement used; or it gave this input, and no byte is left
 abbrev pub Came : {R : Type 0} → (R → Option (List ℕ)) → Watched R → Watched R → List ℕ → Type 0
 Came remaining old new input =
     (Gave (remaining (watched old)) (remaining (watched new)) input × AreWholeStatements input)
     ⊎ (Consumes (remaining (watched old)) (remaining (watched new)) input × IsAtEnd (remaining (watched new)))
 
--- the reader gave this input, no call of it failed, and nothing is left
+-- the reader gave this input, no call of it failed, and no byte is left
 abbrev pub TookAll : {R : Type 0} → (R → Option (List ℕ)) → Watched R → Watched R → List ℕ → Type 0
 TookAll remaining old new input = Took remaining old new input × IsAtEnd (remaining (watched new))
 
@@ -148,7 +148,7 @@ GaveStatements remaining old new input part =
 abbrev pub IsCalled : {T : Type 0} → ℕ → Watched T → Watched T → Type 0
 IsCalled count old new = (calls new ≡ calls old + count) ⊎ (2 ^ 64 ≤ calls new + 1)
 
--- Nothing more is read: the reader failed, and everything written before was flushed; or 2^40 reads were made, and each
--- gave at least one byte.
+-- No more is read: the reader failed, and everything written before was flushed; or 2^40 reads were made, and each gave
+-- at least one byte.
 abbrev pub ReadsNoMore : {R W : Type 0} → Watched R → Watched R → Watched W → List ℕ → Type 0
 ReadsNoMore old new writer input = (EndFailed old new × (is_flushed writer ≡ true)) ⊎ (IsCalled (2 ^ 40) old new × (2 ^ 40 ≤ length input))

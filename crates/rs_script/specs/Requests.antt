@@ -1,4 +1,4 @@
--- What a line of a script asks for.
+-- The request in a line of a script.
 use Rattle.std.specs.Prelude.{ℕ, Bool, ◌||◌, nat_eq, if◌then◌else◌, List, [], ◌∷◌, drop, codes, bytes_eq, Option, Some, None, Result, Ok, Err}
 use Rattle.std.specs.List.{list_any, starts_with}
 use Rattle.rs_time.specs.Moment.{moment_of}
@@ -18,7 +18,7 @@ use Rattle.rs_script.specs.declared.refusal.Refusal.TheVariants.{Line, BadMoment
 use Rattle.rs_script.specs.declared.request.Request.{Request}
 use Rattle.rs_script.specs.declared.request.Request.TheVariants.{At, Run, Document, Body, Status, Verify}
 
--- this request, or the refusal where there is none
+-- this request, or the refusal if there is no request
 abbrev pub asked : Option Request → Refusal → Result Request Refusal
 asked None refusal = Err refusal
 asked (Some request) refusal = Ok request
@@ -61,7 +61,7 @@ request_alone word =
     else if bytes_eq word (codes "verify") then Ok Verify
     else Err (Line fault.BadLine)
 
--- a line of two fields: a `group` by itself asks for nothing
+-- a line of two fields: a `group` by itself is no request
 abbrev pub request_with : List ℕ → List ℕ → List ℕ → Result Request Refusal
 request_with line word argument =
     if bytes_eq word (codes "at") then at_request argument
@@ -69,13 +69,13 @@ request_with line word argument =
     else if bytes_eq word (codes "group") then Err BadGroup
     else item_request (item_of_line line)
 
--- what a line asks for by its fields: a line of any other form is an item or asks for nothing
+-- the request in a line, by its fields: a line of any other form is an item or no request
 abbrev pub of_fields : List ℕ → List (List ℕ) → Result Request Refusal
 of_fields line (word ∷ []) = request_alone word
 of_fields line (word ∷ argument ∷ []) = request_with line word argument
 of_fields line _ = item_request (item_of_line line)
 
--- what a line asks for by itself, or why it is refused before the source sees it
+-- the request in a line by itself, or the reason why it is refused before the source sees it
 unfoldable pub request_of : List ℕ → Result Request Refusal
 request_of line = of_fields line (fields 2 line)
 

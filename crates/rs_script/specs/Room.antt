@@ -1,4 +1,4 @@
--- Which statements take memory, which may be refused.
+-- The statements that take memory, which may be refused.
 use Rattle.std.specs.Prelude.{◌≡◌, ◌⊎◌, ℕ, ◌≤◌, List, ◌∷◌, ◌++◌, length, IsOk, IsTrue}
 use Rattle.rs_script.specs.Requests.{begins_item}
 use Rattle.rs_script.specs.Statements.{items_of_group}
@@ -7,7 +7,7 @@ use Rattle.rs_script.specs.Statements.{items_of_group}
 abbrev pub TakesRoom : List ℕ → Type 0
 TakesRoom line = (9 ≤ length line) ⊎ IsTrue (begins_item line)
 
--- one of these lines of a group takes memory, and each line before it is an item
+-- one of these lines of a group takes memory, and all lines before it are items
 pub record GroupTakesRoom (lines : List (List ℕ)) : Type 0 where
   pub before : List (List ℕ)
   pub line : List ℕ

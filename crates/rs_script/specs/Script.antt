@@ -16,7 +16,7 @@ use Rattle.rs_script.specs.Statements.{Statement, IsScript}
 use Rattle.rs_script.specs.Walked.{ScriptMakesWalk}
 use Rattle.rs_script.specs.Session.{ScriptState, script_state, LineOutcome, refused, Answer}
 
--- the statements are answered one after another: the outcome of each, the commands that count, and the state after them
+-- the statements are answered one after another: their outcomes, the counted commands, and the state after them
 abbrev pub Transcript : {D : Type 0} → (D → DiskState) → ScriptState (Stored D) → List Statement → List LineOutcome → List (Command × ℕ) → ScriptState (Stored D) → Type 0
 Transcript device old [] outcomes commands new = (outcomes ≡ []) × (commands ≡ []) × (new ≡ old)
 Transcript {D} device old (statement ∷ statements) outcomes commands new =
@@ -29,9 +29,9 @@ abbrev pub ScriptGives : {D : Type 0} → (D → DiskState) → ScriptState (Sto
 ScriptGives device old input outcomes commands new =
     (statements : List Statement) × IsScript input statements × Transcript device old statements outcomes commands new
 
--- What ran on a source, from the moment 0 on: the input, the outcome of each of its statements, the commands that
--- count, and the moment of the next command. Whenever the disk stops, it holds the state after the first of these
--- commands. The script makes a walk, whose fetches give what was shown.
+-- A script that ran on a source, from the moment 0 on: the input, the outcomes of its statements, the counted commands,
+-- and the moment of the next command. Whenever the disk stops, it holds the state after the first of these commands.
+-- The script makes a walk, whose fetches give the shown bytes.
 pub record Ran {D : Type 0} (device : D → DiskState) (old new : Stored D) : Type 0 where
   pub input : List ℕ
   pub outcomes : List LineOutcome
@@ -41,22 +41,22 @@ pub record Ran {D : Type 0} (device : D → DiskState) (old new : Stored D) : Ty
   pub recovers : Recovers device old commands new
   pub walks : ScriptMakesWalk device old 0 input outcomes new
 
--- a script is a run of its commands that count
+-- a script is a run of its counted commands
 abbrev pub ScriptsAreRuns : {D : Type 0} → (D → DiskState) → Type 0
 ScriptsAreRuns {D} device = (old new : ScriptState (Stored D)) (input : List ℕ) (outcomes : List LineOutcome) (commands : List (Command × ℕ))
     → ScriptGives device old input outcomes commands new → IsRunOf device old.source commands new.source
 
--- whenever the disk stops within a script, it holds the state after the first commands that count
+-- whenever the disk stops within a script, it holds the state after the first counted commands
 abbrev pub ScriptsRecover : {D : Type 0} → (D → DiskState) → Type 0
 ScriptsRecover {D} device = (old new : ScriptState (Stored D)) (input : List ℕ) (outcomes : List LineOutcome) (commands : List (Command × ℕ))
     → ScriptGives device old input outcomes commands new → Recovers device old.source commands new.source
 
--- each script makes a walk
+-- every script makes a walk
 abbrev pub ScriptsMakeWalks : {D : Type 0} → (D → DiskState) → Type 0
 ScriptsMakeWalks {D} device = (old new : ScriptState (Stored D)) (input : List ℕ) (outcomes : List LineOutcome) (commands : List (Command × ℕ))
     → ScriptGives device old input outcomes commands new → ScriptMakesWalk device old.source old.now input outcomes new.source
 
--- the refusals of a source that the model does not decide, other than for want of a generation
+-- the refusals of a source that the model does not decide, other than for lack of a generation
 abbrev pub IsOfMachine : stored.Refusal → Type 0
 IsOfMachine machine.Closed = Unit {0}
 IsOfMachine machine.Full = Unit {0}
@@ -71,7 +71,7 @@ IsMachine (refused (refusals.Line fault.NoMemory)) = Unit {0}
 IsMachine (refused (refusals.Source refusal)) = IsOfMachine refusal
 IsMachine outcome = ⊥
 
--- the model decides each outcome
+-- the model decides every outcome
 abbrev pub AreDecided : List LineOutcome → Type 0
 AreDecided outcomes = All (λ outcome. ¬ IsMachine outcome) outcomes
 
@@ -79,7 +79,7 @@ AreDecided outcomes = All (λ outcome. ¬ IsMachine outcome) outcomes
 abbrev pub model_state : {D : Type 0} → (D → DiskState) → ScriptState (Stored D) → ScriptState Source
 model_state device s = script_state (state_of device s.source) s.now
 
--- where no refusal is the machine's, generations are left and the device has followed the model, each statement of a
+-- if no refusal is the machine's, generations are left and the device has followed the model, every statement of a
 -- script is answered as the model answers it
 abbrev pub ScriptsFollowTheModel : {D : Type 0} → (D → DiskState) → Type 0
 ScriptsFollowTheModel {D} device = (old new : ScriptState (Stored D)) (input : List ℕ) (outcomes : List LineOutcome) (commands : List (Command × ℕ))
@@ -88,7 +88,7 @@ ScriptsFollowTheModel {D} device = (old new : ScriptState (Stored D)) (input : L
     → (outcomes ≡ map (λ a. a.outcome) (answers_of (model_state device old) statements))
     × (commands ≡ flat_map (λ a. a.commands) (answers_of (model_state device old) statements))
 
--- the commands that count in a script make the state of its source, unless the source is closed
+-- the counted commands of a script make the state of its source, unless the source is closed
 abbrev pub ScriptsTellTheFold : {D : Type 0} → (D → DiskState) → Type 0
 ScriptsTellTheFold {D} device = (old new : ScriptState (Stored D)) (input : List ℕ) (outcomes : List LineOutcome) (commands : List (Command × ℕ))
     → ScriptGives device old input outcomes commands new → new.source.is_closed ≡ false → state_of device new.source ≡ fold_of (state_of device old.source) commands

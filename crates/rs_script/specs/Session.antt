@@ -28,12 +28,12 @@ pub data LineOutcome : Type 0 where
   -- the statement is refused
   refused : Refusal → LineOutcome
 
--- the outcome of a statement, the command that counts with its moment (one or none), and the state after it
+-- the outcome of a statement, the counted command with its moment (at most one), and the state after it
 pub record Answer (S : Type 0) : Type 0 where
   pub outcome : LineOutcome
   pub commands : List (Command × ℕ)
   pub session : ScriptState S
 
--- nothing changes
+-- the state stays the same
 abbrev pub unchanged : {S : Type 0} → ScriptState S → LineOutcome → Answer S
 unchanged s outcome = record { outcome = outcome; commands = []; session = s }

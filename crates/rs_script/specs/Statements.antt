@@ -1,4 +1,4 @@
--- The statements of a script: a line by itself, or a group with its lines. Each is answered once.
+-- The statements of a script: a line by itself, or a group with its lines. Every statement is answered once.
 use Rattle.std.specs.Prelude.{◌≡◌, ◌<◌, ℕ, nat_eq, nat_le, nat_lt, ◌&&◌, if◌then◌else◌, List, [], ◌∷◌, ◌++◌, length, drop, map, flat_map, All, codes, Option, Some, None, Result, Ok, Err}
 use Rattle.std.specs.List.{starts_with}
 use Rattle.rs_record.specs.Decimal.{number_in}
@@ -28,7 +28,7 @@ pub data Statement : Type 0 where
   single : List ℕ → Statement
   -- the line that begins a group, and the lines of the group
   grouped : List ℕ → List (List ℕ) → Statement
-  -- a group that the input ends within, whatever its lines were
+  -- a group within which the input ends, whatever its lines were
   cut_off : Statement
 
 abbrev pub statement_lines : Statement → List (List ℕ)
@@ -53,7 +53,7 @@ pub record Groups (lines : List (List ℕ)) (whole : List Statement) (part : Lis
   pub each : All IsWholeStatement whole
   pub partial : IsPart part
 
--- the group that the input ends within, if it does
+-- the group within which the input ends, if there is one
 abbrev pub last_statement : List (List ℕ) → List Statement
 last_statement [] = []
 last_statement (first ∷ lines) = cut_off ∷ []
@@ -82,7 +82,7 @@ abbrev pub or_refused : Result Item ItemFault → Result Item Refusal
 or_refused (Ok item) = Ok item
 or_refused (Err why) = Err (Line why)
 
--- the item of a line of a group: a line past the limit is refused, whatever it says
+-- the item of a line of a group: a line past the limit is refused, whatever its content
 abbrev pub grouped_item : List ℕ → Result Item Refusal
 grouped_item line = if nat_lt line_limit (length line) then Err LongLine else or_refused (item_of_line line)
 
@@ -100,7 +100,7 @@ abbrev pub group_request : Result (List Item) Refusal → Result Request Refusal
 group_request (Err refusal) = Err refusal
 group_request (Ok items) = Ok (Run (Group items))
 
--- what a statement asks for: a group asks for all its items at once
+-- the request of a statement: a group asks for all its items at once
 abbrev pub request_by : Statement → Result Request Refusal
 request_by (single line) = request_of line
 request_by (grouped first lines) = group_request (items_of_group lines)

@@ -1,4 +1,4 @@
--- What a script has answered when the disk stops within it.
+-- The answers of a script when the disk stops within it.
 use Rattle.std.specs.Prelude.{◌≡◌, ◌≤◌, ℕ, nat_le, if◌then◌else◌, List, [], ◌∷◌, ◌++◌, length, flat_map}
 use Rattle.rs_disk.specs.Medium.{DiskState}
 use Rattle.rs_disk.specs.Leaves.{Leaves}
@@ -22,15 +22,15 @@ abbrev pub BeginsWithReply : List LineOutcome → Type 0
 BeginsWithReply [] = Unit {0}
 BeginsWithReply (outcome ∷ outcomes) = (reply : Reply) × (outcome ≡ replied reply)
 
--- The disk of a script stopped after m calls and left this image. Its commands were answered so, and its statements have these
--- outcomes.
--- `first`, `later`, `next`: the outcomes before the first reply that was not acknowledged then, and all from that one on. The answers
--- to the first ones are all that may have been written by then. (No clause orders the calls of the writer and those of the disk. But a
--- reply that is written before its commit would be false where the last sync fails, and `in_turn` of `TellsStatements` holds there too.
--- The order itself is tested.)
+-- The disk of a script stopped after m calls and left this image. Its commands have these answers, and its statements
+-- these outcomes.
+-- `first`, `later`, `next`: the outcomes before the first reply that was not acknowledged then, and all from that one
+-- on. Only the answers to the first ones may have been written by then. (No clause orders the calls of the writer and
+-- those of the disk. But a reply that is written before its commit would be false if the last sync fails, and `in_turn`
+-- of `TellsStatements` holds there too. The order itself is tested.)
 -- `by_then`: the replies in these answers are exactly those that were acknowledged then.
--- `kept`, `each_kept`: the image represents what the first commands that count make, and each command with a reply in these answers
--- is one of them.
+-- `kept`, `each_kept`: the image represents the state after the first counted commands, which include every command
+-- with a reply in these answers.
 pub record SplitAtStop (s : Source) (commands : List (Command × ℕ)) (acks : List Ack) (outcomes : List LineOutcome) (m : ℕ) (image : List ℕ) : Type 0 where
   pub first : List LineOutcome
   pub later : List LineOutcome
@@ -40,7 +40,7 @@ pub record SplitAtStop (s : Source) (commands : List (Command × ℕ)) (acks : L
   pub kept : StandsForPrefix s commands acks m image
   pub each_kept : length (flat_map line_reply first) ≤ kept.j
 
--- A script did these statements, and its source held a state. Each stop meanwhile splits their outcomes.
+-- A script did these statements, and its source held a state. Every stop meanwhile splits their outcomes.
 abbrev pub ScriptsSplit : {D : Type 0} → (D → DiskState) → Type 0
 ScriptsSplit {D} device = (old new : Stored D) (done : List DoneStatement) (s : Source)
     → AreDone 0 done → HasAnswered device old (commands_of done) (acks_of done) new → Holds device old s

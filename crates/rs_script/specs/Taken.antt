@@ -1,4 +1,4 @@
--- What is kept of a group that lacks lines.
+-- The kept part of a group that lacks lines.
 use Rattle.std.specs.Prelude.{◌≡◌, ◌⊎◌, ℕ, ◌+◌, List, [], ◌∷◌, length, Option, Some, None, Result, Ok, Err, Vec}
 use Rattle.std.specs.Global.{Global}
 use Rattle.rs_model.specs.declared.command.Item.{Item}

@@ -1,4 +1,4 @@
--- What a script tells of its statements, and which commands its source got for them.
+-- The outcomes that a script reports for its statements, and the commands that its source got for them.
 use Rattle.std.specs.Prelude.{◌≡◌, ℕ, List, [], ◌∷◌, ◌++◌, map, flat_map, All, IsTrue, Option, Some, None, Result, Ok}
 use Rattle.std.specs.Io.KnownBytes.{Appends}
 use Rattle.rs_disk.specs.Medium.{DiskState}
@@ -22,7 +22,7 @@ use Rattle.rs_script.specs.Script.{ScriptGives}
 use Rattle.rs_script.specs.Session.{ScriptState, LineOutcome, moment_set, replied, shown, counted, verified, refused}
 use Rattle.rs_script.specs.Statements.{Statement, request_by, IsScript}
 
--- the reply in the outcome of a statement, where the source accepted a command
+-- the reply in the outcome of a statement, if the source accepted a command
 abbrev pub line_reply : LineOutcome → List Reply
 line_reply (replied reply) = reply ∷ []
 line_reply outcome = []
@@ -32,13 +32,13 @@ abbrev pub NamesAreLawful : LineOutcome → Type 0
 NamesAreLawful (verified names sound) = All (λ name. IsTrue (is_name name)) names
 NamesAreLawful outcome = Unit {0}
 
--- A statement that is done, the command that the source got for it, if it got one, and the outcome that is told.
+-- A statement that is done, the command that the source got for it, if it got one, and the reported outcome.
 pub record DoneStatement : Type 0 where
   pub statement : Statement
   pub got : Option AnsweredCommand
   pub outcome : LineOutcome
 
--- Without a command a request is refused, or gets what it asks for: a moment, bytes, counts or names. None of these is a reply.
+-- Without a command a request is refused, or gets the requested moment, bytes, counts or names, but no reply.
 abbrev pub IsOwnOutcome : Result Request Refusal → LineOutcome → Type 0
 IsOwnOutcome request (refused refusal) = Unit {0}
 IsOwnOutcome (Ok (At t)) moment_set = Unit {0}
@@ -48,13 +48,13 @@ IsOwnOutcome (Ok Status) (counted status) = Unit {0}
 IsOwnOutcome (Ok Verify) (verified names sound) = Unit {0}
 IsOwnOutcome request outcome = ⊥
 
--- Where the source got a command for a statement, the statement asks for this command, which came at the moment of the script, and its
--- answer is the outcome. Where the source got none, the outcome is the statement's own.
+-- If the source got a command for a statement, the statement asks for this command, which came at the moment of the
+-- script, and its answer is the outcome. If the source got no command, the outcome is the statement's own.
 abbrev pub IsStatementOutcome : Result Request Refusal → ℕ → Option AnsweredCommand → LineOutcome → Type 0
 IsStatementOutcome request now None outcome = IsOwnOutcome request outcome
 IsStatementOutcome request now (Some got) outcome = (request ≡ Ok (Run got.asked.0)) × (got.asked.1 ≡ now) × (outcome ≡ outcome_of_reply got.ack.reply)
 
--- the moment of a script behind a statement with this outcome
+-- the moment of a script after a statement with this outcome
 abbrev pub moment_behind : Result Request Refusal → ℕ → LineOutcome → ℕ
 moment_behind (Ok (At t)) now moment_set = t
 moment_behind request now outcome = now
@@ -80,12 +80,12 @@ abbrev pub acks_of : List DoneStatement → List Ack
 acks_of done = flat_map (λ d. ack_of d.got) done
 
 -- Statements of a script are done, and their outcomes were written, the last of them perhaps in part.
--- `input`, `came`, `cut`: what came of the script are these statements, each of them once.
--- `in_turn`, `done_so`: the source got one command at most for each statement, the one that it asks for, and answered these commands
--- in their order, and no others. Each answer is the outcome that is told. This holds on every disk, also on one whose last sync
--- fails.
--- `named`: where the source held a state, and its device has followed the model, each name that is told is lawful. So it has no
--- line feed, and passes for no reply.
+-- `input`, `came`, `cut`: the part of the script that came has exactly these statements, each of them once.
+-- `in_turn`, `done_so`: the source got at most one command for each statement, the one that it asks for, and answered
+-- these commands in their order, and no others. Every answer is the reported outcome. This holds on every disk, also on
+-- one whose last sync fails.
+-- `named`: if the source held a state, and its device has followed the model, every reported name is lawful. So it has
+-- no line feed, and passes for no reply.
 pub record TellsStatements {D : Type 0} (device : D → DiskState) (old new : Stored D) (ends : Ends) : Type 0 where
   pub done : List DoneStatement
   pub input : List ℕ
@@ -112,7 +112,7 @@ abbrev pub ScriptsDoStatements : {D : Type 0} → (D → DiskState) → Type 0
 ScriptsDoStatements {D} device = (old new : ScriptState (Stored D)) (input : List ℕ) (outcomes : List LineOutcome) (commands : List (Command × ℕ))
     → ScriptGives device old input outcomes commands new → DoesStatements device old.source new.source input old.now outcomes
 
--- the names that a script tells are lawful, where its source held a state and the device has followed the model
+-- the names that a script reports are lawful, if its source held a state and the device has followed the model
 abbrev pub ScriptsTellNames : {D : Type 0} → (D → DiskState) → Type 0
 ScriptsTellNames {D} device = (old new : ScriptState (Stored D)) (input : List ℕ) (outcomes : List LineOutcome) (commands : List (Command × ℕ))
     → ScriptGives device old input outcomes commands new → (s : Source) → Holds device old.source s → IsTrue (device new.source.disk).honest

@@ -20,32 +20,32 @@ use Rattle.rs_script.specs.Statements.{Statement, IsScript, request_by}
 use Rattle.rs_script.specs.Session.{LineOutcome, moment_set, replied, shown, refused}
 
 -- The event of a statement that asks for a command, by its outcome. A refused statement gives the source no command,
--- and has no event. Where there was no memory for it, its command is refused.
+-- and has no event. If there was no memory for it, its command is refused.
 abbrev pub RunStatementEvents : Source → Command → ℕ → LineOutcome → List Event → Type 0
 RunStatementEvents s command now (replied reply) events = CommandEvents s command now (Ok reply) events
 RunStatementEvents s command now (refused (refusals.Source refusal)) events = CommandEvents s command now (Err refusal) events
 RunStatementEvents s command now (refused (refusals.Line fault.NoMemory)) events = events ≡ Refused command ∷ []
 RunStatementEvents s command now outcome events = events ≡ []
 
--- what is shown is fetched, the bytes that are answered at its path; otherwise there is no fetch
+-- shown bytes are a fetch, and they are those answered at the path; otherwise there is no fetch
 abbrev pub FetchEvents : Source → List ℕ → LineOutcome → List Event → Type 0
 FetchEvents s path (shown bytes) events = (answer s path ≡ Some bytes) × (events ≡ Fetch ∷ [])
 FetchEvents s path outcome events = events ≡ []
 
--- the event of a statement that asks for this, in a state and at a moment, or none
+-- the event of a statement with this request, in a state and at a moment, or no event
 abbrev pub StatementEvents : Source → ℕ → Result Request Refusal → LineOutcome → List Event → Type 0
 StatementEvents s now (Ok (Run command)) outcome events = RunStatementEvents s command now outcome events
 StatementEvents s now (Ok (Document doc)) outcome events = FetchEvents s (path_of doc) outcome events
 StatementEvents s now (Ok (Body name)) outcome events = FetchEvents s (body_path name) outcome events
 StatementEvents s now request outcome events = events ≡ []
 
--- the moment after a statement that asks for this
+-- the moment after a statement with this request
 abbrev pub now_after : ℕ → Result Request Refusal → LineOutcome → ℕ
 now_after now (Ok (At t)) moment_set = t
 now_after now request outcome = now
 
--- The statements with these outcomes are these events in their order, from a state and a moment on. Each event comes in
--- the state after the events before it.
+-- The statements with these outcomes are these events in their order, from a state and a moment on. Every event comes
+-- in the state after the events before it.
 abbrev pub IsWalkOf : Source → ℕ → List Statement → List LineOutcome → List Event → Type 0
 IsWalkOf s now [] [] events = events ≡ []
 IsWalkOf s now (statement ∷ statements) (outcome ∷ outcomes) events =
@@ -59,7 +59,7 @@ abbrev pub IsScriptWalk : Source → ℕ → List ℕ → List LineOutcome → L
 IsScriptWalk s now input outcomes events =
     (statements : List Statement) × IsScript input statements × IsWalkOf s now statements outcomes events
 
--- the source held a state, and its device has followed the model: then the script leaves a walk of the events of its
+-- if the source held a state, and its device has followed the model, the script leaves a walk of the events of its
 -- statements
 abbrev pub ScriptMakesWalk : {D : Type 0} → (D → DiskState) → Stored D → ℕ → List ℕ → List LineOutcome → Stored D → Type 0
 ScriptMakesWalk device old now input outcomes new =

@@ -16,7 +16,7 @@ use rs_store::Status;
 use rs_time::Moment;
 use std::io::Write;
 
-/// The word of a refusal, which follows `refused ` in an answer.
+/// Returns the word of a refusal, which follows `refused ` in an answer.
 fn name_of(refusal: Refusal) -> &'static str
     ensures { result.now ≡ word_of refusal }
 {
@@ -110,7 +110,7 @@ fn write_damaged_name<W: Write>(name: &Name, writer: &mut Watched<W>) -> Result<
     writer.put_all(&[b"damaged ", name.bytes(), b"\n"])
 }
 
-/// Writes `damaged NAME` and the end of the line for each name.
+/// Writes `damaged NAME` and the end of the line for every name.
 fn write_damaged<W: Write>(names: &[Name], writer: &mut Watched<W>) -> Result<(), WriteFault>
     ensures ok { OnOk result (Wrote W.contents writer.old writer.new
         (flat_map damaged_line names.now)) }

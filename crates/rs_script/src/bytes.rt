@@ -3,7 +3,7 @@
 ghost use Rattle.std.specs.Prelude.{◌≡◌, ◌==◌};
 ghost use Rattle.std.specs.List.{position};
 
-/// The first place of `byte` in `bytes`, or `None` where it does not occur.
+/// Returns the first place of `byte` in `bytes`, or `None` if it does not occur.
 pub fn position_of(byte: u8, bytes: &[u8]) -> Option<usize>
     ensures { result ≡ position (λ b. b == byte) bytes.now }
 {

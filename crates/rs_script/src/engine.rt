@@ -1,4 +1,4 @@
-//! The script engine. It answers each statement of an input, one after another.
+//! The script engine. It answers the statements of an input, one after another.
 
 ghost use Rattle.std.specs.Prelude.{◌≡◌, ◌^◌, OnOk, IsErr, IsErrOf, IsTrue};
 ghost use Rattle.rs_io.specs.Watch.{watched, is_broken, seen_by, IsRefused, ends_of};
@@ -19,22 +19,22 @@ const PIECE: usize = 65_536;
 /// The greatest number of reads, more than any real input needs.
 const READS: u64 = 1 << 40;
 
-/// Runs a script. It reads statements from `reader`, a line or a group with its lines, does each on
-/// `source`, and writes the answer to `writer`. It flushes the writer before each read and at the end.
-/// Commands come at the moment 0 until an `at` sets another.
+/// Runs a script. It reads statements from `reader`, a line or a group with its lines, does them on `source`, and
+/// writes the answers to `writer`. It flushes the writer before every read and at the end. Commands come at the moment
+/// 0 until an `at` sets another.
 ///
-/// A read that gives no byte is the end. No call is tried again after an error.
+/// A read that gives no byte is the end. No call is retried after an error.
 ///
 /// # Errors
 ///
-/// - [`StreamFault::Read`]: a read failed in this call, or 2^40 reads did not reach the end. The
-///   statements that came whole are answered. A part of a line or of a group after them is not done.
-/// - [`StreamFault::Write`]: a call of the writer failed in this call. The statements whose answers
-///   were written are done, and so is the one whose answer failed. No other was begun.
+/// - [`StreamFault::Read`]: a read failed in this call, or 2^40 reads did not reach the end. The statements that came
+///   whole are answered. A part of a line or of a group after them is not done.
+/// - [`StreamFault::Write`]: a call of the writer failed in this call. The statements whose answers were written are
+///   done, and so is the one whose answer failed. No other was begun.
 ///
-/// Whenever the disk stops within the call, it holds the state after the first commands that count: all
-/// that were answered, and perhaps one more (`recovers` of `Ran`). To a destination the script is a walk,
-/// of commands that are tried, refused or stopped, and of fetches of what is shown (`walks`).
+/// Whenever the disk stops within the call, it holds the state after the first counted commands: all that were
+/// answered, and perhaps one more (`recovers` of `Ran`). To a destination the script is a walk, of commands that are
+/// tried, refused or stopped, and of fetches of the shown bytes (`walks`).
 pub fn script<D: Disk, R: Read, W: Write>(
     alloc: Global,
     source: &mut Source<D>,
@@ -50,28 +50,27 @@ pub fn script<D: Disk, R: Read, W: Write>(
     ensures read { IsErrOf result StreamFault.Read → StopsReading D.state source.old source.new
         (ends_of R.remaining reader.old reader.new W.contents writer.old writer.new) }
 
-    // A call of the writer failed, and none of the reader. The statements so far are done. They came
-    // whole, or the input had ended.
+    // A call of the writer failed, and no call of the reader. The statements so far are done. They came whole, or the
+    // input had ended.
     ensures write { IsErrOf result StreamFault.Write → StopsWriting D.state source.old source.new
         (ends_of R.remaining reader.old reader.new W.contents writer.old writer.new) }
 
-    // Whatever the result, the source got the commands that the statements ask for, one at most for each,
-    // and no others. What the writer took tells their answers. If the device has followed the model, each
-    // name that the writer took is lawful.
+    // Whatever the result, the source got the commands that the statements ask for, at most one for each statement, and
+    // no others. The bytes that the writer took report their answers. If the device has followed the model, every name
+    // that the writer took is lawful.
     ensures answered { TellsStatements D.state source.old source.new
         (ends_of R.remaining reader.old reader.new W.contents writer.old writer.new) }
 
-    // Whatever the result, it made at most 2^40 reads of at most 65,536 bytes each, and none after one
-    // that failed.
+    // Whatever the result, it made at most 2^40 reads of at most 65,536 bytes each, and no read after a failed one.
     ensures reads { ReadsWithin (2 ^ 40) 65536 (seen_by R.remaining reader.old)
         (seen_by R.remaining reader.new) }
 
-    // Where the writer had failed before, nothing is read, and nothing is done.
+    // If the writer had failed before, no byte is read, and no statement is done.
     ensures broken_writer { IsTrue (is_broken writer.old)
         → IsRefused writer.old writer.new result × (reader.new ≡ reader.old)
         × (source.new ≡ source.old) }
 
-    // Where the reader had failed before, nothing is read, and nothing is done.
+    // If the reader had failed before, no byte is read, and no statement is done.
     ensures broken_reader { IsTrue (is_broken reader.old) → IsErr result
         × (watched reader.new ≡ watched reader.old) × (source.new ≡ source.old) }
 {

@@ -1,4 +1,4 @@
-//! Does what one line or one group asks for, and writes the answer.
+//! Does the request of one line or one group, and writes the answer.
 
 ghost use Rattle.std.specs.Prelude.{◌≡◌, ℕ, List, Ok, OnOk, OnErr};
 ghost use Rattle.rs_io.specs.Watch.{failures, EndFailed, WritesOut};
@@ -48,7 +48,7 @@ fn run_command<D: Disk, W: Write>(
 ///
 /// # Errors
 ///
-/// [`WriteFault`] where the writer failed in the answer. What the group asked for is done.
+/// [`WriteFault`] if the writer failed in the answer. The request of the group is done.
 pub fn answer_group<D: Disk, W: Write>(
     source: &mut Source<D>,
     now: Moment,
@@ -178,7 +178,7 @@ fn answer_request<D: Disk, W: Write>(
 ///
 /// # Errors
 ///
-/// [`WriteFault`] where the writer failed in the answer. What the line asked for is done.
+/// [`WriteFault`] if the writer failed in the answer. The request of the line is done.
 pub fn answer_line<D: Disk, W: Write>(
     alloc: Global,
     source: &mut Source<D>,

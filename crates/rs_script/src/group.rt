@@ -17,13 +17,13 @@ use std::alloc::Global;
 /// A group that lacks at least one of its lines.
 #[derive(Drop)]
 pub struct Taking {
-    /// How many lines it lacks after the next one.
+    /// The number of lines that it lacks after the next one.
     pub later: usize,
     /// The items of the lines that have come, or the first fault, for which the group is refused.
     pub items: Result<Vec<Item>, Refusal>,
 }
 
-/// The number of lines of the group that `line` begins, 1 to 16, or `None` where it begins none.
+/// Returns the number of lines of the group that `line` begins, 1 to 16, or `None` if it begins no group.
 fn group_size(line: &[u8]) -> Option<usize>
     ensures value { result ≡ size_of line.now }
     ensures some { IfSome result (λ size. 1 ≤ size) }
@@ -36,7 +36,7 @@ fn group_size(line: &[u8]) -> Option<usize>
     Some(size)
 }
 
-/// The number of lines of the group that this line begins, or `None` where it begins none.
+/// Returns the number of lines of the group that this line begins, or `None` if it begins no group.
 pub fn size_begun(content: Content<'_>) -> Option<usize>
     ensures value { (line : List ℕ) → IsContent content.entry line → result ≡ size_of line }
     ensures some { IfSome result (λ size. 1 ≤ size) }
@@ -47,7 +47,7 @@ pub fn size_begun(content: Content<'_>) -> Option<usize>
     }
 }
 
-/// The items with that of one more line, or the first fault. Want of memory is a fault as well.
+/// Returns the items with that of one more line, or the first fault. Lack of memory is a fault as well.
 pub fn with_line(
     alloc: Global,
     items: Result<Vec<Item>, Refusal>,
@@ -65,7 +65,7 @@ pub fn with_line(
     }
 }
 
-/// The item of a line of a group.
+/// Returns the item of a line of a group.
 fn item_in(alloc: Global, content: Content<'_>) -> Result<Item, Refusal>
     ensures { (line : List ℕ) → IsContent content.entry line
         → (result ≡ grouped_item line) ⊎ ((result ≡ Err (Refusal.Line ItemFault.NoMemory)) × TakesRoom line) }

@@ -1,5 +1,4 @@
-//! Laws of the definitions: a script does what the model does, and its commands make the state that it
-//! leaves.
+//! Laws of the definitions: a script does the same as the model, and its commands make the state that it leaves.
 
 ghost use Rattle.std.specs.Prelude.{◌≡◌, ℕ, List};
 ghost use Rattle.rs_script.specs.Lines.{Splits};
@@ -26,21 +25,21 @@ pub fn one_script()
         → IsScript input statements → IsScript input others → statements ≡ others }
 {}
 
-/// Where no refusal is the machine's, generations are left and the device has followed the model, the
-/// outcomes of a script are a function of its input, of its first state and of its first moment: each
-/// statement is answered as the model answers it.
+/// If no refusal is the machine's, generations are left and the device has followed the model, the outcomes of a script
+/// are a function of its input, of its first state and of its first moment: every statement is answered as the model
+/// answers it.
 pub fn one_transcript<D: Disk>()
     ensures { ScriptsFollowTheModel D.state }
 {}
 
-/// The commands that count in a script, each at its moment, make the state that it leaves, unless the
-/// device failed and the source is closed.
+/// The counted commands of a script, each at its moment, make the state that it leaves, unless the device failed and
+/// the source is closed.
 pub fn transcript_folds<D: Disk>()
     ensures told { ScriptsTellTheFold D.state }
     ensures held { ScriptsHoldTheFold D.state }
 {}
 
-/// A script is a run of its commands that count. So what holds of runs holds of scripts.
+/// A script is a run of its counted commands. So the laws of runs hold for scripts.
 pub fn scripts_are_runs<D: Disk>()
     ensures { ScriptsAreRuns D.state }
 {
@@ -49,8 +48,8 @@ pub fn scripts_are_runs<D: Disk>()
     runs_recover::<D>();
 }
 
-/// Whenever the disk stops within a script, it holds the state after the first commands that count. All that were
-/// answered by then are among them.
+/// Whenever the disk stops within a script, it holds the state after the first counted commands. They include all that
+/// were answered by then.
 pub fn scripts_recover<D: Disk>()
     ensures { ScriptsRecover D.state }
 {
@@ -58,9 +57,9 @@ pub fn scripts_recover<D: Disk>()
     runs_recover::<D>();
 }
 
-/// A script does the statements of its input, each of them once. Its source gets one command at most for each, the one that
-/// the statement asks for, and the answer is the outcome. Each name that the script tells is lawful, if its source held a
-/// state and the device has followed the model.
+/// A script does the statements of its input, each of them once. Its source gets at most one command for each
+/// statement, the one that the statement asks for, and the answer is the outcome. Every name that the script reports is
+/// lawful, if its source held a state and the device has followed the model.
 pub fn scripts_do_statements<D: Disk>()
     ensures done { ScriptsDoStatements D.state }
     ensures names { ScriptsTellNames D.state }
@@ -70,17 +69,17 @@ pub fn scripts_do_statements<D: Disk>()
     runs_go_on::<D>();
 }
 
-/// A stop splits the answers of a script. Those that may have been written by then have exactly the replies to the commands
-/// acknowledged by then, and the disk holds each of these commands.
+/// A stop splits the answers of a script. Those that may have been written by then have exactly the replies to the
+/// commands acknowledged by then, and the disk holds all these commands.
 pub fn scripts_split<D: Disk>()
     ensures { ScriptsSplit D.state }
 {
     answers_leave_prefixes();
 }
 
-/// A script makes a walk. A command is tried where the model decides the answer, refused where the machine does, and
-/// stopped where the device failed in it. A `show` fetches what is answered at its path. All else is no event. At the
-/// end each image of the disk represents the state after the walk.
+/// A script makes a walk. A command is tried if the model decides the answer, refused if the machine does, and stopped
+/// if the device failed in it. A `show` fetches the bytes that are answered at its path. All other statements are no
+/// event. At the end every image of the disk represents the state after the walk.
 pub fn scripts_make_walks<D: Disk>()
     ensures { ScriptsMakeWalks D.state }
 {

@@ -1,7 +1,7 @@
 //! The script engine of a ResourceSync source (ANSI/NISO Z39.99-2017).
 //!
-//! A script is a text of lines. Each statement, a line by itself or a group with its lines, asks something of a
-//! source and gets one answer on the output.
+//! A script is a text of lines. Every statement, a line by itself or a group with its lines, is a request to a source
+//! and gets one answer on the output.
 #![tactic(auto)]
 
 mod answer;

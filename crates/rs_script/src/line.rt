@@ -13,7 +13,7 @@ pub const LINE_LIMIT: usize = 33_600_000;
 /// A line of this many bytes is longer than any line of one field, even with a carriage return at its end.
 const FOREIGN_LENGTH: usize = 9;
 
-/// How much is kept of a line.
+/// The kept part of a line.
 #[derive(Clone, Copy, Debug, PartialEq, Eq)]
 pub enum Kept {
     /// All bytes that have come.
@@ -22,7 +22,7 @@ pub enum Kept {
     Foreign,
     /// Their number and the last of them. There was no memory for them.
     Refused,
-    /// Nothing. They are more than a line may have.
+    /// No bytes. They are more than a line may have.
     TooLong,
 }
 
@@ -31,7 +31,7 @@ pub enum Kept {
 pub enum Content<'a> {
     /// These bytes, no more than a line may have.
     Bytes(&'a [u8]),
-    /// A line that asks for nothing.
+    /// A line that is no request.
     Foreign,
     /// A line for which there was no memory.
     Refused,
@@ -44,11 +44,11 @@ pub enum Content<'a> {
 pub struct Line {
     /// The bytes that have come, while all are kept. There is always room for nine.
     pub bytes: SmallVec<u8, 9>,
-    /// How many bytes have come, unless the line is too long.
+    /// The number of bytes that have come, unless the line is too long.
     pub count: usize,
     /// The last byte, or 0.
     pub last: u8,
-    /// How much is kept.
+    /// The kept part.
     pub kept: Kept,
     pub ghost bounded: { count ≤ line_limit + 1 },
     pub ghost roomy: { 9 ≤ bytes.capacity },
@@ -58,7 +58,7 @@ impl Line {
     ghost use Rattle.std.specs.Prelude.{length, slice_index};
     ghost use Rattle.rs_script.specs.PartialLine.{KeepsLine, KeepsLineAs, CountsLine, IsContent};
 
-    /// A line without bytes.
+    /// Returns a line without bytes.
     pub fn new(alloc: Global) -> Line
         ensures { KeepsLine result [] }
     {
@@ -70,7 +70,7 @@ impl Line {
         }
     }
 
-    /// Whether no byte has come.
+    /// Returns whether no byte has come.
     pub fn is_empty(&self) -> bool
         ensures empty { IsTrue result → (raw : List ℕ) → KeepsLine self.now raw → raw ≡ [] }
         ensures some { IsFalse result → (raw : List ℕ) → KeepsLine self.now raw → 0 < length raw }
@@ -88,7 +88,7 @@ impl Line {
         self.kept = Kept::Whole;
     }
 
-    /// Adds bytes, none of them a line feed.
+    /// Adds bytes without a line feed.
     pub fn extend(&mut self, run: &[u8])
         ensures { (raw : List ℕ) → KeepsLine self.old raw → KeepsLine self.new (raw ++ run.now) }
     {
@@ -110,7 +110,7 @@ impl Line {
         }
     }
 
-    /// Keeps `run`, which ends in `last`, where there is memory and the line can be a request.
+    /// Keeps `run`, which ends in `last`, if there is memory and the line can be a request.
     fn keep(&mut self, run: &[u8], last: u8)
         requires room { self.old.count + length run.now ≤ line_limit + 1 }
         requires some { 0 < length run.now }
@@ -133,7 +133,7 @@ impl Line {
         self.kept = Kept::Whole;
     }
 
-    /// The whole line. Where a line feed ended it (`has_break`), a carriage return before that is left out.
+    /// Returns the whole line. If a line feed ended it (`has_break`), a carriage return before that is left out.
     pub fn content(&self, has_break: bool) -> Content<'_>
         ensures { (raw : List ℕ) → KeepsLine self.now raw
             → IsContent result (line_of has_break raw) }
@@ -153,7 +153,7 @@ impl Line {
         }
     }
 
-    /// The number of bytes of the whole line.
+    /// Returns the number of bytes of the whole line.
     fn len(&self, has_break: bool) -> usize
         ensures { (raw : List ℕ) → CountsLine self.now raw
             → result ≡ length (line_of has_break raw) }
@@ -166,7 +166,7 @@ impl Line {
     }
 }
 
-/// The line of these bytes. Where a line feed ended it (`has_break`), a carriage return at its end is left out.
+/// Returns the line of these bytes. If a line feed ended it (`has_break`), a carriage return at its end is left out.
 fn line_bytes(bytes: &[u8], has_break: bool) -> &[u8]
     ensures { result.now ≡ line_of has_break bytes.now }
 {

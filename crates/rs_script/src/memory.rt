@@ -15,12 +15,12 @@ use std::alloc::Global;
 use std::io::Write;
 
 /// Runs the script `input` on `source`, and writes its answers to `writer`, which may be a `Vec<u8>`. It does not flush
-/// it.
+/// the writer.
 ///
 /// # Errors
 ///
-/// [`StreamFault::Write`] where a write failed within an answer, as for want of memory. Its statement and those before
-/// it are done, and no other was begun.
+/// [`StreamFault::Write`] if a write failed within an answer, as for lack of memory. Its statement and those before it
+/// are done, and no other was begun.
 pub fn script_bytes<D: Disk, W: Write>(
     alloc: Global,
     source: &mut Source<D>,

@@ -21,14 +21,14 @@ use std::io::Write;
 /// The state of a script between two reads.
 #[derive(Drop)]
 pub struct Pending {
-    /// What stands after the last whole line.
+    /// The state after the last whole line.
     pub between: BetweenLines,
     /// The line that is still coming.
     pub line: Line,
 }
 
 impl Pending {
-    /// The state before the first read. Commands come at the moment 0.
+    /// Returns the state before the first read. Commands come at the moment 0.
     pub fn new(alloc: Global) -> Pending
         ensures moment { result.between.moment ≡ 0 }
         ensures group { result.between.group ≡ None }
@@ -71,7 +71,7 @@ impl Pending {
     ///
     /// # Errors
     ///
-    /// [`WriteFault`] where the writer failed in an answer. No later statement is done.
+    /// [`WriteFault`] if the writer failed in an answer. No later statement is done.
     pub fn take_piece<D: Disk, W: Write>(
         &mut self,
         alloc: Global,
@@ -96,7 +96,7 @@ impl Pending {
         Ok(())
     }
 
-    /// Takes the last line of the input, where no line feed ended it.
+    /// Takes the last line of the input, if no line feed ended it.
     fn take_last<D: Disk, W: Write>(
         &mut self,
         alloc: Global,
@@ -121,7 +121,7 @@ impl Pending {
     ///
     /// # Errors
     ///
-    /// [`WriteFault`] where the writer failed in an answer.
+    /// [`WriteFault`] if the writer failed in an answer.
     pub fn take_end<D: Disk, W: Write>(
         &mut self,
         alloc: Global,

@@ -1,15 +1,15 @@
-//! Why a statement is refused.
+//! The causes of a refusal.
 
 ghost use Rattle.std.specs.Prelude.{◌≡◌};
 
 use rs_items::ItemFault;
 use thiserror::Error;
 
-/// Why a statement is refused, by the script engine or by the source. Nothing changes, unless the device failed in a
-/// command: its step may stand then, and the source is closed.
+/// The cause why the script engine or the source refuses a statement. The state does not change, unless the device
+/// failed in a command: its step may have been applied then, and the source is closed.
 #[derive(Clone, Copy, Debug, PartialEq, Eq, Error)]
 pub enum Refusal {
-    /// The line asks for nothing: it has no known form, or its first field that is not lawful is a name, a hexadecimal
+    /// The line is no request: it has no known form, or its first field that is not lawful is a name, a hexadecimal
     /// text or a media type; or there is not enough memory for it.
     #[error("{0}")]
     Line(ItemFault),

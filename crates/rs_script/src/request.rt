@@ -1,4 +1,4 @@
-//! What a line of a script asks for.
+//! The request in a line of a script.
 
 ghost use Rattle.std.specs.Prelude.{◌≡◌, ◌⊎◌, ◌≤◌, length, IsTrue};
 ghost use Rattle.rs_items.specs.Items.{item_of_line};
@@ -15,7 +15,7 @@ use rs_record::{Name, ValueFault, number};
 use rs_time::Moment;
 use std::alloc::Global;
 
-/// What a line of a script asks for.
+/// The request in a line of a script.
 #[derive(Debug, Drop)]
 pub enum Request {
     /// `at MS`: the commands from here on come at this moment.
@@ -32,11 +32,11 @@ pub enum Request {
     Verify,
 }
 
-/// What `line` asks for by itself. It has at most [`LINE_LIMIT`](crate::line::LINE_LIMIT) bytes.
+/// Returns the request in `line` by itself. The line has at most [`LINE_LIMIT`](crate::line::LINE_LIMIT) bytes.
 ///
 /// # Errors
 ///
-/// - [`Refusal::BadGroup`]: the line begins a group, so it asks for nothing by itself.
+/// - [`Refusal::BadGroup`]: the line begins a group, so it is no request by itself.
 /// - [`Refusal::Line`]: the line has none of the known forms, a name, a hexadecimal text or a type is the first field
 ///   that is not lawful, or there is no memory for the name, the type or the bytes.
 /// - [`Refusal::BadMoment`]: the field of `at` is no moment.
@@ -54,7 +54,7 @@ pub fn parse_request(alloc: Global, line: &[u8]) -> Result<Request, Refusal>
     }
 }
 
-/// What an item by itself asks for.
+/// Returns the request of an item by itself.
 fn parse_item(alloc: Global, line: &[u8]) -> Result<Request, Refusal>
     ensures { (result ≡ item_request (item_of_line line.now))
         ⊎ ((result ≡ Err (Refusal.Line ItemFault.NoMemory)) × IsTrue (begins_item_of line.now)) }
@@ -66,7 +66,7 @@ fn parse_item(alloc: Global, line: &[u8]) -> Result<Request, Refusal>
     Ok(Request::Run(command))
 }
 
-/// The item of a line. It takes memory only where the line begins as an item does.
+/// Returns the item of a line. It takes memory only if the line begins as an item does.
 pub fn item_in_line(alloc: Global, line: &[u8]) -> Result<Item, Refusal>
     ensures { (result ≡ or_refused (item_of_line line.now))
         ⊎ ((result ≡ Err (Refusal.Line ItemFault.NoMemory)) × IsTrue (begins_item_of line.now)) }
@@ -77,15 +77,15 @@ pub fn item_in_line(alloc: Global, line: &[u8]) -> Result<Item, Refusal>
     Ok(item_of(alloc, line)?)
 }
 
-/// Whether `bytes` begin as an item does.
+/// Returns whether `bytes` begin as an item does.
 fn begins_item(bytes: &[u8]) -> bool
     ensures { result ≡ begins_item_of bytes.now }
 {
     bytes.starts_with(b"put ") || bytes.starts_with(b"delete ")
 }
 
-/// Whether `bytes` begin as a line with fields after its first word. Any other line that is longer than
-/// `publish` asks for nothing.
+/// Returns whether `bytes` begin as a line with fields after its first word. Any other line that is longer than
+/// `publish` is no request.
 pub fn begins_request(bytes: &[u8]) -> bool
     ensures { result ≡ begins bytes.now }
 {
@@ -96,7 +96,7 @@ pub fn begins_request(bytes: &[u8]) -> bool
         || bytes.starts_with(b"group ")
 }
 
-/// What a line of one field asks for.
+/// Returns the request in a line of one field.
 fn request_alone(word: &[u8]) -> Result<Request, Refusal>
     ensures { result ≡ alone word.now }
 {
@@ -111,7 +111,7 @@ fn request_alone(word: &[u8]) -> Result<Request, Refusal>
     }
 }
 
-/// What a line of two fields asks for.
+/// Returns the request in a line of two fields.
 fn request_with(
     alloc: Global,
     line: &[u8],
@@ -134,7 +134,7 @@ fn request_with(
     parse_item(alloc, line)
 }
 
-/// What `at` asks for.
+/// Returns the request of an `at` with this field.
 fn at_request(ms: &[u8]) -> Result<Request, Refusal>
     ensures { result ≡ at ms.now }
 {
@@ -147,7 +147,7 @@ fn at_request(ms: &[u8]) -> Result<Request, Refusal>
     }
 }
 
-/// What `show` asks for.
+/// Returns the request of a `show` with this path.
 fn show_request(alloc: Global, path: &[u8]) -> Result<Request, Refusal>
     ensures { (result ≡ show path.now)
         ⊎ ((result ≡ Err (Refusal.Line ItemFault.NoMemory)) × (9 ≤ length path.now)) }

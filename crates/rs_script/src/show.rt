@@ -15,7 +15,7 @@ use std::io::Write;
 ///
 /// # Errors
 ///
-/// [`WriteFault`] where the writer failed. It took a beginning of the text.
+/// [`WriteFault`] if the writer failed. It took a beginning of the text.
 pub fn write_shown<W: Write>(bytes: &[u8], writer: &mut Watched<W>) -> Result<(), WriteFault>
     ensures written { WritesOut W.contents writer.old writer.new result (shown_text bytes.now) }
     ensures failed { OnErr result (EndFailed writer.old writer.new) }
@@ -44,7 +44,7 @@ fn write_count<W: Write>(count: u64, writer: &mut Watched<W>) -> Result<(), Writ
 ///
 /// # Errors
 ///
-/// [`WriteFault`] where the writer failed. It took a beginning of the text.
+/// [`WriteFault`] if the writer failed. It took a beginning of the text.
 pub fn write_shown_document<V: View, W: Write>(
     document: &Document<'_, V>,
     writer: &mut Watched<W>,

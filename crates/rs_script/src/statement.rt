@@ -44,7 +44,7 @@ fn answer_content<D: Disk, W: Write>(
     }
 }
 
-/// Begins a group of this many lines.
+/// Returns a new group of this many lines.
 fn begin_group(alloc: Global, size: usize) -> Taking
     requires { 1 ≤ size }
     ensures { (first : List ℕ) → size_of first ≡ Some size
@@ -56,7 +56,7 @@ fn begin_group(alloc: Global, size: usize) -> Taking
     }
 }
 
-/// What stands of a script between two lines.
+/// The state of a script between two lines.
 #[derive(Drop)]
 pub struct BetweenLines {
     /// The moment at which commands come.
@@ -96,7 +96,7 @@ impl BetweenLines {
     ///
     /// # Errors
     ///
-    /// [`WriteFault`] where the writer failed in the answer. What the statement asked for is done.
+    /// [`WriteFault`] if the writer failed in the answer. The request of the statement is done.
     pub fn take_content<D: Disk, W: Write>(
         &mut self,
         alloc: Global,

@@ -1,4 +1,4 @@
--- What a source answers, by how far it got with a command.
+-- The answers of a source, by its progress in a command.
 use Rattle.std.proofs.Common.{◌≡◌, ◌⊎◌, inl, inr, ℕ, Bool, true, false, List, length, refl, sym, ◌∙◌, ap, ap₂, subst, Option, Some, None, Result, Ok, Err, if◌then◌else◌, IsTrue}
 use Rattle.rs_disk.specs.Medium.{Medium, DiskState, IsImage, IsMedium, resting}
 use Rattle.rs_disk.specs.Leaves.{Leaves}
@@ -40,7 +40,7 @@ refusing r = Err r
 abbrev accepting : Source → Reply → Result (Source × Reply) model.Refusal
 accepting s r = Ok (s, r)
 
--- the moment or the refusal behind `moment_unless`
+-- the moment or the refusal in `moment_unless`
 unless_err : (o : Option Refusal) (m : ℕ) (r : Refusal) → Err r ≡ moment_unless o m → o ≡ Some r
 unless_err None m r is = absurd cc
 unless_err (Some q) m r is = cc
@@ -84,7 +84,7 @@ early false (Some x) spent r is = let same : named_as x ≡ r = cc in subst IsEa
 early false None true r is = let same : Exhausted ≡ r = cc in subst IsEarly same tt
 early false None false r is = absurd cc
 
--- where nothing is refused at once, the model accepts
+-- if no refusal is decided at once, the model accepts
 allowed : (closed : Bool) (o : Option model.Refusal) (spent : Bool) → (if closed then Some Closed else or_spent o spent) ≡ None → o ≡ None
 allowed true o spent is = absurd cc
 allowed false (Some x) spent is = absurd cc
@@ -109,7 +109,7 @@ module _ {D : Type 0} (device : D → DiskState) (medium : (disk : D) → IsMedi
   early_cause new NoMemory is given = absurd is
   early_cause new refusal is given = given
 
-  -- a closed source decides by that alone
+  -- a closed source decides without any other cause
   decided_closed : IsTrue old.is_closed → decided old (state_of device old) command now ≡ Some Closed
   decided_closed shut = ap (λ (b : Bool). if b then Some Closed else or_spent (refusal_of (state_of device old) command now) (is_spent old)) shut
 
@@ -118,11 +118,11 @@ module _ {D : Type 0} (device : D → DiskState) (medium : (disk : D) → IsMedi
   kept_leads new s Device other holds leaves = absurd (other refl)
   kept_leads new s refusal other holds leaves = (holds, leaves)
 
-  -- the state that is held is the one that the lists tell
+  -- the held state is the state that the lists determine
   tells_state : (s : Source) → Holds device old s → state_of device old ≡ s
   tells_state s holds = (holds.tells (device old.disk).now.seen (medium old.disk).image).state
 
-  -- a refusal that leaves the memory as it was
+  -- a refusal that leaves the memory unchanged
   kept_answers : (new : Stored D) (r : Refusal) → IsCause device old new command now r → (r ≡ Device → ⊥) → (r ≡ Full → new ≡ old)
       → ((q : Refusal) → decided old (state_of device old) command now ≡ Some q → (r ≡ q) × (new ≡ old))
       → new.is_closed ≡ old.is_closed → IsUnchanged device old new

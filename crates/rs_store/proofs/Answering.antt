@@ -22,7 +22,7 @@ use Rattle.rs_store.proofs.FromBelow.{started, weaker, exit_images}
 use Rattle.rs_store.proofs.Turns.{Commands, Acks}
 use Rattle.rs_store.proofs.Moments.{answered_leave_prefixes}
 
--- where the model refuses nothing, a source decides Exhausted alone
+-- if the model refuses nothing, a source decides only Exhausted
 spent_alone : (spent : Bool) (refusal : Refusal) → or_spent None spent ≡ Some refusal → IsBeyondModel refusal
 spent_alone true refusal is = let same : Exhausted ≡ refusal = cc in subst IsBeyondModel same tt
 spent_alone false refusal is = absurd cc
@@ -43,7 +43,7 @@ pub held_is : (s t : Source) → Holding s ≡ Holding t → s ≡ t
 held_is s t is = cc
 
 module _ {D : Type 0} (device : D → DiskState) (sound : (disk : D) → IsMedium (device disk).size (device disk).now) where
-  -- what its lists tell is the state that it holds
+  -- its lists determine the state that it holds
   told_state : (source : Stored D) (s : Source) → Holds device source s → state_of device source ≡ s
   told_state source s holds = (holds.tells (device source.disk).now.seen (sound source.disk).image).state
 
@@ -72,7 +72,7 @@ module _ {D : Type 0} (device : D → DiskState) (sound : (disk : D) → IsMediu
     may_answer (Ok reply) answers = let lead = answers.leads s holds in (lead.0, lead.1)
     may_answer (Err refusal) answers = by_model refusal answers (refusal_of s command now) refl
 
-  -- the images of what a disk holds are those of its last moment
+  -- a resting disk leaves every property that all of its images have at the start
   rests_in : (old new : DiskState) (P : List ℕ → Type 0) → Rests old new → ((image : List ℕ) → IsImage old.now image → P image) → Leaves old new (λ _. P)
   rests_in old new P rests all = weaker old new (λ _. IsImage old.now) (λ _. P) (λ m image is. all image is) rests.leaves
 
@@ -106,7 +106,7 @@ module _ {D : Type 0} (device : D → DiskState) (sound : (disk : D) → IsMediu
       )
   closed_answered s t old cs acks new shut all turn = absurd turn
 
-  -- a turn of a source that holds a state: the source as the command came, and after it
+  -- a turn of a source that holds a state: the source when the command comes, and the source after it
   module _ (s : Source) (old : Stored D) (c : Command × ℕ) (cs : Commands) (a : Ack) (acks : Acks) (new : Stored D)
       (holds : Holds device old s) (turn : InTurn device old (c ∷ cs) (a ∷ acks) new) where
     abbrev ready : Stored D
@@ -121,7 +121,7 @@ module _ {D : Type 0} (device : D → DiskState) (sound : (disk : D) → IsMediu
     kept : Holds device ready s
     kept = (turn.1.holds s holds).0
 
-    -- what its disk sees of it
+    -- the turn, as its disk sees it
     seen_by : (reply : Result Reply Refusal) → Answers device ready mid c.0 c.1 reply
         → ((t : Source) → Holds device mid t → AreAnswered (device mid.disk) (Holding t) cs acks (device new.disk))
         → Leaves (device ready.disk) (device mid.disk) (λ _ image. StandsFor image s ⊎ MayStandFor (condition_after (Holding s) c reply) image)
@@ -139,7 +139,7 @@ module _ {D : Type 0} (device : D → DiskState) (sound : (disk : D) → IsMediu
         let lead = answers.leads s kept in
         (weaker (device ready.disk) (device mid.disk) (λ _ image. StandsFor image s) (λ _ image. StandsFor image s ⊎ StandsFor image s) (λ m image stands. inl stands) lead.1, rest s lead.0)
 
-    -- what it holds then, where the answers leave no doubt
+    -- the state that it holds then, where the answers leave no doubt
     kept_by : (reply : Result Reply Refusal) → Answers device ready mid c.0 c.1 reply → (t : Source)
         → ((u : Source) → Holds device mid u → condition_behind (Holding u) cs acks ≡ Holding t → Holds device new t)
         → condition_behind (condition_after (Holding s) c reply) cs acks ≡ Holding t → Holds device new t
@@ -175,7 +175,7 @@ module _ {D : Type 0} (device : D → DiskState) (sound : (disk : D) → IsMediu
       kept_by s old c cs a acks new holds turn a.reply turn.3 t (λ u held same. holds_behind u turn.2 cs acks new held turn.5 t same) is
   holds_behind s old cs acks new holds turn t is = absurd turn
 
-  -- each image at each moment of a run represents a prefix of its counted commands
+  -- at every moment of a run, every image represents a prefix of its counted commands
   pub each_moment : (s : Source) (old : Stored D) (cs : Commands) (acks : Acks) (new : Stored D) → Holds device old s → InTurn device old cs acks new
       → Leaves (device old.disk) (device new.disk) (StandsForPrefix s cs acks)
   each_moment s old cs acks new holds turn = answered_leave_prefixes s (device old.disk) cs acks (device new.disk) (are_answered s old cs acks new holds turn)

@@ -23,22 +23,22 @@ use Rattle.rs_store.specs.Answered.{Answers}
 use Rattle.rs_store.proofs.Answered.{stopped, broken_off}
 use Rattle.rs_store.proofs.Written.{beside_each, AreSized}
 
--- a clause of errors, of an answer that is one
+-- a clause of errors, for an answer that is an error
 pub on_err : {T E P : Type 0} (r : Result T E) → is_err r ≡ true → OnErr r P → P
 on_err (Ok x) bad given = absurd (true≢false (sym bad))
 on_err (Err e) bad given = given
 
--- a clause of successes, of an answer that is one
+-- a clause of successes, for an answer that is a success
 pub on_ok : {T E P : Type 0} (r : Result T E) → is_err r ≡ false → OnOk r P → P
 on_ok (Ok x) fine given = given
 on_ok (Err e) fine given = absurd (true≢false fine)
 
--- no bodies stand in no extents
+-- an empty list of bodies is in an empty list of extents
 stand_none : (image : List ℕ) (extents : List Extent) → AreSized extents [] → AreBodies image extents []
 stand_none image [] none = tt
 stand_none image (e ∷ es) none = absurd none
 
--- Where there is one body, it has the one extent: ..
+-- A single body has a single extent: ..
 pub one_extent : (extents : List Extent) (bytes : List ℕ) (e : Extent) → AreSized extents (bytes ∷ []) → e ≡ get_or extents 0 e → extents ≡ e ∷ []
 one_extent [] bytes e sized is = absurd sized
 one_extent (x ∷ []) bytes e sized is = ap (λ (y : Extent). y ∷ []) (sym is)
@@ -48,7 +48,7 @@ pub some_extent : (extents : List Extent) (bytes : List ℕ) → AreSized extent
 some_extent [] bytes sized = absurd sized
 some_extent (x ∷ xs) bytes sized = omega arith
 
--- .. what is written to it alone is written to these alone, and the bodies stand where this one does.
+-- .. a write to this extent alone is a write to these extents alone, and if the body is in it, the bodies are in them.
 pub only_one : {A : Type 0} {old new : DiskState} (extents : List Extent) (bytes : List ℕ) (e : Extent) → AreSized extents (bytes ∷ []) → e ≡ get_or extents 0 e
     → WritesOnly (e ∷ []) A old new → WritesOnly extents A old new
 only_one {A} {old} {new} extents bytes e sized is run = subst (λ (es : List Extent). WritesOnly es A old new) (sym (one_extent extents bytes e sized is)) run
@@ -56,14 +56,14 @@ only_one {A} {old} {new} extents bytes e sized is run = subst (λ (es : List Ext
 pub stand_one : (extents : List Extent) (e : Extent) (bytes image : List ℕ) → extents ≡ e ∷ [] → part e (length bytes) image ≡ bytes → AreBodies image extents (bytes ∷ [])
 stand_one extents e bytes image alone stands = subst (λ (es : List Extent). AreBodies image es (bytes ∷ [])) (sym alone) (stands, tt)
 
--- .. it has the size of the body, and lies on the disk where all do
+-- .. it has the size of the body, and lies on the disk if all extents do
 pub sized_one : (extents : List Extent) (bytes : List ℕ) (e : Extent) → extents ≡ e ∷ [] → AreSized extents (bytes ∷ []) → IsSized e (length bytes)
 sized_one extents bytes e alone sized = (subst (λ (es : List Extent). AreSized es (bytes ∷ [])) alone sized).0
 
 pub on_disk_one : (extents : List Extent) (size : ℕ) (e : Extent) → extents ≡ e ∷ [] → AreOnDisk extents size → IsOnDisk e size
 on_disk_one extents size e alone inside b is = subst (λ (es : List Extent). AreOnDisk es size) alone inside b (some_first e [] b is)
 
--- a command without bodies wrote none
+-- a command without bodies wrote no bodies
 pub begun_with_none : {D : Type 0} (device : D → DiskState) (start o : Stored D) (p : Plan) → o ≡ start → AreSized p.bodies.items [] → HasWrittenBodies device start o p []
 begun_with_none {D} device start o p same none =
     subst (λ (s : Stored D). HasWrittenBodies device s o p []) same (record {
@@ -88,7 +88,7 @@ module _ {D : Type 0} (device : D → DiskState) (medium : (disk : D) → IsMedi
   unmet : ¬ A → RunsWriting ⊥ (device start.disk) (device mid)
   unmet well = writing_as (device start.disk) (device mid) well (λ none. absurd none) went
 
-  -- the bodies stand
+  -- the bodies are written
   pub begun : ¬ A → (bodies : List (List ℕ)) → AreBeside (is_kept start.slots.root start.contents) (places p) → AreBodies (device mid).now.seen p.bodies.items bodies
       → HasWrittenBodies device start (record { disk = mid; slots = o.slots; contents = o.contents; is_closed = o.is_closed }) p bodies
   begun well bodies free stand = record {
@@ -114,7 +114,7 @@ module _ {D : Type 0} (device : D → DiskState) (medium : (disk : D) → IsMedi
         (record { disk = mid; slots = o.slots; contents = o.contents; is_closed = true }) refl refl
         failed went
 
-    -- it stopped for another cause, as want of memory
+    -- it stopped for another cause, for example lack of memory
     pub stopped_body : ¬ A
         → Answers device start (record { disk = mid; slots = o.slots; contents = o.contents; is_closed = o.is_closed }) command now (Err NoMemory)
     stopped_body well =

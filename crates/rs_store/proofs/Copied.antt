@@ -1,4 +1,4 @@
--- What a source answers when it is copied, by what copying its root leaves.
+-- The answer of a source to a copy, by the effect of copying its root.
 use Rattle.std.proofs.Common.{true≢false, ◌≡◌, ◌⊎◌, inl, inr, ⊎_elim, ℕ, true, false, List, [], ◌∷◌, map, refl, sym, ◌∙◌, ap, arith, Result, Ok, Err}
 use Rattle.std.specs.Prelude.{All}
 use Rattle.std.proofs.lemmas.List.Elements.{All-nil, All-cons, All-head, All-tail}
@@ -36,7 +36,7 @@ faulted fault other is = let same : fault ≡ other = cc in ap (λ (f : CopyFaul
 no_fault : (copied : Copied) (fault : CopyFault) → Ok copied ≡ refusing fault → ⊥
 no_fault copied fault is = absurd cc
 
--- where all that is held has its digest, each record has its body
+-- if all held resources have their digests, all records have their bodies
 bodies_intact : (image : List ℕ) (records : List Record) → All (λ held. HasItsDigest held.1) (map (held_in image) records) → All (HasItsBody image) records
 bodies_intact image [] all = All-nil (HasItsBody image)
 bodies_intact image (r ∷ records) all =
@@ -83,7 +83,7 @@ module _ {D E : Type 0} (device : D → DiskState) (other : E → DiskState) (ol
     abbrev Copied_so : Result Copied CopyFault → Type 0
     Copied_so result = Copies (rooted_in device old) (record { from = device old.disk; to = other to }) (record { from = device new.disk; to = other disk }) result
 
-    -- what both disks are meanwhile
+    -- both disks during the copy
     copying : (result : Result Copied CopyFault) → Copied_so result → IsCopying device other old new to disk
     copying result made = record {
       reads_only = only;
@@ -96,7 +96,7 @@ module _ {D E : Type 0} (device : D → DiskState) (other : E → DiskState) (ol
       settled = λ s holds honest cut. made.settled s honest (tells s holds) cut;
     }
 
-    -- the copy stands
+    -- the copy is complete
     pub copied_so : (copied : Copied) → Copied_so (Ok copied)
         → AnswersCopy device other old new to (Ok (record { disk = disk; slots = copied.slots; contents = copied.contents; is_closed = false }))
     copied_so copied made = record {

@@ -1,4 +1,4 @@
--- Which bodies are damaged, one record after the other.
+-- The damaged bodies, record by record.
 use Rattle.std.proofs.Common.{◌≡◌, ◌≤◌, ◌+◌, ◌*◌, ◌/◌, ℕ, true, List, [], ◌∷◌, ◌++◌, map, not, refl, sym, ◌∙◌, ap, rules}
 use Rattle.std.specs.Prelude.{All}
 use Rattle.std.specs.List.{filter}
@@ -20,7 +20,7 @@ use Rattle.rs_store.specs.Shows.{calls_for_held}
 use Rattle.rs_store.specs.Verified.{HasItsPlace, damaged_among, is_sound}
 use Rattle.rs_store.proofs.Found.{block_fits, lists_reached}
 
--- the damaged ones of some records and then one more
+-- the damaged bodies of some records and one more
 pub damaged_more : (image : List ℕ) (rs : List Record) (r : Record)
     → damaged_among (map (held_in image) (rs ++ r ∷ [])) ≡ damaged_among (map (held_in image) rs) ++ damaged_among (held_in image r ∷ [])
 damaged_more image rs r =
@@ -36,7 +36,7 @@ calls_for_records image (r ∷ rs) =
     ∙ ap (λ (n : ℕ). (r.length + 16383) / 16384 + n) (calls_for_records image rs)
     ∙ sym (sum_by-cons (λ x. (x.length + 16383) / 16384) r rs)
 
--- each record of a whole source has its place
+-- every record of a whole source has its place
 places_among : (size low high : ℕ) (rs : List Record) → ((b : ℕ) → in_some (bodies_of rs) b ≡ true → 512 * b + 512 ≤ size) → All (IsSoundRecord low high) rs → All (HasItsPlace size) rs
 places_among size low high [] inside sound = search rules
 places_among size low high (r ∷ rs) inside sound =

@@ -1,4 +1,5 @@
--- A put whose device fails before its body came whole leaves the old state: its answer is that of two bodies that begin alike.
+-- A put whose device fails before its body came whole leaves the old state: two bodies that begin alike get the same
+-- answer.
 use Rattle.std.proofs.Common.{◌≡◌, ◌⊎◌, inl, inr, ℕ, ◌+◌, ◌-◌, ◌<◌, arith, List, [], ◌∷◌, ◌++◌, length, Option, Some, None, refl, sym, ◌∙◌, ap, subst}
 use Rattle.std.specs.Prelude.{replicate}
 use Rattle.std.proofs.lemmas.List.{length-replicate}
@@ -26,7 +27,7 @@ after_put : (s : Source) (command : Command) (now : ℕ)
     → (state_after s (step s command now) ≡ s) ⊎ (state_after s (step s command now) ≡ next_state s command (moment_at s now))
 after_put s command now = left_or_next (refusal_of s command now) s (next_state s command (moment_at s now), reply_to s command (moment_at s now))
 
--- what is bound has its bytes
+-- the bytes of a binding
 abbrev bytes_in : Option Held → List ℕ
 bytes_in None = []
 bytes_in (Some held) = held.bytes
@@ -34,12 +35,12 @@ bytes_in (Some held) = held.bytes
 put_holds : (s : Source) (name kind bytes : List ℕ) (t : ℕ) → bytes_in (value_of name (next_state s (Put name kind bytes) t).held) ≡ bytes
 put_holds s name kind bytes t = ap bytes_in (value-bind name (record { bytes = bytes; entry = record { facts = facts_of kind bytes; moment = t } }) s.held)
 
--- so two puts of other bytes lead to other states
+-- so two puts of different bytes lead to different states
 puts_differ : (s : Source) (name kind a b : List ℕ) (t : ℕ) → (a ≡ b → ⊥) → next_state s (Put name kind a) t ≡ next_state s (Put name kind b) t → ⊥
 puts_differ s name kind a b t other same =
     other (sym (put_holds s name kind a t) ∙ ap (λ (u : Source). bytes_in (value_of name u.held)) same ∙ put_holds s name kind b t)
 
--- two bodies that differ behind what came
+-- two bodies that differ after the bytes that came
 bodies_differ : (came rest : List ℕ) → came ++ 0 ∷ rest ≡ came ++ 1 ∷ rest → ⊥
 bodies_differ [] rest same = absurd cc
 bodies_differ (x ∷ came) rest same = bodies_differ came rest cc
@@ -48,7 +49,7 @@ one_body : (n : ℕ) (came : List ℕ) (x : ℕ) → length came < n → IsBodyO
 one_body n came x fewer =
     begins n came (x ∷ replicate (n - (length came + 1)) 0) (omega (arith, length-replicate {A = ℕ} (n - (length came + 1)) 0, fewer))
 
--- An image that, for each of two puts, represents the old state or the next one, represents the old one.
+-- If, for two puts, an image represents the old state or the next one, it represents the old one.
 stands_for_old : (s : Source) (name kind a b : List ℕ) (now : ℕ) (image : List ℕ) → (a ≡ b → ⊥)
     → StandsFor image s ⊎ StandsFor image (state_after s (step s (Put name kind a) now))
     → StandsFor image s ⊎ StandsFor image (state_after s (step s (Put name kind b) now)) → StandsFor image s

@@ -1,4 +1,5 @@
--- What a source answers once the bodies of a plan stand, by how far it got. The answers cover the time since before the bodies were written.
+-- The answers of a source once the bodies of a plan are written, by its progress. They cover the time since before the
+-- bodies were written.
 use Rattle.std.proofs.Common.{◌≡◌, ℕ, true, List, refl, sym, ◌∙◌, ap, subst, None, Ok, Err, Result}
 use Rattle.rs_disk.specs.Medium.{DiskState, IsMedium, resting}
 use Rattle.rs_disk.specs.Leaves.{Leaves}
@@ -25,7 +26,7 @@ use Rattle.rs_store.specs.Writing.{AreStoredLists, HasWrittenBodies}
 use Rattle.rs_store.specs.Answered.{Answers}
 use Rattle.rs_store.proofs.Answered.{stopped, broken_off, not_committed, committed}
 
--- what the end of a command promises, for every command that has the plan and every beginning of its bodies
+-- the promise of the end of a command, for every command that has the plan and every beginning of its bodies
 abbrev pub Promised : {D : Type 0} → (D → DiskState) → Plan → Stored D → Result Reply Refusal → Stored D → Type 0
 Promised {D} device p new result now =
     (start : Stored D) (command : Command) (moment : ℕ) → HasWrittenBodies device start now p (bodies_of_command command)

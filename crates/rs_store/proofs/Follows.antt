@@ -1,4 +1,4 @@
--- Once a whole plan is written, the next root tells the next state.
+-- Once a whole plan is written, the next root determines the next state.
 use Rattle.std.proofs.Common.{true≢false, ◌≡◌, ◌⊎◌, inl, inr, ⊎_elim, ℕ, Bool, true, false, List, [], ◌∷◌, ◌++◌, map, filter, length, refl, sym, ◌∙◌, ap, ap₂, subst, Option, Some, None}
 use Rattle.std.specs.Prelude.{All, IfSome, is_some}
 use Rattle.std.proofs.lemmas.List.Elements.{All-nil, All-cons, All-head, All-tail, All-filter}
@@ -24,7 +24,7 @@ use Rattle.rs_plan.specs.declared.plan.Plan.{Plan}
 use Rattle.rs_plan.specs.Room.{bodies_of_command}
 use Rattle.rs_plan.specs.Plans.{AreBodies, lists_after, once_stored, planned_root, IsPlanned, AreWritten}
 
--- A property of a list is one of each part of it, ..
+-- A property of all elements of a list holds for all of its sublists, ..
 all_sub : {A : Type 0} (P : A → Type 0) (xs ys : List A) → All P ys → IsSublist xs ys → All P xs
 all_sub P [] ys all sub = All-nil P
 all_sub P (x ∷ xs) [] all sub = absurd sub
@@ -32,7 +32,7 @@ all_sub P (x ∷ xs) (y ∷ ys) all (inl (same, rest)) =
     All-cons P x xs (subst P (sym same) (All-head P y ys all)) (all_sub P xs ys (All-tail P y ys all) rest)
 all_sub P (x ∷ xs) (y ∷ ys) all (inr rest) = all_sub P (x ∷ xs) ys (All-tail P y ys all) rest
 
--- .. and a property of what passes a test and of what does not is one of the whole list.
+-- .. and a property of all elements that pass a test and of all that fail it holds for the whole list.
 true_or_false : (b : Bool) → (b ≡ true) ⊎ (b ≡ false)
 true_or_false true = inl refl
 true_or_false false = inr refl
@@ -56,7 +56,7 @@ nothing : {A : Type 0} (P : A → Type 0) (o : Option A) → is_some o ≡ false
 nothing P None is = tt
 nothing P (Some x) is = absurd (true≢false is)
 
--- Kept pages stand where the old ones do.
+-- Kept pages are where the old ones are.
 kept_stand : {T : Type 0} (format : ItemFormat T) (old new : List (Page T)) (image : List ℕ) → KeepsPages old new
     → All (Stands format image) old → All (Stands format image) new
 kept_stand {T} format old new image kept stand =
@@ -84,7 +84,7 @@ held_published : (old c : Contents) (image : List ℕ) → IsPublished old c →
 held_published old c image (inl same) catalogue published = subst (λ (l : List (Page Record)). HoldsPagesInMemory l image) (sym same) published
 held_published old c image (inr listed) catalogue published = subst (λ (l : List (Page Record)). HoldsPagesInMemory l image) (sym listed.0) catalogue
 
--- The state of the lists is the next one, where the bodies stand.
+-- The state of the lists is the next one, if the bodies are in their extents.
 pub state_follows : (size : ℕ) (root : Root) (old : Contents) (command : Command) (moment : ℕ) (p : Plan) (bodies : List (List ℕ)) (image : List ℕ)
     → IsPlanned (rooted size root old) command moment p → bodies_of_command command ≡ bodies → AreWritten p bodies image
     → state_in image (once_stored p.contents) ≡ next_state (state_in image old) command moment

@@ -1,4 +1,4 @@
--- What a held name has on the disk.
+-- The data of a held name on the disk.
 use Rattle.std.proofs.Common.{◌≡◌, ◌≤◌, ◌<◌, ◌+◌, ◌*◌, ℕ, true, false, List, [], ◌∷◌, ◌++◌, Option, Some, None, is_some, option_map, map, sym, ◌∙◌, ap, subst, refl, arith}
 use Rattle.std.specs.Prelude.{All}
 use Rattle.std.specs.declared.cmp.Ordering.{Ordering}
@@ -35,7 +35,7 @@ ordered_map f Less x m n e = refl
 ordered_map f Equal x m n e = refl
 ordered_map f Greater x m n e = e
 
--- what is held of a name is its record's, with the bytes that the image has
+-- the held value of a name is that of its record, with the bytes that the image has
 pub held_value : (image name : List ℕ) (rs : List Record)
     → value_of name (map (held_in image) rs) ≡ option_map (λ r. (held_in image r).1) (value_of name (named rs))
 held_value image name [] = refl
@@ -65,7 +65,7 @@ found_within name (x ∷ rs) r b e is =
 pub block_fits : (size b : ℕ) → b < blocks_of_disk size → 512 * b + 512 ≤ size
 block_fits size b less = omega arith
 
--- what a root reaches before the bodies
+-- the extents that a root reaches before the bodies
 abbrev pub lists_reached : Root → Contents → List Extent
 lists_reached root c =
     root.directory ∷ extents_of (stored_refs c.catalogue) ++ extents_of (stored_refs c.history.pages)
@@ -89,7 +89,7 @@ held_found image name rs r found = held_value image name rs ∙ ap (λ (o : Opti
 pub held_missing : (image name : List ℕ) (rs : List Record) → value_of name (named rs) ≡ None → value_of name (map (held_in image) rs) ≡ None
 held_missing image name rs missing = held_value image name rs ∙ ap (λ (o : Option Record). option_map (λ r. (held_in image r).1) o) missing
 
--- so a source holds a name exactly where its catalogue has a record of it
+-- so a source holds a name exactly if its catalogue has a record of it
 pub holds_name : {D : Type 0} (device : D → DiskState) (o source : Stored D) (name : List ℕ) (r : Record) → o ≡ source → value_of name (named (records_of o.contents.catalogue)) ≡ Some r
     → is_held (state_of device source) name ≡ true
 holds_name {D} device o source name r same found =
@@ -100,7 +100,7 @@ pub lacks_name : {D : Type 0} (device : D → DiskState) (o source : Stored D) (
 lacks_name {D} device o source name same missing =
     subst (λ (s : Stored D). is_held (state_of device s) name ≡ false) same (ap is_some (held_missing (device o.disk).now.seen name (records_of o.contents.catalogue) missing))
 
--- the entries of what is held are those of the records
+-- the entries of the held resources are those of the records
 pub entries_held : (image : List ℕ) (rs : List Record) → entries (map (held_in image) rs) ≡ map entry_of rs
 entries_held image [] = refl
 entries_held image (r ∷ rs) = ap (λ (l : List (List ℕ × Entry)). entry_of r ∷ l) (entries_held image rs)

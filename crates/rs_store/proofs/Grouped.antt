@@ -1,4 +1,4 @@
--- How the bodies of a group are written one after the other.
+-- How the bodies of a group are written in sequence.
 use Rattle.std.proofs.Common.{◌≡◌, ℕ, suc, zero, ◌+◌, ◌-◌, ◌<◌, ◌≤◌, true, List, [], ◌∷◌, ◌++◌, length, take, drop, get_or, refl, sym, ◌∙◌, ap, subst, arith, Option}
 use Rattle.std.specs.List.{AllZip, cons_option}
 use Rattle.std.proofs.lemmas.List.{take-append-drop, take_more, drop_more, length-drop, take_all, drop-drop}
@@ -12,7 +12,7 @@ use Rattle.rs_plan.specs.Plans.{AreBodies}
 use Rattle.rs_plan.specs.Room.{bodies_kept}
 use Rattle.rs_store.proofs.Written.{AreSized, bodies_kept_so}
 
--- one pair more, and the first pairs
+-- one more pair, and the first pairs
 zip_push : {A B : Type 0} (R : A → B → Type 0) (xs : List A) (ys : List B) (x : A) (y : B) → AllZip R xs ys → R x y → AllZip R (xs ++ x ∷ []) (ys ++ y ∷ [])
 zip_push R [] [] x y all one = (one, tt)
 zip_push R [] (b ∷ ys) x y all one = absurd all
@@ -38,7 +38,7 @@ zip_long R [] (b ∷ ys) all = absurd all
 zip_long R (a ∷ xs) [] all = absurd all
 zip_long R (a ∷ xs) (b ∷ ys) all = omega (arith, zip_long R xs ys all.1)
 
--- The bodies of a group are written in their order: n of them stand, one is next, and others are left.
+-- The bodies of a group are written in their order: n of them are written, one is next, and others are left.
 module _ (extents : List Extent) (bodies : List (List ℕ)) (sized : AreSized extents bodies) (n : ℕ) (bytes : List ℕ) (left : List (List ℕ)) (next : drop n bodies ≡ bytes ∷ left) where
   abbrev pub at_hand : Extent → Extent
   at_hand d = get_or extents n d
@@ -81,13 +81,13 @@ module _ (extents : List Extent) (bodies : List (List ℕ)) (sized : AreSized ex
         subst (λ (l : List Extent). AreOnDisk l size) (sym split) inside b
         (some_behind (take n extents) (e ∷ drop (n + 1) extents) b (some_first e (drop (n + 1) extents) b here))
 
-    -- it is beside those that are written
+    -- it is disjoint from the written ones
     pub beside_before : AreApart extents → IsBeside (in_some (take n extents)) e
     beside_before apart =
         beside_first (in_some (take n extents)) e (drop (n + 1) extents)
         (beside_between (take n extents) (e ∷ drop (n + 1) extents) (subst (λ (l : List Extent). AreApart l) (sym split) apart))
 
-    -- so these stay, and one more stands
+    -- so these stay, and one more is written
     pub one_more : (old new : List ℕ) → AreBodies old (take n extents) (take n bodies) → Keeps (in_some (take n extents)) old new
         → part e (length bytes) new ≡ bytes → AreBodies new (take (n + 1) extents) (take (n + 1) bodies)
     one_more old new stand keeps reads =
@@ -99,7 +99,7 @@ module _ (extents : List Extent) (bodies : List (List ℕ)) (sized : AreSized ex
         (subst (λ (bs : List (List ℕ)). AreBodies new (take n extents ++ e ∷ []) bs) (sym last)
         (zip_push (λ extent bytes. part extent (length bytes) new ≡ bytes) (take n extents) (take n bodies) e bytes stay reads))
 
--- where none is left, all stand
+-- if no body is left, all are written
 pub all_stand : (extents : List Extent) (bodies : List (List ℕ)) (n : ℕ) (image : List ℕ) → AreSized extents bodies → drop n bodies ≡ []
     → AreBodies image (take n extents) (take n bodies) → AreBodies image extents bodies
 all_stand extents bodies n image sized none stand =
@@ -109,7 +109,7 @@ all_stand extents bodies n image sized none stand =
     subst (λ (es : List Extent). AreBodies image es bodies) (take_all n extents (omega (arith, few, same)))
     (subst (λ (bs : List (List ℕ)). AreBodies image (take n extents) bs) (take_all n bodies few) stand)
 
--- the bodies of the items from one on, by the first of them
+-- the bodies of the items from an index on, by the first of them
 pub kept_step : (items : List Item) (i : ℕ) (o : Option (List ℕ))
     → bodies_kept (take (length items - i) (drop i items)) ≡ cons_option o (bodies_kept (drop 1 (take (length items - i) (drop i items))))
     → bodies_kept (drop i items) ≡ cons_option o (bodies_kept (drop (i + 1) items))

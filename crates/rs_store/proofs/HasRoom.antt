@@ -1,4 +1,4 @@
--- A command that has a plan lacks no room.
+-- A command that has a plan has room.
 use Rattle.std.proofs.Common.{◌≡◌, inl, inr, ℕ, zero, suc, ◌+◌, ◌<◌, Bool, true, List, [], ◌∷◌, ◌++◌, Option, Some, None, refl, sym, ◌∙◌, subst, arith}
 use Rattle.std.specs.List.{cons_option}
 use Rattle.std.proofs.lemmas.Bool.{cases_lt}
@@ -22,11 +22,11 @@ use Rattle.rs_plan.specs.Room.{Takes, TakesEach, HasNoRoom, pages_needed, lists_
 use Rattle.rs_plan.specs.Placed.{AreUnplaced, HasItsPlaces}
 use Rattle.rs_plan.specs.Plans.{IsFullFor, IsPlanned, command_needed, lists_after}
 
--- One set of blocks is used by a root.
+-- A root uses exactly one set of blocks.
 used_once : (r : Rooted) (a b : List Bool) → AreUsed r a → AreUsed r b → a ≡ b
 used_once r a b one two = ext_get_or true a b (one.blocks ∙ sym two.blocks) (λ i lt. one.each i (omega (arith, lt, one.blocks)) ∙ sym (two.each i (omega (arith, lt, one.blocks))))
 
--- One extent is the lowest run, and one set is left.
+-- The lowest run is unique, and so is the set after it is taken.
 sets_at : (old a b : List Bool) (e : Extent) (i : ℕ) → Sets old a e true → Sets old b e true → is_used a i ≡ is_used b i
 sets_at old a b e i one two = elim (cases_lt i e.first) [
   | inl low ↦ one.before i low ∙ sym (two.before i low)
@@ -65,7 +65,7 @@ takes_once : (used : List Bool) (n : ℕ) (a b : Extent) (u v : List Bool) → T
 takes_once used n a b u v one two =
     sets_once used u v a one.sets (subst (λ (e : Extent). Sets used v e true) (sym (extent_once used n a b u v one two)) two.sets)
 
--- What has no run comes after the extents that were taken.
+-- If some lengths lack room, but the first of them got their extents, the others lack room after these extents.
 none_behind : (used : List Bool) (ns : List ℕ) (es : List Extent) (after : List Bool) (ms : List ℕ) → TakesEach used ns es after → HasNoRoom used (ns ++ ms) → HasNoRoom after ms
 none_behind used [] [] after ms takes none = subst (λ (w : List Bool). HasNoRoom w ms) (sym takes) none
 none_behind used [] (e ∷ es) after ms takes none = absurd takes
@@ -83,7 +83,7 @@ none_behind used (n ∷ ns) (e ∷ es) after ms takes none = elim none [
 abbrev at : {T : Type 0} → List T → Place → Page T
 at items place = record { items = items; place = place }
 
--- Where pages were placed, and later things have no room beside them, they have none after them.
+-- Where a page was placed, and it and later items lack room, the later items lack room after it.
 one_had_room : {T : Type 0} (format : ItemFormat T) (used used' : List Bool) (items : List T) (place : Place) (y : Page T) (xs : List (Page T)) (rest : List ℕ)
     → PlacesOne format used (at items place) used' y → cons_option (placed_extent place) (placed_extents xs) ≡ []
     → HasNoRoom used (pages_needed format (at items place ∷ xs) ++ rest) → HasNoRoom used' (pages_needed format xs ++ rest)

@@ -1,4 +1,4 @@
--- Each moment of commands that are answered, and what a run leaves at its end.
+-- All moments of answered commands, and the effect of a run at its end.
 use Rattle.std.proofs.Common.{◌≡◌, ◌⊎◌, inl, inr, ⊎_elim, ℕ, suc, ◌+◌, ◌<◌, ◌≤◌, Bool, true, false, ◌&&◌, List, [], ◌∷◌, ◌++◌, take, refl, sym, ◌∙◌, ap, subst, arith, cond, Result, Ok, Err, true≢false}
 use Rattle.std.specs.Prelude.{nat_le}
 use Rattle.rs_disk.specs.Medium.{DiskState}
@@ -20,7 +20,7 @@ use Rattle.rs_store.specs.Runs.{InTurn, StandsForPrefix, Condition, Holding, InD
 use Rattle.rs_store.specs.Laws.{AreClosed}
 use Rattle.rs_store.proofs.Turns.{Commands, Acks, one, one_at_most, and_false, not_yet, by_then, acknowledged_cons, closed_run, none_counts, none_acknowledged, closed_is_no_ok, closed_is_no_device}
 
--- What a command with any refusal but Device leaves.
+-- The effect of a command with any refusal but Device.
 pub not_done : {D : Type 0} (device : D → DiskState) (old new : Stored D) (s : Source) (command : Command) (now : ℕ) (refusal : Refusal)
     → is_device (Err refusal) ≡ false → Leads device old new s (step s command now) (Err refusal)
     → Holds device new s × Leaves (device old.disk) (device new.disk) (λ _ image. StandsFor image s)
@@ -35,7 +35,7 @@ is_device_or_not refusal = inr refl
 abbrev ack : Result Reply Refusal → ℕ → Ack
 ack reply n = record { reply = reply; at_call = n }
 
--- the calls do not fall
+-- the count of calls does not fall
 pub answered_rise : (old : DiskState) (is : Condition) (cs : Commands) (acks : Acks) (new : DiskState) → AreAnswered old is cs acks new → old.calls ≤ new.calls
 answered_rise old is [] [] new all = all.later
 answered_rise old is (c ∷ cs) (a ∷ acks) new all =
@@ -82,7 +82,7 @@ module _ (s : Source) (old mid new : DiskState) (c : Command × ℕ) (cs : Comma
       let here : one (is_accepted (ack reply n) && nat_le n m) ≡ 0 = ap (λ (b : Bool). one (is_accepted (ack reply n) && b)) (not_yet m n (omega (arith, lt, at))) ∙ and_false (is_accepted (ack reply n)) in
       omega (arith, here, none_yet m lt, acknowledged_cons m (ack reply n) acks)
 
-  -- the old state, while nothing is acknowledged
+  -- the old state, before the first acknowledgement
   at_first : (reply : Result Reply Refusal) (m : ℕ) (image : List ℕ) → acknowledged m (ack reply n ∷ acks) ≡ 0 → StandsFor image s → Before reply m image
   at_first reply m image none stands = record { j = 0; least = omega (arith, none); most = omega arith; stands = stands }
 
@@ -122,7 +122,7 @@ module _ (s : Source) (old mid new : DiskState) (c : Command × ℕ) (cs : Comma
       (λ m image lt either. at_first (Err refusal) m image (unanswered (Err refusal) m lt) (⊎_elim (λ x. x) (λ x. x) either))
       (record { later = rest.later; before = rest.before; each = λ m image ge le left. still refusal other m image (omega (arith, ge, at)) (rest.each m image ge le left) })
 
-  -- the device failed, and each later answer is Closed
+  -- the device failed, and all later answers are Closed
   failed : Leaves old mid (λ _ image. StandsFor image s ⊎ MayStandFor (InDoubt s next) image) → AreAnswered mid (InDoubt s next) cs acks new
       → Leaves old new (Before (Err Device))
   failed within rest =
@@ -148,7 +148,7 @@ module _ (s : Source) (old mid new : DiskState) (c : Command × ℕ) (cs : Comma
         stands = subst (λ (l : Commands). StandsFor image (fold_of s (take 1 l))) (sym alone) stands;
       }
 
--- each image at each moment represents a prefix of the counted commands
+-- at every moment, every image represents a prefix of the counted commands
 pub answered_leave_prefixes : (s : Source) (old : DiskState) (cs : Commands) (acks : Acks) (new : DiskState) → AreAnswered old (Holding s) cs acks new
     → Leaves old new (StandsForPrefix s cs acks)
 answered_leave_prefixes s old [] [] new all =

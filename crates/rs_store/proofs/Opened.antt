@@ -1,4 +1,4 @@
--- What opening finds: when a disk represents no state, and when a source holds the state that its lists tell.
+-- The results of opening: when a disk represents no state, and when a source holds the state that its lists determine.
 use Rattle.std.proofs.Common.{◌≡◌, inl, inr, ◌+◌, ◌≤◌, ◌<◌, ◌^◌, ℕ, false, List, ◌∷◌, Some, Result, Err, IsTrue, length, sym, ◌∙◌, ap, subst, refl, arith}
 use Rattle.std.specs.Prelude.{IsSome, IsErrOf}
 use Rattle.std.proofs.lemmas.Bool.{cases_lt}
@@ -47,7 +47,7 @@ told_room root c image s told =
     let some : 1 ≤ root.length = omega (arith, same, some_bytes root.version c, length-take {A = ℕ}) in
     has_room (length image) root.length root.directory _ told.whole.directory some told.whole.inside
 
--- so a disk without that room represents none
+-- so a disk without that room represents no state
 pub small_tells_nothing : (image : List ℕ) → length image < 1024 → (s : Source) → StandsFor image s → ⊥
 small_tells_nothing image small s stands =
     absurd (omega (arith, told_room stands.0 stands.2.0 image s stands.2.1))
@@ -55,7 +55,7 @@ small_tells_nothing image small s stands =
 some_same : (a b : Standing) → Some a ≡ Some b → a ≡ b
 some_same a b e = cc
 
--- a disk whose root tells nothing represents no state
+-- a disk whose root determines no state represents no state
 pub untold_stands_for_nothing : (image : List ℕ) (slots : Standing) (root : Root) → current image ≡ Some slots → slots.root ≡ root
     → ((c : Contents) (s : Source) → Tells root c image s → ⊥) → (s : Source) → StandsFor image s → ⊥
 untold_stands_for_nothing image slots root stand is untold s stands =
@@ -64,7 +64,7 @@ untold_stands_for_nothing image slots root stand is untold s stands =
     let root_same : stands.0 ≡ root = sym there.2 ∙ ap (λ (x : Standing). x.root) same ∙ is in
     untold stands.2.0 s (subst (λ (r : Root). Tells r stands.2.0 image s) root_same stands.2.1)
 
--- What a source holds whose disk rests and whose root tells its lists.
+-- The state of a source whose disk rests and whose root determines its lists.
 pub holds_told : {D : Type 0} (device : D → DiskState) (disk : D) (slots : Standing) (c : Contents) (seen : List ℕ)
     → IsReady slots (device disk).now → (device disk).now ≡ resting seen → Tells slots.root c seen (state_in seen c)
     → Holds device (record { disk = disk; slots = slots; contents = c; is_closed = false }) (state_in (device disk).now.seen c)
@@ -80,7 +80,7 @@ holds_told device disk slots c seen ready rests told =
           (subst (λ (s : Source). Tells slots.root c seen s) state told);
     }
 
--- the bytes represent the state that their root tells
+-- the bytes represent the state that their root determines
 pub stands_told : {D : Type 0} (device : D → DiskState) (disk : D) (slots : Standing) (c : Contents) (seen : List ℕ)
     → (device disk).now ≡ resting seen → current seen ≡ Some slots → Tells slots.root c seen (state_in seen c)
     → StandsFor seen (state_in (device disk).now.seen c)
@@ -89,7 +89,7 @@ stands_told device disk slots c seen rests stand told =
     let state : state_in seen c ≡ state_in (device disk).now.seen c = ap (λ (l : List ℕ). state_in l c) (sym same) in
     (slots.root, (slots, stand, refl), (c, subst (λ (s : Source). Tells slots.root c seen s) state told))
 
--- a property of each fault of the lists is one of the answer with its name
+-- a property of all faults of the lists is a property of the answers with their names
 pub lists_not_opened : (old new : DiskState) (fault : LoadFault)
     → (fault ≡ lists.Damaged → IsTrue new.honest → IsSome (current old.now.seen) × ((s : Source) → ¬ StandsFor old.now.seen s))
     → (fault ≡ lists.Device → HasFailed old new)
@@ -98,7 +98,7 @@ lists_not_opened old new lists.Damaged damaged device memory = damaged refl
 lists_not_opened old new lists.Device damaged device memory = device refl
 lists_not_opened old new lists.NoMemory damaged device memory = memory refl
 
--- a refusal for what a disk holds is one for what it held before it settled
+-- a refusal for the content of a disk is a refusal for the content before it settled
 pub not_opened_before : (old mid new : DiskState) → mid.now.seen ≡ old.now.seen → mid.size ≡ old.size → old.faults ≤ mid.faults → (fault : OpenFault)
     → IsNotOpened mid new fault → IsNotOpened old new fault
 not_opened_before old mid new same size le NotASource refused = λ honest. sym (ap current same) ∙ refused honest

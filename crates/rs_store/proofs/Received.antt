@@ -19,11 +19,11 @@ same_body n came body whole h =
     let long : length came ≡ length body = whole ∙ sym h.len in
     sym h.front ∙ (ap (λ k. take k body) long ∙ take-length body)
 
--- what came and these bytes are a body
+-- the bytes that came, followed by these bytes, are a body
 pub begins : (n : ℕ) (came rest : List ℕ) → length came + length rest ≡ n → IsBodyOf n came (came ++ rest)
 begins n came rest all = record { len = length-append came rest ∙ all; front = take-append_seam came rest }
 
--- some body begins with what came, where it is no longer
+-- some body begins with the bytes that came, if it is no shorter
 pub begins_one : (n : ℕ) (came : List ℕ) → length came ≤ n → (body : List ℕ) × IsBodyOf n came body
 begins_one n came le =
     let rest : List ℕ = replicate (n - length came) 0 in
@@ -40,27 +40,27 @@ may_fit n came Device may = may
 may_fit n came NoMemory may = none_or_all n came may
 may_fit n came refusal may = rw may (omega arith)
 
--- at any refusal nothing may have come
+-- at any refusal it is possible that no bytes came
 pub nothing_came : (n : ℕ) (r : Refusal) → MayHaveCome n [] r
 nothing_came n Device = omega arith
 nothing_came n NoMemory = inl refl
 nothing_came n refusal = refl
 
--- at a late one everything may have come
+-- at a late refusal it is possible that all bytes came
 come_late : (n : ℕ) (came : List ℕ) (r : Refusal) → IsLate r → length came ≡ n → MayHaveCome n came r
 come_late n came Device late whole = omega (arith, whole)
 come_late n came NoMemory late whole = inr whole
 come_late n came refusal late whole = absurd late
 
 module _ {D : Type 0} (device : D → DiskState) (old new : Stored D) (name kind : List ℕ) (n now : ℕ) (came : List ℕ) where
-  -- a refusal that no reader gives
+  -- a refusal that does not come from a reader
   pub refused_from : (r : Refusal) → (r ≡ ReadFault → ⊥) → (r ≡ ShortBody → ⊥) → MayHaveCome n came r → ((body : List ℕ) → IsBodyOf n came body → Answers device old new (Put name kind body) now (Err r))
       → AnswersFrom device old new (coming_put name kind n now) came (Err r)
   refused_from ReadFault a b fits all = absurd (a refl)
   refused_from ShortBody a b fits all = absurd (b refl)
   refused_from refusal a b fits all = (fits, all)
 
-  -- the same if one body is answered so
+  -- the same if one body gets this answer
   pub refused_as : (r : Refusal) (body : List ℕ) → IsBodyOf n came body → MayHaveCome n came r → ((body : List ℕ) → IsBodyOf n came body → Answers device old new (Put name kind body) now (Err r))
       → AnswersFrom device old new (coming_put name kind n now) came (Err r)
   refused_as r body is fits all =
@@ -80,7 +80,7 @@ module _ {D : Type 0} (device : D → DiskState) (old new : Stored D) (name kind
 pub zeros : (n : ℕ) → IsBodyOf n [] (replicate n 0)
 zeros n = record { len = length-replicate n 0; front = refl }
 
--- what NoMemory leaves
+-- the effect of NoMemory
 pub left_by : {D : Type 0} (device : D → DiskState) (old new : Stored D) (name kind body : List ℕ) (now : ℕ) → Answers device old new (Put name kind body) now (Err NoMemory) → IsLeft device old new
 left_by device old new name kind body now a = record {
   unchanged = a.unchanged NoMemory refl (λ (is : NoMemory ≡ Device). absurd cc);
@@ -98,18 +98,18 @@ module _ {D : Type 0} (device : D → DiskState) (old new : Stored D) (name kind
   cut_from Device other cut short = absurd (other refl)
   cut_from refusal other cut short = absurd cut
 
--- what cuts the reading stops the receiving
+-- a cut of the reading is a stop of the receiving
 pub cut_stops : (n : ℕ) (rest : Option (List ℕ)) (came : List ℕ) (r : Refusal) → IsCut n rest came r → IsStopped n rest came r
 cut_stops n rest came Device cut = absurd cut
 cut_stops n rest came r cut = cut
 
--- and is no fault of the device
+-- and no fault of the device
 pub cut_not_device : (n : ℕ) (rest : Option (List ℕ)) (came : List ℕ) (r : Refusal) → IsCut n rest came r → r ≡ Device → ⊥
 cut_not_device n rest came ReadFault cut is = absurd cc
 cut_not_device n rest came ShortBody cut is = absurd cc
 cut_not_device n rest came r cut is = absurd cut
 
--- what stops the receiving of a piece stops that of the body, of which more had come
+-- a stop of the receiving of a piece is a stop of the receiving of the body, of which more bytes had come
 pub stops_behind : (n m : ℕ) (rest : Option (List ℕ)) (front came : List ℕ) (r : Refusal) → length front + m ≤ n → IsStopped m rest came r → IsStopped n rest (front ++ came) r
 stops_behind n m rest front came ReadFault fits cut = omega (arith, length-append front came, cut)
 stops_behind n m rest front came ShortBody fits cut = (omega (arith, length-append front came, cut.0), cut.1)

@@ -1,4 +1,4 @@
--- A new source tells the state of a source at its start.
+-- A new source has the state of a source at its start.
 use Rattle.std.proofs.Common.{◌≡◌, ◌≤◌, ◌<◌, ◌*◌, ◌+◌, ℕ, false, true, List, [], ◌∷◌, ◌++◌, Result, Ok, Err, length, take, drop, sym, ◌∙◌, ap, subst, refl, arith, ⊎_elim}
 use Rattle.std.specs.Prelude.{OnOk}
 use Rattle.std.proofs.lemmas.Bool.{false≢true}
@@ -48,7 +48,7 @@ front_made root old new room size made =
     let long : length new.seen ≡ length (formatted root) + length (behind_slots old) = ap length seen ∙ length-append (formatted root) (behind_slots old) in
     front_of (formatted root) (behind_slots old) new.seen seen (omega (arith, room, size, long, length-drop 1024 old))
 
--- what lies from block 2 on is behind the slots
+-- the bytes from block 2 on lie after the slots
 pub part_behind : (e : Extent) (n : ℕ) (one two : List ℕ) → e.first ≡ 2 → SameBehind one two → part e n one ≡ part e n two
 part_behind e n one two is same =
     ap (λ (k : ℕ). take n (drop (512 * k) one)) is ∙ ap (λ (l : List ℕ). take n l) same.bytes ∙ sym (ap (λ (k : ℕ). take n (drop (512 * k) two)) is)
@@ -57,7 +57,7 @@ one_block : (e : Extent) (n size b : ℕ) → e.first ≡ 2 → e.blocks ≡ blo
 one_block e n size b first blocks small room is =
     ⊎_elim (λ there. let at = within_is e b there in (omega (arith, at.0), omega (arith, at.1))) (λ none. absurd (false≢true none)) (some_split e [] b is)
 
--- what the first root reaches keeps all rules
+-- the first root and its lists keep all rules
 pub first_whole : (base : List ℕ) (limit moment size : ℕ) → length (listing written_format (first_contents base limit moment)) ≤ 512 → 16 ≤ blocks_of_disk size
     → IsWhole size (first_root (first_contents base limit moment)) (first_contents base limit moment)
 first_whole base limit moment size small room =
@@ -104,7 +104,7 @@ first_rooted base limit moment size room c e =
     subst (λ (r : Root). IsRooted (rooted size r first)) (sym f)
     (record { room = omega (arith, room); whole = first_whole base limit moment size small room; listable = first_listable base limit moment lawful }))
 
--- where its directory stands, its root tells the lists of a source at its start
+-- if the image holds its directory, its root tells the lists of a source at its start
 pub first_told : (base : List ℕ) (limit moment : ℕ) (image : List ℕ) → IsLawfulHeader written_format (first_header base limit moment)
     → length (listing written_format (first_contents base limit moment)) ≤ 512 → 16 ≤ blocks_of_disk (length image)
     → part (first_root (first_contents base limit moment)).directory (length (listing written_format (first_contents base limit moment))) image ≡ listing written_format (first_contents base limit moment)
@@ -140,7 +140,7 @@ made_root c bytes sha blocks len spelled long digest needed =
     let sized : blocks ≡ blocks_of (length (listing written_format c)) = needed ∙ ap blocks_of as_long in
     λ i. record { version = written_version; generation = 1; directory = record { first = 2; blocks = sized i }; length = as_long i; sha256 = same i }
 
--- the same of whatever equals its lists and root
+-- the same for all lists and roots that equal its own
 told_of : (base : List ℕ) (limit moment : ℕ) (image : List ℕ) → 16 ≤ blocks_of_disk (length image) → (c : Contents) → c ≡ first_contents base limit moment
     → (root : Root) → root ≡ first_root c → IsLawfulHeader written_format c.header → length (listing written_format c) ≤ 512 → part root.directory (length (listing written_format c)) image ≡ listing written_format c
     → Tells root c image (start_of base limit moment)
@@ -153,7 +153,7 @@ told_of base limit moment image room c e =
     let Q : Root → Type 0 = λ r. part r.directory (length (listing written_format first)) image ≡ listing written_format first → Tells r first image (start_of base limit moment) in
     subst Q (sym f) (λ reads. first_told base limit moment image lawful small room reads))
 
--- What a new source holds.
+-- The state of a new source.
 pub first_holds : {D : Type 0} (device : D → DiskState) (disk : D) (slots : Standing) (base : List ℕ) (limit moment : ℕ) (b : Blank)
     → IsBlank base limit moment b → slots ≡ fresh b.root → IsReady (fresh b.root) (device disk).now → (device disk).now ≡ resting (device disk).now.seen
     → part b.root.directory (length b.directory.items) (device disk).now.seen ≡ b.directory.items → 16 ≤ blocks_of_disk (length (device disk).now.seen)

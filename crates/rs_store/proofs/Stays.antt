@@ -1,4 +1,4 @@
--- Writes beside the blocks that a root reaches keep the slots, what the root tells, and the state of the lists.
+-- Writes outside the blocks that a root reaches keep the slots, the state of an image, and the state of the lists.
 use Rattle.std.proofs.Common.{true≢false, ◌≡◌, ℕ, ◌+◌, ◌*◌, ◌/◌, ◌%◌, ◌<◌, ◌≤◌, Bool, true, false, ◌||◌, nat_lt, nat_le, List, map, take, get_or, refl, sym, ◌∙◌, ap, subst, arith, length-take}
 use Rattle.std.proofs.lemmas.Bool.Decides.{nat_tests}
 use Rattle.std.proofs.lemmas.List.{ext_get_or, get_or-take}
@@ -60,7 +60,7 @@ ready_after slots c old mid ready run =
     ready_stays slots old.now mid.now (front_kept (is_kept slots.root c) (low_kept slots.root c) old.now.seen mid.now.seen run.seen)
     (marks_front (is_kept slots.root c) (low_kept slots.root c) old.now.unsettled mid.now.unsettled run.marks) ready
 
--- what an image tells
+-- the state of an image
 module _ (slots : Standing) (c : Contents) (s : Source) (old : DiskState) (is : IsMedium old.size old.now) (ready : IsReady slots old.now)
     (told : (image : List ℕ) → IsImage old.now image → Tells slots.root c image s) where
   still : (image : List ℕ) → KeptFrom (is_kept slots.root c) old.now image → StandsFor image s × Tells slots.root c image s

@@ -29,12 +29,12 @@ abbrev pub Acks : Type 0
 Acks = List Ack
 
 module _ {D : Type 0} (device : D → DiskState) (sound : (disk : D) → IsMedium (device disk).size (device disk).now) where
-  -- each image of the disk of a source that holds a state represents it
+  -- every image of the disk of a source that holds a state represents it
   pub images_stand : (source : Stored D) (s : Source) → Holds device source s → (image : List ℕ) → IsImage (device source.disk).now image → StandsFor image s
   images_stand source s holds image left =
       (source.slots.root, ready_opens source.slots (device source.disk).now (device source.disk).size (sound source.disk) holds.ready image left, (source.contents, holds.tells image left))
 
-  -- a source that does nothing
+  -- a source without calls
   pub idle_at : (source : Stored D) → IsIdle device source source
   idle_at source = record {
     is_closed = refl;
@@ -43,7 +43,7 @@ module _ {D : Type 0} (device : D → DiskState) (sound : (disk : D) → IsMediu
     calls = omega arith;
   }
 
-  -- one command more
+  -- one more command
   pub in_turn_push : (old : Stored D) (cs : Commands) (acks : Acks) (mid : Stored D) (c : Command × ℕ) (a : Ack) (new : Stored D)
       → InTurn device old cs acks mid → Answers device mid new c.0 c.1 a.reply → a.at_call ≡ (device new.disk).calls → InTurn device old (cs ++ c ∷ []) (acks ++ a ∷ []) new
   in_turn_push old [] [] mid c a new turn answers at = (mid, turn, new, answers, at, idle_at new)
@@ -51,7 +51,7 @@ module _ {D : Type 0} (device : D → DiskState) (sound : (disk : D) → IsMediu
   in_turn_push old [] (y ∷ acks) mid c a new turn answers at = absurd turn
   in_turn_push old (x ∷ cs) [] mid c a new turn answers at = absurd turn
 
--- one that idles, and idles again
+-- a source that idles twice in sequence idles
 pub idle_on : {D : Type 0} (device : D → DiskState) (old mid new : Stored D) → IsIdle device old mid → IsIdle device mid new → IsIdle device old new
 idle_on device old mid new first then = record {
   is_closed = then.is_closed ∙ first.is_closed;
@@ -63,7 +63,7 @@ idle_on device old mid new first then = record {
   calls = omega (arith, first.calls, then.calls);
 }
 
--- one run and then another
+-- two runs in sequence
 pub in_turn_on : {D : Type 0} (device : D → DiskState) (old mid new : Stored D) (cs ds : Commands) (acks late : Acks)
     → InTurn device old cs acks mid → InTurn device mid ds late new → InTurn device old (cs ++ ds) (acks ++ late) new
 in_turn_on {D} device old mid new [] [] [] [] turn then = idle_on device old mid new turn then
@@ -74,7 +74,7 @@ in_turn_on {D} device old mid new (c ∷ cs) ds (a ∷ acks) late turn then = (t
 in_turn_on {D} device old mid new [] ds (a ∷ acks) late turn then = absurd turn
 in_turn_on {D} device old mid new (c ∷ cs) ds [] late turn then = absurd turn
 
--- the calls do not fall
+-- the count of calls does not fall
 pub calls_rise : {D : Type 0} (device : D → DiskState) (old : Stored D) (cs : Commands) (acks : Acks) (new : Stored D)
     → InTurn device old cs acks new → (device old.disk).calls ≤ (device new.disk).calls
 calls_rise {D} device old [] [] new turn = turn.calls
@@ -121,7 +121,7 @@ closed_run {D} device old (c ∷ cs) (a ∷ acks) new shut turn =
 closed_run {D} device old [] (a ∷ acks) new shut turn = absurd turn
 closed_run {D} device old (c ∷ cs) [] new shut turn = absurd turn
 
--- one pair more
+-- one more pair
 pub zip_push : {A B : Type 0} (R : A → B → Type 0) (xs : List A) (ys : List B) (x : A) (y : B) → AllZip R xs ys → R x y → AllZip R (xs ++ x ∷ []) (ys ++ y ∷ [])
 zip_push R [] [] x y all more = (more, tt)
 zip_push R (a ∷ xs) (b ∷ ys) x y all more = (all.0, zip_push R xs ys x y all.1 more)

@@ -1,4 +1,5 @@
--- The set of used blocks across a commit: what a plan takes, what it gives back, and what is used afterwards.
+-- The set of used blocks across a commit: the blocks that a plan takes, the blocks that it gives back, and the blocks
+-- that are used afterwards.
 use Rattle.std.proofs.Common.{true≢false, ◌≡◌, ◌≤◌, ℕ, Bool, true, false, not, ◌&&◌, ◌||◌, List, refl, sym, ◌∙◌, subst, arith}
 use Rattle.rs_extent.specs.declared.Extent.{Extent}
 use Rattle.rs_extent.specs.Blocks.{is_used}
@@ -14,7 +15,7 @@ use Rattle.rs_plan.specs.declared.plan.Plan.{Plan}
 use Rattle.rs_plan.specs.Plans.{places, once_stored, planned_root, IsPlanned}
 use Rattle.rs_store.proofs.Stays.{reach_kept}
 
--- whether a block is used then, by whether it was (k), was given back (f) and was taken (t)
+-- whether a block is used then, by whether it was used (k), was given back (f) and was taken (t)
 used_then : (k f t was between then : Bool) → (f ≡ true → then ≡ false) → (f ≡ false → then ≡ between)
     → (t ≡ true → between ≡ true) → (t ≡ false → between ≡ was) → was ≡ k → (f ≡ true → t ≡ false) → then ≡ ((k && not f) || t)
 used_then k true true was between then given stays taken left is apart = absurd (true≢false (apart refl))
@@ -27,7 +28,7 @@ used_then false false false was between then given stays taken left is apart = s
 
 module _ (size : ℕ) (root : Root) (old : Contents) (command : Command) (moment : ℕ) (p : Plan) (used : List Bool)
     (whole : IsWhole size root old) (are : AreUsed (rooted size root old) used) (planned : IsPlanned (rooted size root old) command moment p) where
-  -- what a plan takes are its places
+  -- the blocks that a plan takes are its places
   pub taken_places : p.taken.items ≡ places p
   taken_places = planned.blocks.taken
 
@@ -39,7 +40,7 @@ module _ (size : ℕ) (root : Root) (old : Contents) (command : Command) (moment
         is_free = λ b here. are.each b (planned.inside b here).1 ∙ planned.free b here;
       })
 
-  -- what is given back is used, and none of it was taken
+  -- all given-back blocks are used, and no taken block is among them
   given_kept : (b : ℕ) → in_some p.freed.items b ≡ true → is_kept root old b ≡ true
   given_kept b here = reach_kept root old b (planned.blocks.reached b here)
 

@@ -1,4 +1,4 @@
--- The places of a plan, and the writes to them one after the other.
+-- The places of a plan, and the writes to them in sequence.
 use Rattle.std.proofs.Common.{◌≡◌, ℕ, ◌+◌, ◌*◌, ◌<◌, ◌≤◌, Bool, true, List, [], ◌∷◌, ◌++◌, length, sym, ◌∙◌, subst, arith, Result, Ok, Err, OnOk}
 use Rattle.std.specs.List.{AllZip}
 use Rattle.std.proofs.lemmas.List.{append_assoc}
@@ -29,7 +29,7 @@ behind_bodies p = pages_of p ++ p.directory ∷ []
 places_are : (p : Plan) → places p ≡ p.bodies.items ++ behind_bodies p
 places_are p = simp append_assoc
 
--- What is beside the places of a plan is beside each of them.
+-- A set that is disjoint from the places of a plan is disjoint from its bodies, its pages and its directory.
 pub record AreEachBeside (kept : ℕ → Bool) (p : Plan) : Type 0 where
   pub bodies : AreBeside kept p.bodies.items
   pub pages : AreBeside kept (pages_of p)
@@ -45,7 +45,7 @@ beside_each kept p beside =
       directory = beside_first kept p.directory [] (beside_behind kept (pages_of p) (p.directory ∷ []) behind);
     }
 
--- The places of a plan are apart from one another.
+-- The places of a plan are disjoint from one another.
 pub record AreEachApart (p : Plan) : Type 0 where
   pub bodies : AreApart p.bodies.items
   pub pages : AreApart (pages_of p)
@@ -102,7 +102,7 @@ inside_each size p inside =
 abbrev pub AreSized : List Extent → List (List ℕ) → Type 0
 AreSized extents bodies = AllZip (λ extent bytes. IsSized extent (length bytes)) extents bodies
 
--- Bodies that stand in extents of a set stay where the set is kept.
+-- Bodies in extents of a set stay if the set is kept.
 pub bodies_kept_so : (kept : ℕ → Bool) (extents : List Extent) (bodies : List (List ℕ)) → AreSized extents bodies
     → ((b : ℕ) → in_some extents b ≡ true → kept b ≡ true) → (old new : List ℕ) → Keeps kept old new
     → AreBodies old extents bodies → AreBodies new extents bodies
@@ -114,11 +114,11 @@ bodies_kept_so kept (e ∷ es) (bytes ∷ bodies) sized all old new keeps stand 
   bodies_kept_so kept es bodies sized.1 (λ b is. all b (some_rest e es b is)) old new keeps stand.1,
 )
 
--- a set beside an extent is beside the list of it alone
+-- a set that is disjoint from an extent is disjoint from the list of this extent alone
 beside_alone : (kept : ℕ → Bool) (e : Extent) → IsBeside kept e → AreBeside kept (e ∷ [])
 beside_alone kept e beside b is = beside b (in_one e b is)
 
--- The bodies, then the pages, then the directory: all of them stand there at the end.
+-- The bodies, then the pages, then the directory: all of them are written at the end.
 pub all_written : {A B : Type 0} (p : Plan) (bodies : List (List ℕ)) (first mid new : DiskState) → AreApart (places p) → AreSized p.bodies.items bodies
     → AreBodies first.now.seen p.bodies.items bodies → WritesOnly (pages_of p) A first mid → AreWrittenPages mid.now.seen p.contents → WritesOnly (p.directory ∷ []) B mid new
     → part p.directory (length (planned_listing p)) new.now.seen ≡ planned_listing p → AreWritten p bodies new.now.seen

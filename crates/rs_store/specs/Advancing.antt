@@ -6,15 +6,16 @@ use Rattle.rs_model.specs.Step.{refusal_of, fold_of}
 use Rattle.rs_model.specs.declared.command.Command.{Command}
 use Rattle.rs_store.specs.Source.{Stored, Holds, state_of}
 
--- A source did these commands in their order, each at its moment. If it is open, it was open before, its lists tell the state that
--- the commands make of what they told before, and it holds the state that the commands make of the one that it held.
+-- A source did these commands in their order, at their moments. If it is open, it was open before, its lists determine
+-- the state after the commands from their earlier state, and it holds the state after the commands from the state that
+-- it held.
 pub record GoesOnBy {D : Type 0} (device : D → DiskState) (old new : Stored D) (commands : List (Command × ℕ)) : Type 0 where
   pub opened : new.is_closed ≡ false → old.is_closed ≡ false
   pub tells : new.is_closed ≡ false → state_of device new ≡ fold_of (state_of device old) commands
   pub holds : (s : Source) → Holds device old s → new.is_closed ≡ false → Holds device new (fold_of s commands)
 
--- A source did at most one command, which came at this moment and which the model accepts. Without one it is as open or closed as
--- it was.
+-- A source did at most one command, which came at this moment and which the model accepts. Without a command it is as
+-- open or closed as before.
 pub record GoesOnOnce {D : Type 0} (device : D → DiskState) (old : Stored D) (now : ℕ) (new : Stored D) : Type 0 where
   pub commands : List (Command × ℕ)
   pub few : length commands ≤ 1

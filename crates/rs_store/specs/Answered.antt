@@ -1,4 +1,4 @@
--- What a source answers to a command.
+-- The answers of a source to commands.
 use Rattle.std.specs.Prelude.{◌≡◌, ◌+◌, ℕ, true, Option, Some, None, Result, Ok, Err, IfOk, IsErrOf, IsTrue}
 use Rattle.rs_disk.specs.Runs.{RunsWriting}
 use Rattle.rs_disk.specs.Medium.{DiskState}
@@ -20,33 +20,36 @@ abbrev pub moment_unless : Option Refusal → ℕ → Result ℕ Refusal
 moment_unless None moment = Ok moment
 moment_unless (Some refusal) moment = Err refusal
 
--- The memory is as it was, and tells the same state.
+-- The memory is unchanged, and determines the same state.
 pub record IsUnchanged {D : Type 0} (device : D → DiskState) (old new : Stored D) : Type 0 where
   pub slots : new.slots ≡ old.slots
   pub contents : new.contents ≡ old.contents
   pub state : state_of device new ≡ state_of device old
 
--- A command was carried out by its plan: the lists are those of the plan, stored in the places that it gives them, and the root is
--- the next one. So a page that the plan does not touch keeps its items, its extent and its digest.
+-- A command was carried out by its plan: the lists are those of the plan, stored in the places that it gives them, and
+-- the root is the next one. So a page that the plan does not touch keeps its items, its extent and its digest.
 pub record IsCarriedOut {D : Type 0} (device : D → DiskState) (old new : Stored D) (command : Command) (now : ℕ) : Type 0 where
   pub plan : Plan
   pub planned : IsPlanned (rooted_in device old) command (moment_at (state_of device old) now) plan
   pub contents : new.contents ≡ once_stored plan.contents
   pub root : new.slots.root ≡ planned_root old.slots.root plan
 
--- What a source answers to a command that comes at `now`, and what it is then.
+-- The answer of a source to a command that comes at `now`, and the source after it.
 -- `decides`, `untouched`: it answers a refusal that needs neither memory nor the disk, and nothing changes.
--- `full`: Full leaves the source as it was, and comes before any write or call.
--- `refused`: each refusal has its cause.
--- `accepted`: Ok is the model's step of the state that the lists tell, with its reply.
+-- `full`: Full leaves the source unchanged, and comes before any write or call.
+-- `refused`: every refusal has its cause.
+-- `accepted`: Ok is the model's step of the state that the lists determine, with its reply.
 -- `planned`: an accepted command is carried out by its plan, so the rules determine pages and places.
--- `generation`, `version`: each accepted command takes one generation of the root, and gives the root the version that is written.
--- `leads`: if the source holds a state, what it holds then, and what each image of a crash meanwhile represents.
--- `runs`: it answers Device only where a device call failed or the count of calls is at its last value, and another answer only where
--- none failed. It makes no call behind a failed one. The disk keeps its size, and its counts do not fall.
+-- `generation`, `version`: an accepted command takes one generation of the root, and gives the root the version that is
+-- written.
+-- `leads`: if the source held a state, the state that it holds afterwards, and the states of all images of a crash
+-- meanwhile.
+-- `runs`: it answers Device only where a device call failed or the count of calls is at its last value, and all other
+-- answers only where no call failed. It makes no call after a failed one. The disk keeps its size, and its counts do
+-- not fall.
 -- `closed`: a closed source answers Closed, and nothing changes.
--- `closes`, `stays_open`: Device closes it, and nothing else does.
--- `unchanged`: any other refusal leaves the memory as it was.
+-- `closes`, `stays_open`: Device closes the source, and no other answer does.
+-- `unchanged`: all other refusals leave the memory unchanged.
 pub record Answers {D : Type 0} (device : D → DiskState) (old new : Stored D) (command : Command) (now : ℕ) (result : Result Reply Refusal) : Type 0 where
   pub decides : (r : Refusal) → decided old (state_of device old) command now ≡ Some r → result ≡ Err r
   pub untouched : (r : Refusal) → decided old (state_of device old) command now ≡ Some r → new ≡ old

@@ -1,4 +1,4 @@
--- What a source answers when it is asked for a body.
+-- The answers of a source to a request for a body.
 use Rattle.std.specs.Prelude.{◌≡◌, ◌⊎◌, ◌↔◌, ◌+◌, ◌/◌, ℕ, false, List, Some, Result, Vec, IfOk, IfErr, IfSome, IsErrOf, IsTrue}
 use Rattle.std.specs.Global.{Global}
 use Rattle.rs_disk.specs.Medium.{DiskState}
@@ -12,12 +12,14 @@ use Rattle.rs_store.specs.OnlyReads.{OnlyReads}
 use Rattle.rs_store.specs.Shows.{AreAsRecorded, HasItsDigest, IsOfBody}
 use Rattle.rs_store.specs.Source.{Stored, state_of}
 
--- What a source answers when it is asked for the body of a name, and what it is then.
--- `reads`, `recorded`: the bytes are the body, if the device has followed the model; from every device they are as recorded.
+-- The answer of a source to a request for the body of a name, and the source after it.
+-- `reads`, `recorded`: the bytes are the body, if the device has followed the model; from every device they are as
+-- recorded.
 -- `closed`, `not_held`: these refusals come exactly where their cause is there.
--- `damaged`, `others`: the cause of Damaged, and which other refusals there are.
--- `once`: it reads the body at most once, also a damaged one, in pieces of 262,144 bytes; `unread`: without a body it reads nothing.
--- `runs`: Device comes where a device call failed, and else only where the count of calls is at its last value.
+-- `damaged`, `others`: the cause of Damaged, and the set of other refusals.
+-- `once`: it reads the body at most once, also a damaged one, in pieces of 262,144 bytes; `unread`: after Closed and
+-- NotHeld the source and its disk are unchanged.
+-- `runs`: Device comes where a device call failed, and otherwise only where the count of calls is at its last value.
 -- `reads_only`: only the counts of the disk change, and the source stays open, also after Device.
 pub record AnswersBody {D : Type 0} (device : D → DiskState) (old new : Stored D) (name : List ℕ) (result : Result (Vec ℕ Global) Refusal) : Type 0 where
   pub reads : IfOk result (λ bytes. IsTrue (device new.disk).honest → body_of name (state_of device old) ≡ Some bytes.items)

@@ -1,4 +1,4 @@
--- Why a body was not read.
+-- The reasons why a body was not read.
 use Rattle.rs_body.specs.declared.read.LoadFault.{LoadFault}
 use Rattle.rs_body.specs.declared.read.LoadFault.TheVariants as faults
 use Rattle.rs_store.specs.declared.refusal.Refusal.{Refusal}

@@ -1,4 +1,4 @@
--- Why a command is refused, and what it leaves.
+-- The causes of the refusals of commands, and the effects of commands.
 use Rattle.std.specs.Prelude.{◌≡◌, ◌⊎◌, ℕ, Some, None, Result, Ok, Err}
 use Rattle.rs_disk.specs.Medium.{DiskState}
 use Rattle.rs_disk.specs.Leaves.{Leaves}
@@ -28,9 +28,10 @@ IsCause device old new command now ShortBody = ⊥
 IsCause device old new command now NoMemory = decided old (state_of device old) command now ≡ None
 IsCause device old new command now refusal = decided old (state_of device old) command now ≡ Some refusal
 
--- What a command leaves of a source that holds a state, by the model's step from it and by the answer. After Ok the source holds
--- the next state, after any refusal but Device the old one. Meanwhile each image of a crash represents the old state or the next one;
--- with any refusal but Device only the old one. `Answers` says that Device closes the source.
+-- The effect of a command on a source that holds a state, by the model's step from it and by the answer. After Ok the
+-- source holds the next state, after any refusal but Device the old one. Meanwhile every image of a crash represents
+-- the old state or the next one; with any refusal but Device only the old one. `Answers` says that Device closes the
+-- source.
 abbrev pub Leads : {D : Type 0} → (D → DiskState) → Stored D → Stored D → Source → Result (Source × Reply) model.Refusal → Result Reply Refusal → Type 0
 Leads device old new s next (Ok reply) =
     (t : Source) × (next ≡ Ok (t, reply)) × Holds device new t

@@ -1,4 +1,4 @@
--- What a source answers when it is copied to another disk.
+-- The answers of a source to a copy to another disk.
 use Rattle.std.specs.Prelude.{◌≡◌, ◌⊎◌, ◌↔◌, ◌<◌, ◌≤◌, ◌+◌, ℕ, Bool, false, List, All, Result, IfOk, IsErrAnd, IsTrue}
 use Rattle.rs_disk.specs.Medium.{DiskState}
 use Rattle.rs_disk.specs.Leaves.{Leaves}
@@ -41,8 +41,9 @@ pub record LiesAsLaidOut {E : Type 0} (size : ℕ) (c : Contents) (copy : Stored
 -- A copy of these lists was made on a disk of this many bytes.
 -- `generation`, `version`: its root has generation 1 and the version that is written.
 -- `slots`, `ready`: the root is in the first slot, the second one is closed, and they can be changed.
--- `intact`: each body on the new disk has its recorded SHA-256, whatever the old disk gave.
--- `lies`: bodies, pages and the directory each took the lowest run of their size in turn; each list has its own pages of 64 items.
+-- `intact`: every body on the new disk has its recorded SHA-256, with any bytes from the old disk.
+-- `lies`: bodies, pages and the directory, in turn, took the lowest runs of their sizes; every list has its own pages
+-- of 64 items.
 pub record IsCopied {E : Type 0} (other : E → DiskState) (size : ℕ) (c : Contents) (copy : Stored E) : Type 0 where
   pub generation : copy.slots.root.generation ≡ 1
   pub version : copy.slots.root.version ≡ written_version
@@ -51,11 +52,12 @@ pub record IsCopied {E : Type 0} (other : E → DiskState) (size : ℕ) (c : Con
   pub intact : All (HasItsBody (other copy.disk).now.seen) (records_of copy.contents.catalogue)
   pub lies : LiesAsLaidOut size c copy
 
--- Why a source is not copied to the disk `to`, and what a refusal leaves.
--- `closed`, `too_small`, `full`: the causes of these; `untouched`, `unread`: they leave the new disk, and the source with its own
--- disk, as they were.
+-- The reason why a source is not copied to the disk `to`, and the effect of a refusal.
+-- `closed`, `too_small`, `full`: the causes of these; `untouched`, `unread`: they leave the new disk, and the source
+-- with its own disk, unchanged.
 -- `room`: Device and Damaged come only where the new disk has room for the whole copy.
--- `failed`, `sound`: Device comes only where a call of one of the disks failed, and any other answer only where none did.
+-- `failed`, `sound`: Device comes only where a call of one of the disks failed, and all other answers only where no
+-- call failed.
 -- `damaged`: a body lacks its recorded SHA-256, if the old disk has followed the model.
 pub record RefusesCopy {D E : Type 0} (device : D → DiskState) (other : E → DiskState) (old new : Stored D) (to : E) (result : Result (Stored E) (E × CopyRefusal)) : Type 0 where
   pub closed : IsRefusal result Closed ↔ IsTrue old.is_closed
@@ -69,15 +71,16 @@ pub record RefusesCopy {D E : Type 0} (device : D → DiskState) (other : E → 
       → ((device new.disk).faults ≡ (device old.disk).faults) × ((other (disk_of result)).faults ≡ (other to).faults)
   pub damaged : IsFault result Damaged → IsTrue (device new.disk).honest → ¬ All (λ held. HasItsDigest held.1) (state_of device old).held
 
--- Both disks while a source is copied, whatever the answer is.
--- `reads_only`: the source stays open, and only the counts of its disk change. So a stop leaves of it what one before would have left.
--- `once`: it reads each body at most once, also a damaged one.
+-- Both disks while a source is copied, for any answer.
+-- `reads_only`: the source stays open, and only the counts of its disk change. So a stop leaves it as a stop before the
+-- copy would have left it.
+-- `once`: it reads every body at most once, also a damaged one.
 -- `advances`: the new disk keeps its size, and its counts do not fall.
--- `stops`: no call of a disk comes behind a failed one of that disk, and at most one call fails.
--- `any_moment`: at any moment each image of the new disk tells no root, or represents the state that the source holds, or is as before
--- the copy, but for the gates of its slots.
--- `settled`: if the new disk had more than three calls, or none failed, then from its third call on each image of it tells no root, or
--- represents that state.
+-- `stops`: no call of a disk comes after a failed one of that disk, and at most one call fails.
+-- `any_moment`: at any moment every image of the new disk gives no root, or represents the state that the source holds,
+-- or is as before the copy, except for the gates of its slots.
+-- `settled`: if the new disk had more than three calls, or no call failed, then from its third call on every image of
+-- it gives no root, or represents that state.
 pub record IsCopying {D E : Type 0} (device : D → DiskState) (other : E → DiskState) (old new : Stored D) (to disk : E) : Type 0 where
   pub reads_only : OnlyReads device old new
   pub once : CallsAtMost (calls_for_held (state_of device old).held) (device old.disk) (device new.disk)
@@ -89,10 +92,10 @@ pub record IsCopying {D E : Type 0} (device : D → DiskState) (other : E → Di
       → ((other to).calls + 3 < (other disk).calls) ⊎ ((other disk).faults ≡ (other to).faults)
       → Leaves (other to) (other disk) (λ m image. (other to).calls + 3 ≤ m → NoneOrState s image)
 
--- What a source answers when it is copied to the disk `to`, and what both disks are then.
--- `refuses`: the causes of each refusal, and what it leaves.
--- `made`: after Ok, how the copy lies on the new disk; `holds`: the copy holds the state that this source held.
--- `meanwhile`: what a stop leaves of both disks.
+-- The answer of a source that is copied to the disk `to`, and both disks afterwards.
+-- `refuses`: the causes of all refusals, and their effects.
+-- `made`: after Ok, the layout of the copy on the new disk; `holds`: the copy holds the state that this source held.
+-- `meanwhile`: the effect of a stop on both disks.
 pub record AnswersCopy {D E : Type 0} (device : D → DiskState) (other : E → DiskState) (old new : Stored D) (to : E) (result : Result (Stored E) (E × CopyRefusal)) : Type 0 where
   pub refuses : RefusesCopy device other old new to result
   pub made : IfOk result (IsCopied other (other to).size old.contents)

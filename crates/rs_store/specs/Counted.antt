@@ -1,4 +1,4 @@
--- Which commands of a run count, and how many of them count at a moment.
+-- The commands of a run that count, and the number of them that count at a moment.
 use Rattle.std.specs.Prelude.{ℕ, ◌+◌, Bool, true, false, ◌&&◌, ◌||◌, nat_le, List, [], ◌∷◌, ◌++◌, Result, Err, is_ok, if◌then◌else◌}
 use Rattle.rs_model.specs.declared.command.Command.{Command}
 use Rattle.rs_model.specs.declared.command.Reply.{Reply}
@@ -14,7 +14,7 @@ abbrev pub is_device : Result Reply Refusal → Bool
 is_device (Err Device) = true
 is_device reply = false
 
--- the answer is Device, so the command may or may not be done
+-- the answer is Device: the command may or may not be done
 abbrev pub is_in_doubt : Ack → Bool
 is_in_doubt a = is_device a.reply
 
@@ -28,12 +28,12 @@ answered test (c ∷ commands) (a ∷ acks) = if test a then c ∷ answered test
 abbrev pub counted_commands : List (Command × ℕ) → List Ack → List (Command × ℕ)
 counted_commands commands acks = answered is_accepted commands acks ++ answered is_in_doubt commands acks
 
--- how many commands had the answer Ok at a count of m calls
+-- the number of commands that had the answer Ok at a count of m calls
 abbrev pub acknowledged : ℕ → List Ack → ℕ
 acknowledged m [] = 0
 acknowledged m (a ∷ acks) = (if is_accepted a && nat_le a.at_call m then 1 else 0) + acknowledged m acks
 
--- how many counted commands had begun then: all commands before them had their answers
+-- the number of counted commands that had begun then: all commands before them had their answers
 abbrev pub begun : ℕ → List Ack → ℕ
 begun m [] = 0
 begun m (a ∷ acks) = (if is_accepted a || is_in_doubt a then 1 else 0) + (if nat_le a.at_call m then begun m acks else 0)

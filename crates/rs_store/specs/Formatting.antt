@@ -1,4 +1,4 @@
--- What a formatting writes.
+-- The bytes that a formatting writes.
 use Rattle.std.specs.Prelude.{◌≡◌, ◌↔◌, ◌<◌, ◌≤◌, ◌*◌, ℕ, false, List, [], length, take, IsTrue}
 use Rattle.rs_fixity.specs.Digests.{digests}
 use Rattle.rs_disk.specs.Medium.{Medium, resting}
@@ -26,7 +26,7 @@ pub record MayMake (size : ℕ) (base : List ℕ) (limit : ℕ) : Type 0 where
   pub limit_is : IsLimit limit
   pub base_is : IsTrue (is_base base)
 
--- The causes of these faults: each comes exactly where its cause is there, and none of a fault before it.
+-- The causes of these faults: a fault comes exactly where its cause is there, and no cause of a fault before it.
 pub record HasCauses (size : ℕ) (base : List ℕ) (limit : ℕ) (Refuses : FormatFault → Type 0) : Type 0 where
   pub bad_base : Refuses BadBase ↔ (is_base base ≡ false)
   pub bad_limit : Refuses BadLimit ↔ (IsTrue (is_base base) × (¬ IsLimit limit))
@@ -61,7 +61,7 @@ pub record IsBlank (base : List ℕ) (limit moment : ℕ) (b : Blank) : Type 0 w
   pub directory : b.directory.items ≡ listing written_format b.contents
   pub small : length (listing written_format b.contents) ≤ 512
 
--- It fits a disk of this many bytes: the slots, and behind them the directory, where the root says.
+-- It fits a disk of this many bytes: the slots, and after them the directory, in the extent that the root names.
 pub record FitsDisk (size : ℕ) (b : Blank) : Type 0 where
   pub slots : 1024 ≤ size
   pub version : b.root.version ≡ written_version
@@ -69,8 +69,8 @@ pub record FitsDisk (size : ℕ) (b : Blank) : Type 0 where
   pub room : IsOnDisk b.root.directory size
   pub fits : length b.directory.items ≤ block_size * b.root.directory.blocks
 
--- It is written to a disk that has settled: the first slot is open and tells the root, the second one is closed, and the directory
--- lies where the root says.
+-- It is written to a disk that has settled: the first slot is open and gives the root, the second one is closed, and
+-- the directory lies in the extent that the root names.
 pub record IsMade (b : Blank) (m : Medium) : Type 0 where
   pub front : take 1024 m.seen ≡ formatted b.root
   pub ready : IsReady (fresh b.root) m

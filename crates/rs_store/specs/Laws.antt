@@ -17,18 +17,18 @@ use Rattle.rs_store.specs.Counted.{is_accepted, is_device, is_in_doubt, answered
 use Rattle.rs_store.specs.Received.{AnswersFrom, coming_put}
 use Rattle.rs_store.specs.Runs.{IsIdle, InTurn, StandsForPrefix, Holding, condition_behind, AreAnswered}
 
--- If a put ends in Device before all of its body came, and the source held a state, each image of a crash meanwhile represents that
--- state.
+-- If a put ends in Device before all of its body came, and the source held a state, every image of a crash meanwhile
+-- represents that state.
 abbrev pub EarlyFaultsLeave : {D : Type 0} → (D → DiskState) → Type 0
 EarlyFaultsLeave {D} device = (old new : Stored D) (s : Source) (name kind : List ℕ) (n now : ℕ) (came : List ℕ)
     → AnswersFrom device old new (coming_put name kind n now) came (Err Device) → length came < n → Holds device old s
     → Leaves (device old.disk) (device new.disk) (λ _ image. StandsFor image s)
 
--- Each image of the disk of a source that holds a state represents that state.
+-- Every image of the disk of a source that holds a state represents that state.
 abbrev pub HeldStands : {D : Type 0} → (D → DiskState) → Type 0
 HeldStands {D} device = (source : Stored D) (s : Source) → Holds device source s → (image : List ℕ) → IsImage (device source.disk).now image → StandsFor image s
 
--- A source that does nothing idles.
+-- A source without calls idles.
 abbrev pub RestIsIdle : {D : Type 0} → (D → DiskState) → Type 0
 RestIsIdle {D} device = (source : Stored D) → IsIdle device source source
 
@@ -42,7 +42,7 @@ abbrev pub CallsRise : {D : Type 0} → (D → DiskState) → Type 0
 CallsRise {D} device = (old : Stored D) (commands : List (Command × ℕ)) (acks : List Ack) (new : Stored D)
     → InTurn device old commands acks new → (device old.disk).calls ≤ (device new.disk).calls
 
--- each answer is Closed
+-- all answers are Closed
 abbrev pub AreClosed : List Ack → Type 0
 AreClosed acks = AllByRecursion (λ a. a.reply ≡ Err Closed) acks
 
@@ -55,12 +55,12 @@ ClosedStays {D} device = (old : Stored D) (commands : List (Command × ℕ)) (ac
 abbrev pub AreNotDevice : List Ack → Type 0
 AreNotDevice acks = All (λ a. ¬ IsErrOf a.reply Device) acks
 
--- Device closes the source: one that is open at the end of a run answered it to no command.
+-- Device closes the source: a source that is open at the end of a run answered no command with Device.
 abbrev pub DeviceCloses : {D : Type 0} → (D → DiskState) → Type 0
 DeviceCloses {D} device = (old : Stored D) (commands : List (Command × ℕ)) (acks : List Ack) (new : Stored D)
     → InTurn device old commands acks new → new.is_closed ≡ false → AreNotDevice acks
 
--- No command counts that a closed source answered.
+-- A command that a closed source answered does not count.
 abbrev pub ClosedCountNone : Type 0
 ClosedCountNone = (commands : List (Command × ℕ)) (acks : List Ack) → AreClosed acks → (answered is_accepted commands acks ≡ []) × (answered is_in_doubt commands acks ≡ [])
 
@@ -68,7 +68,7 @@ ClosedCountNone = (commands : List (Command × ℕ)) (acks : List Ack) → AreCl
 abbrev pub DeviceOrNoDoubt : Type 0
 DeviceOrNoDoubt = (refusal : Refusal) → (refusal ≡ Device) ⊎ (is_device (Err refusal) ≡ false)
 
--- A refusal that leaves no doubt leaves the state: the source still holds it, and each image meanwhile represents it.
+-- A refusal that leaves no doubt leaves the state: the source still holds it, and every image meanwhile represents it.
 abbrev pub RefusedIsNotDone : {D : Type 0} → (D → DiskState) → Type 0
 RefusedIsNotDone {D} device = (old new : Stored D) (s : Source) (command : Command) (now : ℕ) (refusal : Refusal)
     → is_device (Err refusal) ≡ false → Leads device old new s (step s command now) (Err refusal)
@@ -85,12 +85,13 @@ abbrev pub OpenHoldsAnswered : {D : Type 0} → (D → DiskState) → Type 0
 OpenHoldsAnswered {D} device = (s t : Source) (old : Stored D) (commands : List (Command × ℕ)) (acks : List Ack) (new : Stored D)
     → Holds device old s → InTurn device old commands acks new → condition_behind (Holding s) commands acks ≡ Holding t → Holds device new t
 
--- When commands are answered, at each moment each image represents what a prefix of the counted ones makes.
+-- When commands are answered, at every moment every image represents the state after a prefix of the counted ones.
 abbrev pub AnswersLeavePrefixes : Type 0
 AnswersLeavePrefixes = (s : Source) (old : DiskState) (commands : List (Command × ℕ)) (acks : List Ack) (new : DiskState)
     → AreAnswered old (Holding s) commands acks new → Leaves old new (StandsForPrefix s commands acks)
 
--- At each moment of a run, each image represents what a prefix of the counted commands makes of the state that the source held.
+-- At every moment of a run, every image represents the state after a prefix of the counted commands, from the state
+-- that the source held.
 abbrev pub RunsLeavePrefixes : {D : Type 0} → (D → DiskState) → Type 0
 RunsLeavePrefixes {D} device = (s : Source) (old : Stored D) (commands : List (Command × ℕ)) (acks : List Ack) (new : Stored D)
     → Holds device old s → InTurn device old commands acks new → Leaves (device old.disk) (device new.disk) (StandsForPrefix s commands acks)

@@ -1,4 +1,4 @@
--- What a source answers to a put whose body comes from a reader.
+-- The answers of a source to puts whose bodies come from a reader.
 use Rattle.std.specs.Prelude.{◌≡◌, ◌⊎◌, ◌<◌, ◌≤◌, ◌+◌, ℕ, List, [], length, take, Option, None, Result, Ok, Err}
 use Rattle.std.specs.Io.KnownBytes.{IsAtEnd}
 use Rattle.rs_io.specs.declared.watch.Watched.{Watched}
@@ -24,8 +24,8 @@ pub record IsBodyOf (n : ℕ) (came body : List ℕ) : Type 0 where
   pub len : length body ≡ n
   pub front : take (length came) body ≡ came
 
--- A command was not done: the memory is as it was, the source still holds the state that it held, and each image of a crash
--- meanwhile represents it. No device call failed.
+-- A command was not done: the memory is unchanged, the source still holds the state that it held, and every image of a
+-- crash meanwhile represents it. No device call failed.
 pub record IsLeft {D : Type 0} (device : D → DiskState) (old new : Stored D) : Type 0 where
   pub unchanged : IsUnchanged device old new
   pub is_closed : new.is_closed ≡ old.is_closed
@@ -43,8 +43,8 @@ pub record ComingPut : Type 0 where
 abbrev pub coming_put : List ℕ → List ℕ → ℕ → ℕ → ComingPut
 coming_put name kind size now = record { name = name; kind = kind; size = size; now = now }
 
--- The body of a put did not come whole: fewer bytes came, and the put is not done. No refusal before this one has its cause: none is
--- decided for a body of that length, and each such body has a plan.
+-- The body of a put did not come whole: fewer bytes came, and the put is not done. No refusal before this one has its
+-- cause: no refusal is decided for a body of that length, and every body of that length has a plan.
 pub record IsCutShort {D : Type 0} (device : D → DiskState) (old new : Stored D) (put : ComingPut) (came : List ℕ) : Type 0 where
   pub fewer : length came < put.size
   pub decides : (body : List ℕ) → length body ≡ put.size → decided old (state_of device old) (Put put.name put.kind body) put.now ≡ None
@@ -58,16 +58,16 @@ IsLate Device = Unit {0}
 IsLate NoMemory = Unit {0}
 IsLate refusal = ⊥
 
--- Which bytes of a body of n bytes may have come at a refusal. The device may fail at any piece. Memory may run out before the first
--- byte, and after the last. At any other refusal none came.
+-- The bytes of a body of n bytes that may have come at a refusal. The device may fail at any piece. Memory may run out
+-- before the first byte, and after the last. At any other refusal no bytes came.
 abbrev pub MayHaveCome : ℕ → List ℕ → Refusal → Type 0
 MayHaveCome n came Device = length came ≤ n
 MayHaveCome n came NoMemory = (came ≡ []) ⊎ (length came ≡ n)
 MayHaveCome n came refusal = came ≡ []
 
--- What a source answers to a put of the next bytes of a reader, of which these came. With Ok they are the body, and the answer is that
--- to the put of it. A fault or an early end of the reader cuts it short. Any other refusal is that of the put of each body of that
--- length that begins so.
+-- The answer of a source to a put of the next bytes of a reader, of which these came. With Ok they are the body, and
+-- the answer is that to the put of it. A fault or an early end of the reader cuts it short. Any other refusal is the
+-- answer to the put of every body of that length that begins with these bytes.
 abbrev pub AnswersFrom : {D : Type 0} → (D → DiskState) → Stored D → Stored D → ComingPut → List ℕ → Result Reply Refusal → Type 0
 AnswersFrom device old new put came (Ok reply) =
     (length came ≡ put.size) × Answers device old new (Put put.name put.kind came) put.now (Ok reply)
@@ -77,12 +77,12 @@ AnswersFrom device old new put came (Err refusal) =
     MayHaveCome put.size came refusal
     × ((body : List ℕ) → IsBodyOf put.size came body → Answers device old new (Put put.name put.kind body) put.now (Err refusal))
 
--- A reader gave these bytes by as many reads at most, and by `more` reads that gave none. Where one failed, it was the last.
+-- A reader gave these bytes by at most one read per byte, and at most `more` other reads. At most one read failed.
 pub record ReadsFor {R : Type 0} (more : ℕ) (old new : Watched R) (came : List ℕ) : Type 0 where
   pub reads : calls new ≤ calls old + (length came + more)
   pub once : (failures new).all ≤ (failures old).all + 1
 
--- how many reads give no byte: one where the reader failed or ended, and none at another refusal
+-- the number of reads that give no byte: one where the reader failed or ended, and 0 at all other refusals
 abbrev pub empty_reads : Refusal → ℕ
 empty_reads ReadFault = 1
 empty_reads ShortBody = 1
@@ -92,13 +92,14 @@ abbrev pub empty_reads_of : {T : Type 0} → Result T Refusal → ℕ
 empty_reads_of (Ok value) = 0
 empty_reads_of (Err refusal) = empty_reads refusal
 
--- Why only these of n bytes came from a reader that has `rest` left: it failed, or it ended.
+-- The reason why only these of n bytes came from a reader that has `rest` left: it failed, or it ended.
 abbrev pub IsCut : ℕ → Option (List ℕ) → List ℕ → Refusal → Type 0
 IsCut n rest came ReadFault = length came < n
 IsCut n rest came ShortBody = (length came < n) × IsAtEnd rest
 IsCut n rest came refusal = ⊥
 
--- Why n bytes of a reader were not all read and written, of which these came: not all came, or the device failed.
+-- The reason why n bytes of a reader were not all read and written, of which these came: not all came, or the device
+-- failed.
 abbrev pub IsStopped : ℕ → Option (List ℕ) → List ℕ → Refusal → Type 0
 IsStopped n rest came Device = length came ≤ n
 IsStopped n rest came refusal = IsCut n rest came refusal

@@ -1,4 +1,4 @@
--- Why a source refuses a command.
+-- The reasons why a source refuses a command.
 use Rattle.std.specs.Prelude.{◌+◌, ◌^◌, ℕ, List, codes, Bool, nat_le, if◌then◌else◌, Option, Some, None}
 use Rattle.rs_model.specs.State.{Source}
 use Rattle.rs_model.specs.Step.{refusal_of}
@@ -22,13 +22,13 @@ named_as decides.Exhausted = Exhausted
 abbrev pub is_spent : {D : Type 0} → Stored D → Bool
 is_spent source = nat_le (2 ^ 64) (source.slots.root.generation + 1)
 
--- the refusal of the model, and else that no generation is left
+-- the refusal of the model, and otherwise Exhausted if no generation is left
 abbrev pub or_spent : Option model.Refusal → Bool → Option Refusal
 or_spent (Some refusal) spent = Some (named_as refusal)
 or_spent None spent = if spent then Some Exhausted else None
 
--- Why a source refuses a command that comes at `now` before it uses memory or the disk, if it does: it is closed; then the causes of
--- the model in their order; then no generation is left.
+-- The reason why a source refuses a command that comes at `now` before it uses memory or the disk, if it does: it is
+-- closed; then the causes of the model in their order; then no generation is left.
 abbrev pub decided : {D : Type 0} → Stored D → Source → Command → ℕ → Option Refusal
 decided source s command now = if source.is_closed then Some Closed else or_spent (refusal_of s command now) (is_spent source)
 

@@ -1,4 +1,4 @@
--- What a source shows of its state.
+-- The data that a source shows of its state.
 use Rattle.std.specs.Prelude.{◌≡◌, ℕ, List, length, Option, option_map, sum_by}
 use Rattle.rs_copy.specs.Copies.{calls_to_read}
 use Rattle.rs_fixity.specs.Digests.{digests}
@@ -19,11 +19,11 @@ pub record AreAsRecorded (facts : Facts) (bytes : List ℕ) : Type 0 where
 abbrev pub HasItsDigest : Held → Type 0
 HasItsDigest held = (digests held.bytes).sha256 ≡ held.entry.facts.digests.sha256
 
--- the calls that read each held body once
+-- the calls that read every held body once
 abbrev pub calls_for_held : Names Held → ℕ
 calls_for_held all = sum_by (λ held. calls_to_read held.1.entry.facts.length) all
 
--- the refusals of the question for a body
+-- the refusals of a request for a body
 abbrev pub IsOfBody : Refusal → Type 0
 IsOfBody Closed = Unit {0}
 IsOfBody NotHeld = Unit {0}
@@ -36,7 +36,7 @@ IsOfBody refusal = ⊥
 abbrev pub kind_of : List ℕ → Source → Option (List ℕ)
 kind_of name s = option_map (λ held. held.entry.facts.kind) (value_of name s.held)
 
--- the refusals of a question for a media type
+-- the refusals of a request for a media type
 abbrev pub IsOfKind : Refusal → Type 0
 IsOfKind Closed = Unit {0}
 IsOfKind NotHeld = Unit {0}

@@ -1,4 +1,4 @@
--- What a source answers when it is asked for damaged bodies.
+-- The answers of a source to a request for damaged bodies.
 use Rattle.std.specs.Prelude.{◌≡◌, ◌↔◌, ◌≤◌, ◌*◌, ℕ, Bool, not, nat_eq, List, map, length, Result, Vec, IfOk, IfErr, IsErrOf, IsTrue}
 use Rattle.std.specs.List.{filter}
 use Rattle.std.specs.Cmp.Lexicographic.{pointwise}
@@ -22,7 +22,7 @@ use Rattle.rs_store.specs.Source.{Stored, state_of}
 abbrev pub is_sound : Held → Bool
 is_sound held = pointwise nat_eq (digests held.bytes).sha256 held.entry.facts.digests.sha256
 
--- the names of those without it, in their order
+-- the names of the held resources without it, in their order
 abbrev pub damaged_among : Names Held → List (List ℕ)
 damaged_among held = map (λ e. e.0) (filter (λ e. not (is_sound e.1)) held)
 
@@ -40,17 +40,18 @@ IsOfLook Device = Unit {0}
 IsOfLook NoMemory = Unit {0}
 IsOfLook refusal = ⊥
 
--- the refusals of the question for damaged bodies
+-- the refusals of a request for damaged bodies
 abbrev pub IsOfVerify : Refusal → Type 0
 IsOfVerify Closed = Unit {0}
 IsOfVerify refusal = IsOfLook refusal
 
--- What a source answers to the question for damaged bodies, and what it is then.
--- `names`: exactly the held names whose bytes lack their recorded SHA-256, in ascending order, if the device has followed the model.
+-- The answer of a source to a request for damaged bodies, and the source after it.
+-- `names`: exactly the held names whose bytes lack their recorded SHA-256, in ascending order, if the device has
+-- followed the model.
 -- `few`: from every device, at most as many names as are held.
--- `once`: it reads each body at most once, also a damaged one.
+-- `once`: it reads every body at most once, also a damaged one.
 -- `closed`, `unread`: Closed comes exactly from a closed source, whose disk is not read.
--- `runs`: Device comes where a device call failed, and else only where the count of calls is at its last value.
+-- `runs`: Device comes where a device call failed, and otherwise only where the count of calls is at its last value.
 -- `others`: the only other refusal is NoMemory.
 -- `reads_only`: only the counts of the disk change, and the source stays open, also after Device.
 pub record AnswersVerify {D : Type 0} (device : D → DiskState) (old new : Stored D) (result : Result (Vec (List ℕ) Global) Refusal) : Type 0 where

@@ -1,4 +1,4 @@
--- What a view shows of a source.
+-- The data that a view shows of a source.
 use Rattle.rs_catalogue.specs.Catalogue.{records_of}
 use Rattle.rs_changes.specs.History.{changes_of}
 use Rattle.rs_image.specs.declared.contents.Contents.{Contents}

@@ -46,18 +46,18 @@ pub record IsPlanOfSome (old : Rooted) (p : Plan) : Type 0 where
 abbrev pub touched_extents : Contents → List Extent
 touched_extents c = placed_extents c.catalogue ++ placed_extents c.history.pages
 
--- each page of the catalogue and the history has a place
+-- every page of the catalogue and the history has a place
 pub record ArePlaced (c : Contents) : Type 0 where
   pub catalogue : All (λ page. ¬ IsTouched page.place) c.catalogue
   pub history : All (λ page. ¬ IsTouched page.place) c.history.pages
 
--- each page of the catalogue and the history that was given blocks stands in them
+-- every page of the catalogue and the history that was given blocks is written in them
 pub record AreWrittenPages (image : List ℕ) (c : Contents) : Type 0 where
   pub catalogue : All (IsWritten record_format image) c.catalogue
   pub history : All (IsWritten change_format image) c.history.pages
 
--- The lists of a plan can be written to a disk of this many bytes: its places lie behind the slots, no two with a block in common,
--- each page has a place, the directory has exactly its blocks, and a directory can name the lists.
+-- The lists of a plan can be written to a disk of this many bytes: its places lie after the slots, no two with a block
+-- in common, every page has a place, the directory has exactly its blocks, and a directory can name the lists.
 pub record IsWritable (size : ℕ) (p : Plan) : Type 0 where
   pub inside : AreInside size (places p)
   pub apart : AreApart (places p)
@@ -65,15 +65,15 @@ pub record IsWritable (size : ℕ) (p : Plan) : Type 0 where
   pub directory : IsSized p.directory (length (planned_listing p))
   pub listable : AreListable written_format (once_stored p.contents)
 
--- The lists of a plan are written; a read gave `old` before and gives `new` now. The plan has the stored lists, and with bodies that
--- stood in their extents the whole plan stands.
+-- The lists of a plan are written; a read gave `old` before and gives `new` now. The plan has the stored lists, and if
+-- the bodies were in their extents, the whole plan is written.
 pub record AreStoredLists (p p' : Plan) (old new : List ℕ) : Type 0 where
   pub contents : p'.contents ≡ once_stored p.contents
   pub lists : AreLists (once_stored p.contents)
   pub reads : (bodies : List (List ℕ)) → AllZip (λ extent bytes. IsSized extent (length bytes)) p.bodies.items bodies
       → AreBodies old p.bodies.items bodies → AreWritten p bodies new
 
--- The parts of a plan beside its lists are as they were.
+-- The parts of a plan outside its lists are unchanged.
 pub record StaysBesideLists (p p' : Plan) : Type 0 where
   pub bodies : p'.bodies ≡ p.bodies
   pub directory : p'.directory ≡ p.directory
@@ -81,8 +81,8 @@ pub record StaysBesideLists (p p' : Plan) : Type 0 where
   pub taken : p'.taken ≡ p.taken
   pub freed : p'.freed ≡ p.freed
 
--- A source wrote these bodies of a plan, and nothing else: the memory is as it was, all writes were outside the blocks that its root
--- reaches, no device call failed, and the bodies stand in their extents.
+-- A source wrote exactly these bodies of a plan: the memory is unchanged, all writes were outside the blocks that its
+-- root reaches, no device call failed, and the bodies are in their extents.
 pub record HasWrittenBodies {D : Type 0} (device : D → DiskState) (start now : Stored D) (p : Plan) (bodies : List (List ℕ)) : Type 0 where
   pub slots : now.slots ≡ start.slots
   pub contents : now.contents ≡ start.contents

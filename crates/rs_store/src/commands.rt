@@ -38,8 +38,8 @@ impl From<PlanFault> for Refusal {
 }
 
 impl<D: Disk> Source<D> {
-    /// Does a command as [`Source::put`], [`Source::delete`], [`Source::publish`] or
-    /// [`Source::group`] does it, with their errors.
+    /// Does a command as [`Source::put`], [`Source::delete`], [`Source::publish`] or [`Source::group`] does it, with
+    /// their errors.
     pub fn command(&mut self, command: &Command, now: Moment) -> Result<Reply, Refusal>
         ensures { Answers D.state self.old self.new command.now now result }
     {
@@ -51,24 +51,24 @@ impl<D: Disk> Source<D> {
         }
     }
 
-    /// Binds the name to these bytes, with this media type: creates the resource, or updates it if the
-    /// name is held. The source accepts the command at the moment `now`, or one millisecond after the
-    /// last accepted command, whichever is later.
+    /// Binds the name to these bytes, with this media type: creates the resource, or updates it if the name is held.
+    /// The source accepts the command at the moment `now`, or one millisecond after the last accepted command if that
+    /// is later.
     ///
-    /// The reply has that moment. It comes once the disk has settled: from then on the source holds the
-    /// resource whatever happens. A crash before the reply leaves the old resource or the new one.
+    /// The reply has that moment. It comes once the disk has settled: from then on the source holds the resource, also
+    /// after a crash. A crash before the reply leaves the old resource or the new one.
     ///
     /// # Errors
     ///
     /// - [`Refusal::Closed`] after a fault of the device.
-    /// - [`Refusal::TooLong`], [`Refusal::TooManyResources`], [`Refusal::TooManyChanges`] and
-    ///   [`Refusal::Exhausted`], the first whose cause is there, before any use of memory or the disk.
+    /// - [`Refusal::TooLong`], [`Refusal::TooManyResources`], [`Refusal::TooManyChanges`] and [`Refusal::Exhausted`],
+    ///   the first whose cause is there, before any use of memory or the disk.
     /// - [`Refusal::Full`] if the body, a page or the directory has no run of free blocks.
     /// - [`Refusal::NoMemory`] if memory runs out.
-    /// - [`Refusal::Device`] if a device call failed. This closes the source, and the disk holds the old
-    ///   resource or the new one.
+    /// - [`Refusal::Device`] if a device call failed. This closes the source, and the disk holds the old resource or
+    ///   the new one.
     ///
-    /// Each error but `Device` changes nothing.
+    /// All errors but `Device` change nothing.
     pub fn put(
         &mut self,
         name: &Name,
@@ -144,9 +144,9 @@ impl<D: Disk> Source<D> {
         self.finish(&mut plan)
     }
 
-    /// Publishes all resources that are held, and drops each full part of the changes whose last change
-    /// is not after the publication before this one. Moment and reply are as with [`Source::put`], but
-    /// the reply has the number of the publication too.
+    /// Publishes all held resources, and drops all full parts of the changes whose last change is not after the
+    /// previous publication. Moment and reply are as with [`Source::put`], but the reply also has the number of the
+    /// publication.
     ///
     /// # Errors
     ///
@@ -161,8 +161,8 @@ impl<D: Disk> Source<D> {
         self.finish(&mut plan)
     }
 
-    /// Writes the lists of a plan whose bodies are written, and commits its root. Then it takes over the
-    /// plan's lists and used blocks, and returns the plan's reply. The plan keeps the old lists.
+    /// Writes the lists of a plan whose bodies are written, and commits its root. Then it takes over the plan's lists
+    /// and used blocks, and returns the plan's reply. The plan keeps the old lists.
     ///
     /// Its promise covers the time since before the bodies were written.
     pub(crate) fn finish(&mut self, plan: &mut Plan) -> Result<Reply, Refusal>

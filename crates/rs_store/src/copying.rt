@@ -9,7 +9,7 @@ use rs_copy::{CopyFault, copy_source};
 use rs_disk::Disk;
 use thiserror::Error;
 
-/// Why a source is not copied. `Closed` comes first, and then the faults of the copy in their order.
+/// The reason why a source is not copied. `Closed` comes first, and then the faults of the copy in their order.
 #[derive(Clone, Copy, Debug, PartialEq, Eq, Error)]
 pub enum CopyRefusal {
     /// A device call of an earlier command failed. The source has to be opened again.
@@ -21,21 +21,20 @@ pub enum CopyRefusal {
 }
 
 impl<D: Disk> Source<D> {
-    /// Copies the source to another disk, in place of whatever that disk holds. The copy has the same
-    /// state. This source stays as it is, and its disk is only read.
+    /// Copies the source to another disk, and replaces any content of that disk. The copy has the same state. This
+    /// source stays unchanged, and its disk is only read.
     ///
-    /// Bodies are copied in pieces, so memory grows with the lists alone. The first three calls of the
-    /// new disk close what it held. Once they succeeded, a stop at any moment leaves no source there,
-    /// or the same state.
+    /// It copies bodies in pieces, so memory grows with the lists alone. The first three calls of the new disk close
+    /// its old content. Once they succeeded, a stop at any moment leaves no source there, or the same state.
     ///
     /// # Errors
     ///
-    /// Each hands the new disk back.
+    /// All errors return the new disk.
     ///
-    /// - [`CopyRefusal::Closed`], [`CopyFault::TooSmall`] and [`CopyFault::Full`], in this order, before
-    ///   a call of either disk.
-    /// - [`CopyFault::Device`] if a call of either disk failed, and [`CopyFault::Damaged`] if a body does
-    ///   not have its recorded SHA-256, as the copy meets them. Both come only if the new disk has room.
+    /// - [`CopyRefusal::Closed`], [`CopyFault::TooSmall`] and [`CopyFault::Full`], in this order, before a call of
+    ///   either disk.
+    /// - [`CopyFault::Device`] if a call of either disk failed, and [`CopyFault::Damaged`] if a body does not have its
+    ///   recorded SHA-256, in the order in which the copy meets them. Both come only if the new disk has room.
     /// - [`CopyFault::NoMemory`] if memory runs out.
     pub fn copy_to<E: Disk>(&mut self, disk: E) -> Result<Source<E>, (E, CopyRefusal)>
         ensures { AnswersCopy D.state E.state self.old self.new disk result }

@@ -18,8 +18,8 @@ use rs_plan::dropped_parts;
 use rs_record::{LONGEST_BODY, MOST_ITEMS, Name};
 use rs_time::Moment;
 
-// `let moment = ..?; Ok(moment)`, and not the call alone: by `?` the prover takes an accepted command and a refused one
-// apart, and each clause here is of one of them.
+// `let moment = ..?; Ok(moment)`, and not the call alone: `?` makes the prover separate an accepted command from a
+// refused one, and every clause here concerns one of these cases.
 impl<D: Disk> Source<D> {
     /// Accepts a put of `body_length` bytes at the moment that it gives, or refuses it at once.
     pub(crate) fn accept_put(
@@ -104,7 +104,7 @@ impl<D: Disk> Source<D> {
         Ok(moment)
     }
 
-    /// Whether the name is held.
+    /// Returns whether the name is held.
     pub(crate) fn holds(&self, name: &Name) -> bool
         ensures held { result ≡ is_held (state_of D.state self.now) name.now }
         ensures lacks { not result ≡ is_none (value_of name.now (state_of D.state self.now).held) }
@@ -114,7 +114,7 @@ impl<D: Disk> Source<D> {
         self.contents.catalogue.get(name).is_some()
     }
 
-    /// How many resources are held.
+    /// Returns the number of held resources.
     pub(crate) fn resources(&self) -> usize
         ensures held { result ≡ length (state_of D.state self.now).held }
         ensures records { result ≡ length (records_of self.now.contents.catalogue) }
@@ -123,7 +123,7 @@ impl<D: Disk> Source<D> {
         self.contents.catalogue.len()
     }
 
-    /// The moment of a command that nothing else forbids.
+    /// Returns the moment of a command that has no other cause of a refusal, or refuses it with `Exhausted`.
     pub(crate) fn next_moment(&self, now: Moment) -> Result<Moment, Refusal>
         ensures decided { result ≡ moment_unless
             (or_spent

@@ -31,8 +31,8 @@ use thiserror::Error;
 // The bytes of 16 blocks.
 const SMALLEST_DISK: u64 = 8192;
 
-/// Why a disk was not formatted. Of several causes the first in this order is answered, but `NoMemory`
-/// may come at any point.
+/// The reason why a disk was not formatted. Of several causes the first in this order is answered, but `NoMemory` may
+/// come at any point.
 #[derive(Clone, Copy, Debug, PartialEq, Eq, Error)]
 pub enum FormatFault {
     /// The base is not lawful.
@@ -47,7 +47,7 @@ pub enum FormatFault {
     /// A device call failed.
     #[error("the device failed")]
     Device,
-    /// A growth of memory was refused.
+    /// An allocation failed.
     #[error("out of memory")]
     NoMemory,
 }
@@ -76,18 +76,18 @@ struct Blank {
 }
 
 impl<D: Disk> Source<D> {
-    /// Makes an empty source on a disk, in place of whatever the disk holds. It has no resources and no
-    /// changes, and publication 0 lists nothing. Each URI of the source begins with `base`. Documents
-    /// split a list of more than `limit` items into parts of `limit` items; it is from 2 to 4,000. The
-    /// disk gets version 2 of the format.
+    /// Makes an empty source on a disk, and replaces any content of the disk. The source has no resources and no
+    /// changes, and publication 0 lists no resources. All URIs of the source begin with `base`. Documents split a list
+    /// of more than `limit` items into parts of `limit` items; it is from 2 to 4,000. The disk gets version 2 of the
+    /// format.
     ///
     /// # Errors
     ///
-    /// Each hands the disk back. After [`FormatFault::Device`] it may hold anything; any other error
-    /// leaves it untouched.
+    /// All errors return the disk. After [`FormatFault::Device`] it may have any content; all other errors leave it
+    /// untouched.
     ///
-    /// - [`FormatFault::BadBase`], [`FormatFault::BadLimit`] and [`FormatFault::TooSmall`] exactly if
-    ///   their cause is there, and none of an error before it in this order.
+    /// - [`FormatFault::BadBase`], [`FormatFault::BadLimit`] and [`FormatFault::TooSmall`] exactly if their cause is
+    ///   there and no cause of an earlier one in this order.
     /// - [`FormatFault::Device`] if a device call failed.
     /// - [`FormatFault::NoMemory`] if memory ran out.
     pub fn format(
@@ -97,7 +97,7 @@ impl<D: Disk> Source<D> {
         limit: u16,
         now: Moment,
     ) -> Result<Source<D>, (D, FormatFault)>
-        // This holds of every device, since nothing is read.
+        // This holds on every device, since the function reads nothing.
         ensures holds { IfOk result (λ source. Holds D.state source (start_of base.now limit now)) }
         ensures version { IfOk result (λ source. source.slots.root.version ≡ written_version) }
 
@@ -120,7 +120,7 @@ impl<D: Disk> Source<D> {
             × (blocks_of_disk (D.state disk).size < 16)) }
         ensures untouched { IfErr result (λ e. ¬ (e.1 ≡ FormatFault.Device) → e.0 ≡ disk) }
 
-        // This holds of every device and answer.
+        // This holds on every device and for every answer.
         ensures runs { RunsWriting (IsErrAnd result (λ e. e.1 ≡ FormatFault.Device))
             (D.state disk) (D.state (disk_of result)) }
     {
@@ -187,7 +187,7 @@ fn lay_out(
     })
 }
 
-/// The header of a new source on a disk of `size` bytes.
+/// Returns the header of a new source on a disk of `size` bytes.
 fn first_header(
     alloc: Global,
     size: u64,

@@ -30,18 +30,17 @@ use rs_plan::{Plan, PlanFault, body_kept, plan_group};
 use rs_time::Moment;
 
 impl<D: Disk> Source<D> {
-    /// Puts and deletes these 1 to 16 items in their order, with one commit: a crash leaves all of them
-    /// done or none. The source accepts the first item as it accepts a put, and each other item one
-    /// millisecond after the one before it. It does not write a body that a later item replaces or
-    /// deletes.
+    /// Puts and deletes these 1 to 16 items in their order, with one commit: a crash leaves all of them done or none.
+    /// The source accepts the first item as it accepts a put, and every other item one millisecond after the previous
+    /// one. It does not write a body that a later item replaces or deletes.
     ///
     /// The reply has the number of items and the moment of the first, and comes as with [`Source::put`].
     ///
     /// # Errors
     ///
-    /// As with [`Source::put`] and [`Source::delete`]: the first item that is refused, in the state after
-    /// the items before it, decides. [`Refusal::BadGroup`], for no items or more than 16, comes right
-    /// after [`Refusal::Closed`]. No error but [`Refusal::Device`] leaves an item done.
+    /// As with [`Source::put`] and [`Source::delete`]: the first refused item, in the state after the items before it,
+    /// decides. [`Refusal::BadGroup`], for no items or more than 16, comes right after [`Refusal::Closed`]. No error
+    /// but [`Refusal::Device`] leaves an item done.
     pub fn group(&mut self, items: &[Item], now: Moment) -> Result<Reply, Refusal>
         ensures { Answers D.state self.old self.new (Group items.now) now result }
     {
@@ -101,12 +100,12 @@ impl<D: Disk> Source<D> {
         if let Some(refused) = self.refused_group(items, now) {
             return Err(refused.into());
         }
-        // Not the call alone, as in `deciding`: by `?` the prover takes an accepted group and a refused one apart.
+        // Not the call alone, as in `deciding`: `?` makes the prover separate an accepted group from a refused one.
         let moment = self.next_moment(now)?;
         Ok(moment)
     }
 
-    /// Why the model refuses this group, if it does.
+    /// Returns the reason why the model refuses this group, if it does.
     fn refused_group(&self, items: &[Item], now: Moment) -> Option<Refused>
         requires { length items.now ≤ most_grouped }
         ensures { result ≡ refusal_of (state_of D.state self.now) (Group items.now) now }
@@ -121,7 +120,7 @@ impl<D: Disk> Source<D> {
         group_refusal(items, &held[..items.len()], counts, now)
     }
 
-    /// Notes for each item whether its name is held.
+    /// Notes for all items whether their names are held.
     fn note_held(&self, items: &[Item], held: &mut [bool])
         requires { length items.now ≤ length held.old }
         ensures noted { take (length items.now) held.new
@@ -134,8 +133,8 @@ impl<D: Disk> Source<D> {
     }
 }
 
-/// Writes each body that no later item replaces or deletes to its extent. Nothing beside the extents
-/// changes, whatever the result.
+/// Writes all bodies that no later item replaces or deletes to their extents. With any result, only these extents
+/// change.
 fn write_bodies<D: Disk>(disk: &mut D, extents: &[Extent], items: &[Item]) -> Result<(), Fault>
     requires room { AreOnDisk extents.now (D.state disk.old).size }
     requires apart { AreApart extents.now }

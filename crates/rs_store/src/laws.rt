@@ -1,23 +1,21 @@
-//! Laws of a source's answers, over the definitions alone.
+//! Laws of a source's answers, from the definitions alone.
 //!
-//! Each function here does nothing. Its contract is a law that the check proves.
+//! The functions here do nothing. The contract of a function is a law that the check proves.
 
 ghost use Rattle.rs_store.specs.Laws.{EarlyFaultsLeave, HeldStands, RestIsIdle, TurnsGoOn, CallsRise, ClosedStays, DeviceCloses, ClosedCountNone, DeviceOrNoDoubt, RefusedIsNotDone, RunsAreAnswered, OpenHoldsAnswered, AnswersLeavePrefixes, RunsLeavePrefixes, OpenHoldsAll};
 
 use rs_disk::Disk;
 
-/// If [`put_from`](crate::Source::put_from) answers [`Device`](crate::Refusal::Device) before all bytes
-/// of the body came, each image of a crash within the call and after it represents the state that the
-/// source held.
+/// If [`put_from`](crate::Source::put_from) answers [`Device`](crate::Refusal::Device) before all bytes of the body
+/// came, every image of a crash within the call and after it represents the state that the source held.
 ///
-/// For it is the answer to each body that begins so, and no image represents the states after two
-/// different bodies.
+/// The reason: the answer is the same for all bodies that begin with the bytes that came, and no image represents the
+/// states after two different bodies.
 pub fn early_faults_leave<D: Disk>()
     ensures { EarlyFaultsLeave D.state }
 {}
 
-/// Each image of the disk of a source that holds a state represents that state. A source that does
-/// nothing idles.
+/// Every image of the disk of a source that holds a state represents that state. A source without calls idles.
 pub fn held_sources_rest<D: Disk>()
     ensures stands { HeldStands D.state }
     ensures idle { RestIsIdle D.state }
@@ -29,8 +27,8 @@ pub fn turns_go_on<D: Disk>()
     ensures calls { CallsRise D.state }
 {}
 
-/// [`Device`](crate::Refusal::Device) closes a source. A closed source answers
-/// [`Closed`](crate::Refusal::Closed) to each command and stays closed. None of these commands counts.
+/// [`Device`](crate::Refusal::Device) closes a source. A closed source answers [`Closed`](crate::Refusal::Closed) to
+/// all commands and stays closed. None of these commands counts.
 pub fn closed_sources_stay<D: Disk>()
     ensures closes { DeviceCloses D.state }
     ensures stays { ClosedStays D.state }

@@ -1,11 +1,10 @@
-//! A source on a disk: after a crash at any moment each command is whole or absent.
+//! A source on a disk: after a crash at any moment every command is whole or absent.
 //!
-//! A [`Source`] keeps its resources, their changes and its latest publication on a disk.
-//! [`Source::format`] makes one and [`Source::open`] opens one. [`Source::put`], [`Source::put_from`],
-//! [`Source::delete`], [`Source::publish`] and [`Source::group`] do one step of the model, or refuse it.
-//! [`Source::run`] does many steps, and returns for each its answer and the disk's count of calls.
-//! [`Source::copy_to`] copies the source to another disk. The other methods show what it holds.
-//! [`read_into`] reads a body into memory.
+//! A [`Source`] keeps its resources, their changes and its latest publication on a disk. [`Source::format`] makes one
+//! and [`Source::open`] opens one. [`Source::put`], [`Source::put_from`], [`Source::delete`], [`Source::publish`] and
+//! [`Source::group`] do one step of the model, or refuse it. [`Source::run`] does many steps, and returns their answers
+//! with the disk's counts of calls. [`Source::copy_to`] copies the source to another disk. The other methods show its
+//! content. [`read_into`] reads a body into memory.
 #![tactic(auto)]
 
 mod commands;

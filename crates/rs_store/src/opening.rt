@@ -19,11 +19,11 @@ use thiserror::Error;
 // The bytes of the two slots.
 const SLOTS_SIZE: u64 = 2 * BLOCK_SIZE as u64;
 
-/// Why no source was opened.
+/// The reason why no source was opened.
 #[derive(Clone, Copy, Debug, PartialEq, Eq, Error)]
 pub enum OpenFault {
-    /// The disk holds no source: no slot is open, an open one has an unknown version, or both are
-    /// open with equal generations.
+    /// The disk holds no source: no slot is open, an open one has an unknown version, or both are open
+    /// with equal generations.
     #[error("the disk holds no source")]
     NotASource,
     /// The disk holds a source that breaks a rule of the format.
@@ -32,7 +32,7 @@ pub enum OpenFault {
     /// A device call failed.
     #[error("the device failed")]
     Device,
-    /// A growth of memory was refused.
+    /// An allocation failed.
     #[error("out of memory")]
     NoMemory,
 }
@@ -75,27 +75,26 @@ impl From<LoadFault> for OpenFault {
 }
 
 impl<D: Disk> Source<D> {
-    /// Opens the source on a disk, whatever the disk holds.
+    /// Opens the source on a disk of any content.
     ///
-    /// It also opens a disk of version 1 of the format. Such a disk has all its changes, and the first
-    /// accepted command turns it into version 2.
+    /// It also opens a disk of version 1 of the format. That disk has all its changes, and the first accepted command
+    /// turns it into version 2.
     ///
-    /// It first syncs the disk, so that nothing is unsettled, and writes nothing. It checks the
-    /// directory, all pages and all extents. It reads no bodies, and does not check whether the changes
-    /// lead to the held resources.
+    /// It first syncs the disk, so that nothing is unsettled, and writes nothing. It checks the directory, all pages
+    /// and all extents. It reads no bodies, and does not check whether the changes lead to the held resources.
     ///
     /// # Errors
     ///
-    /// Each hands the disk back.
+    /// All errors return the disk.
     ///
-    /// - [`OpenFault::NotASource`] exactly if the slots tell no root.
-    /// - [`OpenFault::Damaged`] if the root tells no state: the disk breaks a rule of the format.
+    /// - [`OpenFault::NotASource`] exactly if the slots give no root.
+    /// - [`OpenFault::Damaged`] if the root determines no state: the disk breaks a rule of the format.
     /// - [`OpenFault::Device`] exactly if a device call failed.
-    /// - [`OpenFault::NoMemory`] if memory ran out. Opening asks for memory only once it has found that
-    ///   the root's directory lies behind the slots, in exactly the blocks of its length. Once the fourth
-    ///   call has read the directory, it asks only if each page that the directory names lies so.
+    /// - [`OpenFault::NoMemory`] if memory ran out. Opening asks for memory only once it has found that the root's
+    ///   directory lies after the slots, in exactly the blocks of its length. Once the fourth call has read the
+    ///   directory, it asks only if all pages that the directory names lie in the same way.
     ///
-    /// The first two come only if neither a call nor memory failed before.
+    /// The first two come only if no call failed and memory did not run out before.
     pub fn open(alloc: Global, disk: D) -> Result<Source<D>, (D, OpenFault)>
         ensures opened { IfOk result (IsOpened D.state (D.state disk)) }
         ensures refused { IfErr result (λ e. IsNotOpened (D.state disk) (D.state e.0) e.1) }
@@ -103,8 +102,7 @@ impl<D: Disk> Source<D> {
             → IsTrue (D.state e.0).honest → (D.state disk).calls + 3 < (D.state e.0).calls
             → ArePagesPlaced (D.state disk).size (D.state disk).now.seen) }
 
-        // Whatever the answer, a crash meanwhile leaves an image from before, and a read gives what it
-        // gave before.
+        // For every answer, a crash meanwhile leaves an image from before, and a read gives the same bytes as before.
         ensures runs { WritesNothing (IsErrAnd result (λ e. e.1 ≡ OpenFault.Device))
             (D.state disk) (D.state (disk_of result)) }
     {
@@ -123,7 +121,7 @@ impl<D: Disk> Source<D> {
     }
 }
 
-/// Syncs a disk, and reads the source that it holds.
+/// Syncs a disk, and reads the source on it.
 fn read_settled<D: Disk>(alloc: Global, disk: &mut D) -> Result<(Slots, Loaded), OpenFault>
     ensures sound { IfOk result (λ x.
         MemoryIsSound (rooted (D.state disk.new).size x.0.root x.1.contents) x.1.used) }
@@ -141,7 +139,7 @@ fn read_settled<D: Disk>(alloc: Global, disk: &mut D) -> Result<(Slots, Loaded),
     read_source(alloc, disk)
 }
 
-/// Reads the source that a disk holds.
+/// Reads the source on a disk.
 fn read_source<D: Disk>(alloc: Global, disk: &mut D) -> Result<(Slots, Loaded), OpenFault>
     ensures sound { IfOk result (λ x.
         MemoryIsSound (rooted (D.state disk.new).size x.0.root x.1.contents) x.1.used) }
@@ -156,7 +154,7 @@ fn read_source<D: Disk>(alloc: Global, disk: &mut D) -> Result<(Slots, Loaded), 
         (D.state disk.old) (D.state disk.new) }
 {
     let (slots, root) = open_slots(disk)?;
-    // So small a disk has no room for a directory behind the slots.
+    // A disk of fewer bytes has no room for a directory after the slots.
     if disk.size() < SLOTS_SIZE {
         return Err(OpenFault::Damaged);
     }

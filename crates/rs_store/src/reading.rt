@@ -1,4 +1,4 @@
-//! What a source shows.
+//! The data that a source shows.
 
 ghost use Rattle.std.specs.Prelude.{◌≡◌, ◌⊎◌, ◌↔◌, ◌+◌, ◌/◌, false, map, IfOk, IfErr, IfSome, IsErrOf, IsOkUnless, Some, IsTrue};
 ghost use Rattle.rs_disk.specs.Runs.{RunsReading, CallsAtMost};
@@ -27,9 +27,9 @@ use std::alloc::{AllocError, Global};
 /// A source in numbers.
 #[derive(Clone, Copy, Debug, PartialEq, Eq)]
 pub struct Status {
-    /// How many resources are held: at most 50,000.
+    /// The number of held resources: at most 50,000.
     pub resources: u32,
-    /// How many changes are kept: at most 50,000.
+    /// The number of kept changes: at most 50,000.
     pub changes: u32,
     /// The number of the latest publication, 0 for the one of formatting.
     pub publication: u64,
@@ -52,14 +52,14 @@ impl From<LoadFault> for Refusal {
 }
 
 impl<D: Disk> Source<D> {
-    /// Whether a device call of a command failed, so that the source has to be opened again.
+    /// Returns whether a device call of a command failed. Then the source has to be opened again.
     pub fn is_closed(&self) -> bool
         ensures { result ≡ self.now.is_closed }
     {
         self.is_closed
     }
 
-    /// The disk, as it is.
+    /// Returns the disk unchanged.
     pub fn into_disk(self) -> D
         ensures { result ≡ self.disk }
     {
@@ -82,7 +82,7 @@ impl<D: Disk> Source<D> {
         self.read_held(name)
     }
 
-    /// The body of a name, clause by clause.
+    /// Reads the body of a name. The contract lists its clauses separately.
     fn read_held(&mut self, name: &Name) -> Result<Vec<u8>, Refusal>
         // The bytes are the body if the device has followed the model. From every device they are as
         // recorded.
@@ -124,7 +124,7 @@ impl<D: Disk> Source<D> {
         Ok(bytes)
     }
 
-    /// A copy of the recorded media type of a name. The disk is not read.
+    /// Returns a copy of the recorded media type of a name. The disk is not read.
     ///
     /// # Errors
     ///
@@ -149,7 +149,7 @@ impl<D: Disk> Source<D> {
         Ok(record.kind.copy(self.alloc)?)
     }
 
-    /// The records of the resources that are held, in the strictly ascending order of their names' bytes.
+    /// Returns the records of the held resources, in the strictly ascending order of their names' bytes.
     ///
     /// # Errors
     ///
@@ -169,8 +169,8 @@ impl<D: Disk> Source<D> {
         Ok(records_in(self.alloc, &self.contents.catalogue)?)
     }
 
-    /// The records of the latest publication, in the strictly ascending order of their names' bytes. Each
-    /// has the extent that its body had then. By now that extent may hold another body.
+    /// Returns the records of the latest publication, in the strictly ascending order of their names' bytes. A record
+    /// has the extent of its body at the publication. By now that extent may hold another body.
     ///
     /// # Errors
     ///
@@ -190,7 +190,7 @@ impl<D: Disk> Source<D> {
         Ok(records_in(self.alloc, &self.contents.published)?)
     }
 
-    /// The changes that are kept, the earliest first.
+    /// Returns the kept changes, the earliest first.
     ///
     /// # Errors
     ///
@@ -207,7 +207,7 @@ impl<D: Disk> Source<D> {
         Ok(changes_in(self.alloc, &self.contents.history)?)
     }
 
-    /// The source in numbers. It allocates nothing.
+    /// Returns the source in numbers. It allocates nothing.
     ///
     /// # Errors
     ///
@@ -229,8 +229,7 @@ impl<D: Disk> Source<D> {
         })
     }
 
-    /// A view of the source for its documents. It borrows the source, copies nothing and allocates
-    /// nothing.
+    /// Returns a view of the source for its documents. It borrows the source, copies nothing and allocates nothing.
     ///
     /// # Errors
     ///
@@ -247,7 +246,7 @@ impl<D: Disk> Source<D> {
     }
 }
 
-/// Copies of the records of a catalogue, in their order.
+/// Returns copies of the records of a catalogue, in their order.
 fn records_in(alloc: Global, catalogue: &Catalogue) -> Result<Vec<Record>, AllocError>
     ensures records { IfOk result (λ records. records.items ≡ records_of catalogue.now) }
     ensures ascending { IfOk result (λ records. IsTrue (is_ordered (named records.items))) }
@@ -260,7 +259,7 @@ fn records_in(alloc: Global, catalogue: &Catalogue) -> Result<Vec<Record>, Alloc
     Ok(records)
 }
 
-/// Copies of the changes of a history, in their order.
+/// Returns copies of the changes of a history, in their order.
 fn changes_in(alloc: Global, history: &History) -> Result<Vec<Change>, AllocError>
     ensures { IfOk result (λ changes. changes.items ≡ changes_of history.now.pages) }
 {

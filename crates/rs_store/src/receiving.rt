@@ -35,19 +35,19 @@ use std::io::Read;
 const PIECE_SIZE: usize = 4096;
 
 impl<D: Disk> Source<D> {
-    /// Puts the next `body_length` bytes of a reader as [`Source::put`] puts bytes. It first finds the
-    /// blocks for everything that it will write. Then it reads the body in pieces of at most 4,096 bytes,
-    /// and writes each before it reads the next, so memory does not grow with the body. It reads no byte
-    /// behind the body, makes one read for each byte at most, and none after one that failed.
+    /// Puts the next `body_length` bytes of a reader as [`Source::put`] puts bytes. It first finds the blocks for all
+    /// bytes that it will write. Then it reads the body in pieces of at most 4,096 bytes, and writes a piece before it
+    /// reads the next, so memory does not grow with the body. It reads no byte after the body, makes at most one read
+    /// per byte, and no read after a failed one.
     ///
     /// # Errors
     ///
-    /// As with [`Source::put`], and right behind [`Refusal::Full`]:
+    /// As with [`Source::put`], and right after [`Refusal::Full`]:
     ///
     /// - [`Refusal::ReadFault`] if a read of the body failed,
     /// - [`Refusal::ShortBody`] if the input ended within it.
     ///
-    /// These two change nothing that the source holds. The refusals before them come before any read.
+    /// After these two the source holds the same state as before. The refusals before them come before any read.
     pub fn put_from<R: Read>(
         &mut self,
         name: &Name,
@@ -139,8 +139,8 @@ impl<D: Disk> Source<D> {
     }
 }
 
-/// Reads the next `body_length` bytes of a reader and writes them to the front of an extent, a piece at a
-/// time. Nothing beside the extent changes, whatever the result.
+/// Reads the next `body_length` bytes of a reader and writes them to the front of an extent, in pieces. With any
+/// result, only this extent changes.
 fn receive<R: Read, D: Disk>(
     disk: &mut D,
     reader: &mut Watched<R>,
@@ -206,7 +206,7 @@ fn receive_piece<R: Read, D: Disk>(
     Ok(())
 }
 
-/// Reads once into a buffer, behind its first bytes.
+/// Reads once into a buffer, after its first bytes.
 fn read_behind<R: Read>(
     reader: &mut Watched<R>,
     buf: &mut [u8],
@@ -228,7 +228,7 @@ fn read_behind<R: Read>(
     reader.read(&mut buf[filled..])
 }
 
-/// Fills a buffer with the next bytes of a reader, and reads no byte behind them.
+/// Fills a buffer with the next bytes of a reader, and reads no byte after them.
 ///
 /// # Errors
 ///

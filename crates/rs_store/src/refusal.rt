@@ -6,8 +6,8 @@ use rs_model::Refusal as Refused;
 use std::alloc::AllocError;
 use thiserror::Error;
 
-/// Why a source refuses. Of several causes it answers the first in this order, but `NoMemory` may come
-/// at any point.
+/// The reason why a source refuses. Of several causes it answers the first in this order, but `NoMemory` may come at
+/// any point.
 #[derive(Clone, Copy, Debug, PartialEq, Eq, Error)]
 pub enum Refusal {
     /// A device call of an earlier command failed. The source has to be opened again.
@@ -46,7 +46,7 @@ pub enum Refusal {
     /// A body does not have its recorded SHA-256.
     #[error("the body is damaged")]
     Damaged,
-    /// A growth of memory was refused.
+    /// An allocation failed.
     #[error("out of memory")]
     NoMemory,
 }
@@ -54,7 +54,7 @@ pub enum Refusal {
 impl Refusal {
     ghost use Rattle.rs_store.specs.Refusals.{refusal_word};
 
-    /// The word for a refusal in a script and over HTTP: the name of its variant.
+    /// Returns the word for a refusal in a script and over HTTP: the name of its variant.
     pub fn word(self) -> &'static str
         ensures { result.now ≡ refusal_word self }
     {

@@ -25,31 +25,30 @@ pub struct Ack {
 }
 
 impl<D: Disk> Source<D> {
-    /// Does these commands in their order, each at its moment, and returns their answers. It goes on
-    /// after a refusal. After [`Refusal::Device`] each further answer is [`Refusal::Closed`].
+    /// Does these commands in their order, at their moments, and returns their answers. It goes on after a refusal.
+    /// After [`Refusal::Device`] all further answers are [`Refusal::Closed`].
     ///
-    /// The *counted* commands are those with the answer Ok, and then the one with the answer
-    /// [`Refusal::Device`], if any. A crash at any moment of the run leaves the state after a prefix of
-    /// them, which has each command with the answer Ok by then and none that had not begun.
+    /// The *counted* commands are those with the answer Ok, and then the one with the answer [`Refusal::Device`], if
+    /// any. A crash at any moment of the run leaves the state after a prefix of them. The prefix has all commands with
+    /// the answer Ok by then and none that had not begun.
     ///
     /// # Errors
     ///
     /// [`Refusal::NoMemory`] if memory for the answers runs out, before the first command.
     pub fn run(&mut self, commands: &[(Command, Moment)]) -> Result<Vec<Ack>, Refusal>
-        // Each command is answered as the source answers it.
+        // The answer to a command is the one that the source gives to it.
         ensures in_turn { IfOk result
             (λ acks. InTurn D.state self.old commands.now acks.items self.new) }
 
-        // If the source holds a state, its disk sees these commands answered from that state on: the
-        // model accepts each that is answered Ok, with that reply and that next state; after Device each
-        // answer is Closed; and within a command each image of a crash represents the state before it or
-        // after it.
+        // If the source holds a state, its disk sees these commands answered from that state on: the model accepts
+        // every command that is answered Ok, with that reply and that next state; after Device all answers are Closed;
+        // and within a command every image of a crash represents the state before it or after it.
         ensures answered { IfOk result (λ acks. (s : State) → Holds D.state self.old s
             → AreAnswered (D.state self.old.disk) (Holding s) commands.now acks.items
             (D.state self.new.disk)) }
 
-        // So a crash at any moment leaves a prefix of the counted commands that has each acknowledged
-        // one, and at the end an open source holds them all.
+        // So a crash at any moment leaves a prefix of the counted commands that has all acknowledged ones, and at the
+        // end an open source holds them all.
         ensures any_moment { IfOk result (λ acks. (s : State) → Holds D.state self.old s
             → Leaves (D.state self.old.disk) (D.state self.new.disk)
             (StandsForPrefix s commands.now acks.items)) }
@@ -57,8 +56,8 @@ impl<D: Disk> Source<D> {
             → self.new.is_closed ≡ false
             → Holds D.state self.new (fold_of s (counted_commands commands.now acks.items))) }
 
-        // A closed source answers Closed to each command, and nothing changes. One that answered Device
-        // is closed, so each further call comes to a closed source.
+        // A closed source answers Closed to all commands, and nothing changes. A source that answered Device is closed,
+        // so all further calls come to a closed source.
         ensures closed { IfOk result (λ acks. IsTrue self.old.is_closed → (self.new ≡ self.old)
             × AllZip (λ command a. IsErrOf a.reply Refusal.Closed) commands.now acks.items) }
         ensures closes { IfOk result (λ acks. self.new.is_closed ≡ false
@@ -77,7 +76,7 @@ impl<D: Disk> Source<D> {
         Ok(acks)
     }
 
-    /// The disk's count of calls.
+    /// Returns the disk's count of calls.
     fn calls(&self) -> u64
         ensures { result ≡ (D.state self.now.disk).calls }
     {

@@ -13,8 +13,8 @@ use std::marker::Model;
 /// A source on a disk: its resources, the changes that it keeps and its latest publication. They survive
 /// a crash at any moment.
 ///
-/// It keeps the set of the blocks that its root reaches, so that no command walks over all pages.
-/// Contracts do not see the set: between calls it is the one of the root and the lists.
+/// It keeps the set of the blocks that its root reaches, so that no command walks over all pages. Contracts do not see
+/// the set: between calls it is the set of the root and the lists.
 #[derive(Drop)]
 pub struct Source<D: Disk> {
     pub(crate) disk: D,
@@ -38,8 +38,8 @@ impl<D: Disk> Model for Source<D> {
         (rooted (D.state s.disk).size s.slots.root s.contents) s.used };
 }
 
-/// The root of the slots with the lists behind it, as planners take them. It borrows the lists alone, so
-/// that a planner can borrow the set of used blocks beside it.
+/// Returns the root of the slots with its lists, as planners take them. It borrows the lists alone, so that a planner
+/// can also borrow the set of used blocks.
 pub(crate) fn rooted_by<'a, D: Disk>(disk: &D, slots: &Slots, contents: &'a Contents) -> Rooted<'a>
     requires { IsRooted (rooted (D.state disk.now).size slots.now.root contents.now) }
     ensures { result ≡ rooted (D.state disk.now).size slots.now.root contents.now }

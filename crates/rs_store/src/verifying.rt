@@ -15,9 +15,9 @@ use rs_record::{Name, Record};
 use std::alloc::{AllocError, Global};
 
 impl<D: Disk> Source<D> {
-    /// The held names whose body does not have its recorded SHA-256, in the strictly ascending order of
-    /// their bytes. It reads each body once, in pieces of 16,384 bytes, and allocates for the names alone.
-    /// Only the counts of the disk change.
+    /// Returns the held names whose body does not have its recorded SHA-256, in the strictly ascending order of their
+    /// bytes. It reads every body once, in pieces of 16,384 bytes, and allocates for the names alone. Only the counts
+    /// of the disk change.
     ///
     /// # Errors
     ///
@@ -34,7 +34,7 @@ impl<D: Disk> Source<D> {
     }
 }
 
-/// The names of the records of a catalogue whose body on the disk is damaged, in their order.
+/// Returns the names of the records of a catalogue whose body on the disk is damaged, in their order.
 fn damaged_in<D: Disk>(
     alloc: Global,
     disk: &mut D,
@@ -78,7 +78,7 @@ fn note_damage<D: Disk>(
     }
 }
 
-/// Puts a copy of a name behind the others.
+/// Appends a copy of a name to the others.
 fn add_copy(alloc: Global, name: &Name, names: &mut Vec<Name>) -> Result<(), AllocError>
     ensures { OnOk result (names.new.items ≡ names.old.items ++ name.now ∷ []) }
 {

@@ -10,8 +10,8 @@ use rs_lists::View;
 use rs_record::{Base, Change, Record};
 use rs_time::Moment;
 
-/// A source, as its documents show it: its latest publication and the changes that it keeps. It borrows
-/// the source and copies nothing.
+/// A source, as its documents show it: its latest publication and the kept changes. It borrows the source and copies
+/// nothing.
 #[derive(Drop)]
 pub struct SourceView<'a, D: Disk> {
     pub(crate) source: &'a Source<D>,

@@ -30,16 +30,15 @@ pub(crate) struct Written {
     pub sha256: [u8; 32],
 }
 
-/// Writes the lists of a plan: each page that was given blocks, and the directory. The plan gets the
-/// stored lists. At every moment, and whatever the result, the blocks beside the plan's places stay as
-/// they are; so do the slots.
+/// Writes the lists of a plan: all pages that were given blocks, and the directory. The plan gets the stored lists. At
+/// every moment, and with any result, the slots and the blocks outside the plan's places stay unchanged.
 ///
 /// # Errors
 ///
 /// - [`StoreFault::NoMemory`] if memory for the bytes of a page or of the directory runs out.
 /// - [`StoreFault::Device`] if the device fails.
 ///
-/// After either the places of the lists may hold anything.
+/// After either the places of the lists may have any content.
 pub(crate) fn write_lists<D: Disk>(
     alloc: Global,
     disk: &mut D,
@@ -50,7 +49,7 @@ pub(crate) fn write_lists<D: Disk>(
     ensures stored { OnOk result (AreStoredLists plan.old plan.new (D.state disk.old).now.seen
         (D.state disk.new).now.seen) }
 
-    // Whatever the result.
+    // For every result.
     ensures stays { StaysBesideLists plan.old plan.new }
     ensures writes { WritesOnly (places plan.old) (IsErrOf result StoreFault.Device)
         (D.state disk.old) (D.state disk.new) }
@@ -59,7 +58,7 @@ pub(crate) fn write_lists<D: Disk>(
     write_directory(alloc, disk, plan.directory, &plan.contents)
 }
 
-/// Writes each page that was given blocks.
+/// Writes all pages that were given blocks.
 fn write_pages<D: Disk>(
     alloc: Global,
     disk: &mut D,

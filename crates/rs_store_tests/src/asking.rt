@@ -46,22 +46,22 @@ pub(super) enum Answer {
     Refused(Refusal),
 }
 
-/// A name.
+/// Returns a name.
 pub(super) fn named(rt: &(impl Abort + AllocGlobal), name: &[u8]) -> Name {
     Name::new(rt.alloc(), name).expect(rt, "a name")
 }
 
-/// The media type `text/plain`.
+/// Returns the media type `text/plain`.
 pub(super) fn plain(rt: &(impl Abort + AllocGlobal)) -> MediaType {
     MediaType::new(rt.alloc(), b"text/plain").expect(rt, "a media type")
 }
 
-/// A disk of zeros.
+/// Returns a disk of zeros.
 pub(super) fn disk_of(rt: &(impl Abort + AllocGlobal), size: u64) -> MemoryDisk {
     MemoryDisk::new(rt.alloc(), size).expect(rt, "memory for a disk")
 }
 
-/// A new source on a disk, with item limit 2, made at moment 0. Where nothing fails it makes six device calls.
+/// Returns a new source on a disk, with item limit 2, made at moment 0. Without a fault this takes six device calls.
 pub(super) fn made(rt: &(impl Abort + AllocGlobal), disk: MemoryDisk) -> Source<MemoryDisk> {
     let now = Moment::first();
     match Source::format(rt.alloc(), disk, b"http://127.0.0.1:8080", 2, now) {
@@ -70,7 +70,7 @@ pub(super) fn made(rt: &(impl Abort + AllocGlobal), disk: MemoryDisk) -> Source<
     }
 }
 
-/// The source on a disk.
+/// Returns the source on a disk.
 pub(super) fn opened(rt: &(impl Abort + AllocGlobal), disk: MemoryDisk) -> Source<MemoryDisk> {
     match Source::open(rt.alloc(), disk) {
         Ok(source) => source,
@@ -78,7 +78,7 @@ pub(super) fn opened(rt: &(impl Abort + AllocGlobal), disk: MemoryDisk) -> Sourc
     }
 }
 
-/// An item of a group.
+/// Returns an item of a group.
 fn item_of(rt: &(impl Abort + AllocGlobal), part: Part) -> Item {
     match part {
         Part::Held(name, body) => {
@@ -95,7 +95,7 @@ fn item_of(rt: &(impl Abort + AllocGlobal), part: Part) -> Item {
     }
 }
 
-/// The items of a group.
+/// Returns the items of a group.
 fn items_of(rt: &(impl Abort + AllocGlobal), parts: &[Part]) -> Vec<Item> {
     let mut items = Vec::new(rt.alloc());
     for part in parts {
@@ -105,7 +105,7 @@ fn items_of(rt: &(impl Abort + AllocGlobal), parts: &[Part]) -> Vec<Item> {
     items
 }
 
-/// What a source answers to a command at moment 0.
+/// Returns the answer of a source to a command at moment 0.
 pub(super) fn ask(
     rt: &(impl Abort + AllocGlobal),
     source: &mut Source<MemoryDisk>,
@@ -126,15 +126,15 @@ pub(super) fn ask(
     answer_of(&done)
 }
 
-/// A put of a resource of no bytes, a publication, and a put of another one. Where nothing fails they make 7, 7 and 10
-/// device calls, and leave a page of each of the three lists.
+/// Puts a resource of no bytes, publishes, and puts a second resource of no bytes. Without a fault the commands make 7,
+/// 7 and 10 device calls, and leave a page of every list.
 pub(super) fn ask_for_two_puts(rt: &(impl Abort + AllocGlobal), source: &mut Source<MemoryDisk>) {
     let _created = ask(rt, source, Asked::Put(b"a", b""));
     let _published = ask(rt, source, Asked::Publish);
     let _created = ask(rt, source, Asked::Put(b"b", b"abc"));
 }
 
-/// An answer of a source.
+/// Returns an answer of a source.
 pub(super) fn answer_of(done: &Result<Reply, Refusal>) -> Answer {
     match done {
         Ok(Reply::Created(moment)) => Answer::Created(moment.ms()),
@@ -182,13 +182,13 @@ fn tell_published(rt: &impl Abort, source: &Source<MemoryDisk>, text: &mut Strin
     }
 }
 
-/// Checks that a source tells this of itself.
+/// Checks that a source has this content.
 pub(super) fn tells(rt: &(impl Abort + AllocGlobal), source: &mut Source<MemoryDisk>, want: &str) {
     let text = told(rt, source);
     assert_eq!(rt; text.as_str(), want);
 }
 
-/// What a source tells of itself, as `held: a=one; changes: Created a; published 1: a`.
+/// Returns the content of a source, as `held: a=one; changes: Created a; published 1: a`.
 pub(super) fn told(rt: &(impl Abort + AllocGlobal), source: &mut Source<MemoryDisk>) -> String {
     let mut text = String::new(rt.alloc());
     tell(rt, &mut text, b"held:");

@@ -1,4 +1,4 @@
-//! A source whose device failed in a command answers nothing until its disk is opened again.
+//! A source whose device failed in a command refuses all requests until its disk is opened again.
 
 use super::asking::Answer::Refused;
 use super::asking::Asked::{self, Delete, Publish, Put, Receive};
@@ -24,7 +24,7 @@ const COMMANDS: [Asked; 5] = [
     Publish,
 ];
 
-/// Checks that a source answers nothing.
+/// Checks that a source refuses all requests.
 fn answers_nothing(rt: &(impl Abort + AllocGlobal), source: &mut Source<MemoryDisk>) {
     assert!(rt; source.is_closed());
     for asked in &COMMANDS {
@@ -43,7 +43,7 @@ fn answers_nothing(rt: &(impl Abort + AllocGlobal), source: &mut Source<MemoryDi
 #[test]
 fn a_closed_source_answers_nothing(rt: HostRuntime) {
     let mut disk = disk_of(&rt, 65536);
-    // The formatting makes six calls. The next one fails, and the device works again after it, but the source stays
+    // The formatting makes six calls. The next call fails, and the device works again after it, but the source stays
     // closed.
     disk.fail_once(6);
     let mut source = made(&rt, disk);

@@ -1,5 +1,5 @@
-//! Copies of a source to another disk: stopped at each of its calls, to disks that are too small, also of a
-//! source that can't be read, and of a damaged body.
+//! Copies of a source to another disk: stopped at every call, to disks that are too small, of a source that cannot be
+//! read, and of a damaged body.
 
 use super::asking::Asked::{self, Delete, Publish, Put};
 use super::asking::{ask, disk_of, made, opened, told};
@@ -8,10 +8,10 @@ use rs_store::CopyFault::{self, Damaged, Device, Full, TooSmall};
 use rs_store::{CopyRefusal, OpenFault, Source};
 use std::process::Abort;
 
-// What leaves one resource held, and another one published that was deleted since.
+// Commands that leave one held resource, and one published resource that was deleted since.
 const FILLING: [Asked; 4] = [Put(b"a", b"one"), Publish, Put(b"b", b"two"), Delete(b"a")];
 
-/// A source of which one resource is held, and another one that was deleted since is published.
+/// Returns a source with one held resource, and one published resource that was deleted since.
 fn filled(rt: &(impl Abort + AllocGlobal)) -> Source<MemoryDisk> {
     let mut source = made(rt, disk_of(rt, 65536));
     for asked in &FILLING {
@@ -20,7 +20,7 @@ fn filled(rt: &(impl Abort + AllocGlobal)) -> Source<MemoryDisk> {
     source
 }
 
-/// A copy of a source, which has to succeed.
+/// Returns a copy of a source. The copy has to succeed.
 fn copied(
     rt: &(impl Abort + AllocGlobal),
     source: &mut Source<MemoryDisk>,
@@ -32,7 +32,7 @@ fn copied(
     }
 }
 
-/// Why a source is not copied, and the disk.
+/// Returns the reason why a source is not copied, and the disk.
 fn refused(
     rt: &(impl Abort + AllocGlobal),
     source: &mut Source<MemoryDisk>,
@@ -50,7 +50,7 @@ fn refused(
 // The choices that make images.
 const CHOICES: [&[u8]; 4] = [&[], &[0], &[1], &[0, 1]];
 
-/// What the source on a disk tells of itself, or why there is none.
+/// Returns the content of the source on a disk, or the reason why there is no source.
 fn told_by(rt: &(impl Abort + AllocGlobal), disk: MemoryDisk) -> Result<String, OpenFault> {
     match Source::open(rt.alloc(), disk) {
         Ok(mut source) => Ok(told(rt, &mut source)),
@@ -58,7 +58,7 @@ fn told_by(rt: &(impl Abort + AllocGlobal), disk: MemoryDisk) -> Result<String, 
     }
 }
 
-/// Looks whether this is told of an image that a choice makes, or that no source is there.
+/// Checks that an image that a choice made has this text, or holds no source.
 fn is_told(rt: &impl Abort, text: &Result<String, OpenFault>, want: &str, choice: &[u8]) {
     match text {
         Ok(text) => assert_eq!(rt; text.as_str(), want, "{choice:?}"),
@@ -66,7 +66,7 @@ fn is_told(rt: &impl Abort, text: &Result<String, OpenFault>, want: &str, choice
     }
 }
 
-/// Looks whether each of these images of a disk holds no source, or one that tells this.
+/// Checks that all of these images of a disk hold a source with this content, or no source.
 fn images_tell(rt: &(impl Abort + AllocGlobal), disk: &MemoryDisk, want: &str) {
     for choice in &CHOICES {
         let image = disk.image(choice).expect(rt, "memory for an image");
@@ -75,7 +75,7 @@ fn images_tell(rt: &(impl Abort + AllocGlobal), disk: &MemoryDisk, want: &str) {
     }
 }
 
-// Two gates and a sync; a body, a page of each list and the directory; the root, a sync, its gate, a sync.
+// Two gates and a sync; a body, a page of every list and the directory; the root, a sync, its gate, a sync.
 const CALLS: u64 = 12;
 
 #[test]
@@ -102,7 +102,7 @@ fn a_copy_is_whole_or_none(rt: HostRuntime) {
     assert_eq!(rt; told(&rt, &mut source).as_str(), want.as_str());
 }
 
-/// The bytes of a disk that holds another source.
+/// Returns the bytes of a disk that holds another source.
 fn other_source(rt: &(impl Abort + AllocGlobal)) -> Vec<u8> {
     let mut other = made(rt, disk_of(rt, 32768));
     let _answer = ask(rt, &mut other, Put(b"other", b"three"));
@@ -110,7 +110,7 @@ fn other_source(rt: &(impl Abort + AllocGlobal)) -> Vec<u8> {
     disk.image(&[]).expect(rt, "memory for an image")
 }
 
-/// Looks whether these bytes are as others of their number, but for bytes 0 and 512, the gates of the slots.
+/// Checks that these bytes equal others of their number, except for bytes 0 and 512, the gates of the slots.
 fn are_as_before(rt: &impl Abort, bytes: &[u8], before: &[u8], calls: u64) {
     assert_eq!(rt; bytes.len(), before.len());
     for at in 0..bytes.len() {
@@ -122,8 +122,8 @@ fn are_as_before(rt: &impl Abort, bytes: &[u8], before: &[u8], calls: u64) {
     }
 }
 
-/// Looks at each image of a disk: all is as before but for the gates, or once the third call has settled them, the
-/// disk holds no source or the copy.
+/// Checks every image of a disk: it is unchanged except for the gates; or, once the third call has settled them, it
+/// holds no source or the copy.
 fn images_are_as_before_or_tell(
     rt: &(impl Abort + AllocGlobal),
     disk: &MemoryDisk,
@@ -156,10 +156,10 @@ fn what_a_disk_held_before_shows_unchanged_or_no_more(rt: HostRuntime) {
 
 const BODY: [u8; 5633] = [7; 5633];
 
-// How many bytes a disk has, and why a source with a body of 5,633 bytes is not copied to it.
+// The number of bytes of a disk, and the reason why a source with a body of 5,633 bytes is not copied to it.
 const SMALL: [(u64, CopyFault); 3] = [(0, TooSmall), (8191, TooSmall), (8192, Full)];
 
-/// Why a source is not copied to a disk of this size, and how many calls were made of that.
+/// Returns the reason why a source is not copied to a disk of this size, and the number of calls of that disk.
 fn fault_and_calls(
     rt: &(impl Abort + AllocGlobal),
     source: &mut Source<MemoryDisk>,
@@ -169,7 +169,7 @@ fn fault_and_calls(
     (fault, disk.calls())
 }
 
-/// Looks whether a source is copied to no small disk.
+/// Checks that a source is not copied to small disks.
 fn is_not_copied(rt: &(impl Abort + AllocGlobal), source: &mut Source<MemoryDisk>) {
     for (size, want) in &SMALL {
         assert_eq!(rt;
@@ -180,7 +180,7 @@ fn is_not_copied(rt: &(impl Abort + AllocGlobal), source: &mut Source<MemoryDisk
     }
 }
 
-/// Looks whether a source holds one resource.
+/// Checks that a source holds one resource.
 fn holds_one(rt: &(impl Abort + AllocGlobal), source: &Source<MemoryDisk>) {
     assert_eq!(rt; source.status().expect(rt, "a status").resources, 1);
 }
@@ -199,7 +199,7 @@ fn damage(rt: &impl Abort, disk: &mut MemoryDisk, at: u16) {
     disk.write(at, b"TWO").expect(rt, "a write");
 }
 
-/// Looks whether this is the fault of a damaged body.
+/// Checks that this is the fault of a damaged body.
 fn is_damage(rt: &impl Abort, fault: CopyFault) {
     assert_eq!(rt; fault, Damaged);
 }
@@ -214,16 +214,16 @@ fn a_damaged_body_is_not_copied(rt: HostRuntime) {
     images_tell(&rt, &disk, "nothing");
 }
 
-/// The disk of a source with a body of 5,633 bytes, which lies behind the directory that was made with it: from
-/// block 3 on.
+/// Returns the disk of a source with a body of 5,633 bytes. The body follows the directory that was made with it: it
+/// begins at block 3.
 fn disk_with_a_body(rt: &(impl Abort + AllocGlobal)) -> MemoryDisk {
     let mut source = made(rt, disk_of(rt, 16384));
     let _answer = ask(rt, &mut source, Put(b"a", &BODY));
     source.into_disk()
 }
 
-/// Looks whether a source is not copied to 16 blocks for want of room, and not to 17 for this fault. A call of
-/// the new disk would fail in the first copy.
+/// Checks that a source is not copied to 16 blocks for lack of room, and not to 17 blocks because of this fault. A call
+/// of the new disk would fail in the first copy.
 fn room_comes_first(
     rt: &(impl Abort + AllocGlobal),
     source: &mut Source<MemoryDisk>,

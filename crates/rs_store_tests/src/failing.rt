@@ -6,7 +6,7 @@ use rs_store::{FormatFault, OpenFault, Source};
 use rs_time::Moment;
 use std::process::Abort;
 
-/// What a formatting answers whose device fails one call, after `k` others.
+/// Returns the answer of a formatting whose device fails one call, after `k` other calls.
 fn fault_of_formatting(rt: &(impl Abort + AllocGlobal), k: u64) -> Option<FormatFault> {
     let mut disk = disk_of(rt, 8192);
     disk.fail_once(k);
@@ -29,7 +29,7 @@ fn a_device_that_fails_in_a_formatting(rt: HostRuntime) {
     }
 }
 
-/// The bytes of a disk with a page of each of the three lists.
+/// Returns the bytes of a disk with a page of every list.
 fn image_of_three_pages(rt: &(impl Abort + AllocGlobal)) -> Vec<u8> {
     let mut source = made(rt, disk_of(rt, 65536));
     ask_for_two_puts(rt, &mut source);
@@ -37,7 +37,7 @@ fn image_of_three_pages(rt: &(impl Abort + AllocGlobal)) -> Vec<u8> {
     disk.image(&[]).expect(rt, "memory for an image")
 }
 
-/// What an opening answers whose device fails one call, after `k` others, and the disk.
+/// Returns the answer of an opening whose device fails one call, after `k` other calls, and the disk.
 fn fault_of_opening(
     rt: &impl AllocGlobal,
     disk: MemoryDisk,
@@ -51,7 +51,7 @@ fn fault_of_opening(
     }
 }
 
-/// Fails one call of an opening, after `k` others. Checks the answer, and that the disk keeps its bytes.
+/// Fails one call of an opening, after `k` other calls. Checks the answer, and that the disk keeps its bytes.
 fn fail(rt: &(impl Abort + AllocGlobal), image: &[u8], k: u64) {
     let disk = MemoryDisk::from_bytes(rt.alloc(), image).expect(rt, "memory for a disk");
     let (fault, disk) = fault_of_opening(rt, disk, k);

@@ -1,4 +1,4 @@
-//! Commands on a disk that has exactly the blocks that they take.
+//! Commands on a disk that has exactly the blocks that the commands take.
 
 use super::asking::Answer::{Created, Deleted, Refused};
 use super::asking::Asked::{Delete, Put};
@@ -11,7 +11,7 @@ use std::process::Abort;
 const BODY: [u8; 4608] = [7; 4608];
 
 /// Fills 14 of a source's 16 blocks: the slots take two, the body of `a` nine, and the catalogue's page, the changes'
-/// page and the directory one each. Then it deletes that resource.
+/// page and the directory take one block per item. Then deletes that resource.
 fn fill_and_delete(rt: &(impl Abort + AllocGlobal), source: &mut Source<MemoryDisk>) {
     assert_eq!(rt; ask(rt, source, Put(b"a", &BODY)), Created(1));
     // Two pages and the directory would take three blocks.

@@ -1,4 +1,4 @@
-//! Tests of a source on a disk, of what its contracts leave open: devices that stop or fail at each of their calls,
+//! Tests of the behaviour that the contracts of a source on a disk leave open: devices that stop or fail at any call,
 //! readers of bodies that fail or end early, the answers of a closed source, and calls that take memory and succeed.
 //! Commands and disks that can be seen from outside are rows of `tests/rows`.
 #![tactic(auto)]

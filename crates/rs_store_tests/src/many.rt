@@ -1,5 +1,5 @@
-//! Calls that no program makes, of more than a line of a script has: one run of many commands, and copies of what many
-//! commands leave, which have room for no more than they hold.
+//! Calls that no program makes, and that need more than a line of a script: one run of many commands, and copies of the
+//! lists that many commands leave. The copies have room for exactly the items that they hold.
 
 use super::asking::{disk_of, made, named, plain};
 use rs_disk::MemoryDisk;
@@ -8,15 +8,15 @@ use rs_store::{Refusal, Source};
 use rs_time::Moment;
 use std::process::Abort;
 
-/// How many commands one run has.
+/// The number of commands of one run.
 const COMMANDS: usize = 1_001;
 
-/// How many groups there are, and the items of each.
+/// The number of groups, and the number of items of a group.
 const GROUPS: usize = 63;
 
 const ITEMS: usize = 16;
 
-/// Deletions of a name that is not held, each at the first moment.
+/// Returns deletions, all at the first moment, of a name that is not held.
 fn many_commands(rt: &(impl Abort + AllocGlobal)) -> Vec<(Command, Moment)> {
     let mut commands = Vec::new(rt.alloc());
     for _ in 0..COMMANDS {
@@ -40,7 +40,7 @@ fn many_commands_are_answered_in_one_run(rt: HostRuntime) {
     }
 }
 
-/// Puts of `a` with no bytes, as many as a group has.
+/// Returns puts of `a` with no bytes, as many as a group has.
 fn items(rt: &(impl Abort + AllocGlobal)) -> Vec<Item> {
     let mut items = Vec::new(rt.alloc());
     for _ in 0..ITEMS {
@@ -54,7 +54,7 @@ fn items(rt: &(impl Abort + AllocGlobal)) -> Vec<Item> {
     items
 }
 
-/// Does as many groups as there are.
+/// Does this number of groups.
 fn do_groups(rt: &(impl Abort + AllocGlobal), source: &mut Source<MemoryDisk>) {
     let items = items(rt);
     for _ in 0..GROUPS {

@@ -1,5 +1,5 @@
-//! Sources whose lists have many pages: how the pages are cut, which of them a command writes anew, and devices that
-//! stop meanwhile.
+//! Sources whose lists have many pages: the cuts of the pages, the pages that a command rewrites, and devices that stop
+//! meanwhile.
 
 use super::asking::Answer::{self, Created, Deleted, Published, Refused, Updated};
 use super::asking::Asked::{self, Delete, Publish, Put};
@@ -14,7 +14,7 @@ use rs_store::Source;
 use rs_time::Moment;
 use std::process::Abort;
 
-/// The references to the pages of each list of a source.
+/// The references to the pages of all lists of a source.
 #[derive(Drop)]
 struct Lists {
     catalogue: Vec<PageRef>,
@@ -29,7 +29,7 @@ fn put(rt: &(impl Abort + AllocGlobal), source: &mut Source<MemoryDisk>, number:
     answer_of(&source.put(&name, &plain(rt), b"", Moment::first()))
 }
 
-/// A disk of this size with a new source of `count` resources, put in ascending order of their names.
+/// Returns a disk of this size with a new source of `count` resources, put in ascending order of their names.
 fn disk_with(rt: &(impl Abort + AllocGlobal), size: u64, count: u64) -> MemoryDisk {
     let mut source = made(rt, disk_of(rt, size));
     for number in 0..count {
@@ -38,13 +38,13 @@ fn disk_with(rt: &(impl Abort + AllocGlobal), size: u64, count: u64) -> MemoryDi
     source.into_disk()
 }
 
-/// The contents of a disk's root.
+/// Returns the contents of a disk's root.
 fn contents_of(rt: &(impl Abort + AllocGlobal), disk: &mut MemoryDisk) -> Contents {
     let (_slots, root) = open_slots(disk).expect(rt, "a root");
     load(rt.alloc(), disk, &root).expect(rt, "lists").contents
 }
 
-/// The references to the pages on a disk.
+/// Returns the references to the pages on a disk.
 fn lists_of(rt: &(impl Abort + AllocGlobal), disk: &mut MemoryDisk) -> Lists {
     let contents = contents_of(rt, disk);
     let memory = "memory for references";
@@ -55,7 +55,7 @@ fn lists_of(rt: &(impl Abort + AllocGlobal), disk: &mut MemoryDisk) -> Lists {
     }
 }
 
-/// How many items each of these pages has.
+/// Returns the numbers of items of these pages.
 fn counts<T: PageItem>(
     rt: &(impl Abort + AllocGlobal),
     disk: &mut MemoryDisk,
@@ -71,7 +71,7 @@ fn counts<T: PageItem>(
     counts
 }
 
-/// Which of the new pages are among the old ones.
+/// Returns whether the new pages are among the old pages, page by page.
 fn kept(rt: &(impl Abort + AllocGlobal), old: &[PageRef], new: &[PageRef]) -> Vec<bool> {
     let mut kept = Vec::new(rt.alloc());
     for page in new {
@@ -81,7 +81,7 @@ fn kept(rt: &(impl Abort + AllocGlobal), old: &[PageRef], new: &[PageRef]) -> Ve
     kept
 }
 
-/// Checks how many items each page of a source of 130 resources has, and gives its references.
+/// Checks the numbers of items of the pages of a source of 130 resources, and returns the references to the pages.
 fn are_cut(rt: &(impl Abort + AllocGlobal), disk: &mut MemoryDisk) -> Lists {
     let lists = lists_of(rt, disk);
     let records = counts::<Record>(rt, disk, &lists.catalogue);
@@ -125,9 +125,9 @@ fn a_publication_shares_the_pages_that_stay(rt: HostRuntime) {
 struct Step {
     /// The command.
     asked: Asked,
-    /// The answer where nothing stops it.
+    /// The answer without a stop.
     answer: Answer,
-    /// How many device calls it makes.
+    /// The number of its device calls.
     calls: u64,
 }
 
@@ -154,13 +154,13 @@ const STEPS: [Step; 3] = [
     },
 ];
 
-/// How many device calls an opening of these bytes makes.
+/// Returns the number of device calls of an opening of these bytes.
 fn calls_of_opening(rt: &(impl Abort + AllocGlobal), bytes: &[u8]) -> u64 {
     let disk = MemoryDisk::from_bytes(rt.alloc(), bytes).expect(rt, "memory for a disk");
     opened(rt, disk).into_disk().calls()
 }
 
-/// The answer to a command to the source in these bytes, and the disk, which stops after this many calls.
+/// Returns the answer to a command to the source in these bytes, and the disk, which stops after this many calls.
 fn stopped(
     rt: &(impl Abort + AllocGlobal),
     bytes: &[u8],
@@ -174,7 +174,7 @@ fn stopped(
     (answer, source.into_disk())
 }
 
-/// What the source in these bytes tells of itself.
+/// Returns the content of the source in these bytes.
 fn told_by(rt: &(impl Abort + AllocGlobal), bytes: &[u8]) -> String {
     let disk = MemoryDisk::from_bytes(rt.alloc(), bytes).expect(rt, "memory for a disk");
     let mut source = opened(rt, disk);
@@ -184,7 +184,7 @@ fn told_by(rt: &(impl Abort + AllocGlobal), bytes: &[u8]) -> String {
 // The choices that make images.
 const CHOICES: [&[u8]; 3] = [&[0], &[1], &[0, 1]];
 
-/// Checks that each of these images of a disk tells one of two states.
+/// Checks that all of these images of a disk hold one of two contents.
 fn images_tell(rt: &(impl Abort + AllocGlobal), disk: &MemoryDisk, old: &str, new: &str) {
     for choice in &CHOICES {
         let image = disk.image(choice).expect(rt, "memory for an image");
@@ -196,8 +196,8 @@ fn images_tell(rt: &(impl Abort + AllocGlobal), disk: &MemoryDisk, old: &str, ne
     }
 }
 
-/// Stops the device at each call of a command to the source in these bytes, and gives the bytes that the whole command
-/// leaves.
+/// Stops the device at every call of a command to the source in these bytes, and returns the bytes after the whole
+/// command.
 fn stop_everywhere(rt: &(impl Abort + AllocGlobal), bytes: &[u8], step: &Step) -> Vec<u8> {
     let opening = calls_of_opening(rt, bytes);
     let (answer, disk) = stopped(rt, bytes, step.asked, opening.saturating_add(step.calls));

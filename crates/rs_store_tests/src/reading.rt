@@ -32,7 +32,7 @@ fn tell_of(
     tell(rt, text, b";");
 }
 
-/// Checks what a source tells of two resources and of a name that it does not hold.
+/// Checks the answers of a source for two resources and for a name that it does not hold.
 fn tells(rt: &(impl Abort + AllocGlobal), source: &mut Source<MemoryDisk>) {
     ask_for_two_puts(rt, source);
     let mut text = String::new(rt.alloc());
@@ -49,8 +49,8 @@ fn tells(rt: &(impl Abort + AllocGlobal), source: &mut Source<MemoryDisk>) {
 #[test]
 fn bodies_and_a_device_that_fails(rt: HostRuntime) {
     let mut disk = disk_of(&rt, 65536);
-    // The formatting makes six calls, and the commands 24. The next one is the first read of `b`: a name that is not held
-    // and a body of no bytes need none. It fails, but the source stays open.
+    // The formatting makes six calls, and the commands 24. The next call is the first read of `b`: a name that is not
+    // held and a body of no bytes need no read. It fails, but the source stays open.
     disk.fail_once(30);
     let mut source = made(&rt, disk);
     tells(&rt, &mut source);
@@ -74,7 +74,7 @@ fn tell_damaged(
     tell(rt, text, b";");
 }
 
-/// The source with one byte changed in the body of its second resource.
+/// Returns the source with one byte changed in the body of its second resource.
 fn with_a_wrong_byte(
     rt: &(impl Abort + AllocGlobal),
     source: Source<MemoryDisk>,
@@ -103,7 +103,7 @@ fn damaged_bodies_and_a_device_that_fails(rt: HostRuntime) {
     assert_eq!(rt; text.as_str(), "Device;;b ;");
 }
 
-/// Checks what a view shows.
+/// Checks the data that a view shows.
 fn views<V: View>(rt: &impl Abort, view: &V) {
     assert_eq!(rt; view.base().bytes(), b"http://127.0.0.1:8080".as_slice());
     assert_eq!(rt; (view.limit(), view.number(), view.first()), (2, 1, 0));

@@ -9,8 +9,8 @@ use rs_store::Source;
 use rs_time::Moment;
 use std::process::Abort;
 
-/// The bytes of a reader, how many it gives in a read, the number of its first read that fails, the declared length of
-/// the body, and the answer.
+/// The bytes of a reader, the number of bytes that it gives in a read, the number of its first read that fails, the
+/// declared length of the body, and the answer.
 type Row = (&'static [u8], usize, u64, u64, Answer);
 
 // On a disk of 16 blocks, of which 13 are free.
@@ -32,7 +32,7 @@ const ROWS: [Row; 13] = [
     (b"five more", 3, 2, 4, Updated(4)),
 ];
 
-/// What a source answers to a put of `a` whose body a reader brings.
+/// Returns the answer of a source to a put of `a` whose body a reader brings.
 fn put_from(
     rt: &(impl Abort + AllocGlobal),
     source: &mut Source<MemoryDisk>,
@@ -45,7 +45,7 @@ fn put_from(
     answer_of(&done)
 }
 
-/// Puts the body of each row, and checks the answers, and what the source tells at the end.
+/// Puts the bodies of all rows, and checks the answers, and the content of the source at the end.
 fn holds_what_came(rt: &(impl Abort + AllocGlobal), source: &mut Source<MemoryDisk>) {
     for (input, piece, fail_at, length, want) in &ROWS {
         let reader = FaultyReader::new(input, (*piece).max(1), *fail_at);

@@ -1,4 +1,4 @@
-//! Which changes a publication drops: the full parts whose last change is not after the publication before it.
+//! The changes that a publication drops: the full parts whose last change is not after the previous publication.
 
 use super::asking::Answer::{self, Created, Published};
 use super::asking::Asked::{self, Publish, Put};
@@ -8,33 +8,33 @@ use rs_lists::{Doc, View, change_parts, list_length};
 use rs_store::Source;
 use std::process::Abort;
 
-/// The changes that are kept: how many, in how many parts, the number of the first part, and the moment at which they
-/// begin.
+/// The kept changes: their number, the number of their parts, the number of the first part, and the moment at which
+/// they begin.
 type Kept = (usize, u64, u64, u64);
 
-/// The changes that are kept, as a view shows them.
+/// Returns the kept changes, as a view shows them.
 fn shown<V: View>(view: &V) -> Kept {
     let parts = change_parts(view);
     (view.changes_len(), parts, view.first(), view.begin().ms())
 }
 
-/// The changes that a source keeps.
+/// Returns the changes that a source keeps.
 fn kept(rt: &impl Abort, source: &Source<MemoryDisk>) -> Kept {
     shown(&source.view().expect(rt, "a view"))
 }
 
-/// Whether there is a document of this part of the Change List.
+/// Returns whether there is a document of this part of the Change List.
 fn is_there<V: View>(view: &V, part: u64) -> bool {
     list_length(view, Doc::ChangePart { part }).is_some()
 }
 
-/// Which of the first three parts of the Change List have a document.
+/// Returns which of the first three parts of the Change List have a document.
 fn documents(rt: &impl Abort, source: &Source<MemoryDisk>) -> [bool; 3] {
     let view = source.view().expect(rt, "a view");
     [is_there(&view, 0), is_there(&view, 1), is_there(&view, 2)]
 }
 
-/// A command at moment 0, its answer, and after it the changes that are kept and the parts that have a document.
+/// A command at moment 0, its answer, and then the kept changes and the parts that have a document.
 type Row = (Asked, Answer, Kept, [bool; 3]);
 
 const NONE: [bool; 3] = [false, false, false];
@@ -52,7 +52,7 @@ const ROWS: [Row; 9] = [
     // `a` and `b` are not after the publication at 3.
     (Publish, Published(2, 5), (1, 1, 1, 2), NONE),
     (Put(b"d", b""), Created(6), (2, 1, 1, 2), NONE),
-    // Nor is `c` after that at 5; but its part has `d` too, which is.
+    // Nor is `c` after the publication at 5; but its part also has `d`, which is.
     (Publish, Published(3, 7), (2, 1, 1, 2), NONE),
     (
         Put(b"e", b""),

@@ -5,7 +5,7 @@ use rs_store::{CopyFault, CopyRefusal, FormatFault, OpenFault, Refusal};
 use std::fmt::Display;
 use std::process::Abort;
 
-/// Looks at the text of each of these.
+/// Checks the texts of these values.
 fn are_shown<T: Display>(rt: &(impl Abort + AllocGlobal), rows: &[(T, &str)]) {
     for (fault, want) in rows {
         let text = format!(in rt.alloc(); "{fault}").expect(rt, "memory for text");

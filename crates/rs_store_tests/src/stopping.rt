@@ -1,9 +1,9 @@
-//! Sessions whose device stops, or fails once, at each of their calls. Each image that a crash may leave opens to the
-//! source as it was before the command that was cut, or as it is after it.
+//! Sessions that are cut at every call: the device stops there, or fails this call once. Every image that a crash may
+//! leave opens to the source before the command that was cut, or to the source after it.
 //!
-//! A command writes its body, its pages and its directory. Its commit closes the spare's gate if that is open, writes
-//! the bytes behind it and opens it, each by a write and a sync. The spare of a new source is closed; after each commit
-//! it is open.
+//! A command writes its body, its pages and its directory. Its commit closes the gate of the spare if that gate is
+//! open, writes the bytes after the gate and opens the gate, every step by a write and a sync. The spare of a new
+//! source is closed; after every commit it is open.
 
 use super::asking::Answer::{self, Created, Deleted, Grouped, Published, Refused, Updated};
 use super::asking::Asked::{self, Delete, Group, Publish, Put, Receive};
@@ -18,15 +18,15 @@ use std::process::Abort;
 #[derive(Clone, Copy)]
 struct Step {
     asked: Asked,
-    /// The answer where nothing stops it.
+    /// The answer without a fault.
     answer: Answer,
-    /// How many device calls it makes.
+    /// The number of its device calls.
     calls: u64,
-    /// What the source tells of itself after it.
+    /// The content of the source after it.
     told: &'static str,
 }
 
-// What a new source tells of itself.
+// The content of a new source.
 const EMPTY: &str = "held:; changes:; published 0:";
 
 // Puts and a publication.
@@ -139,20 +139,20 @@ const GROUPS: [Step; 4] = [
 // The device calls of a formatting: one write of the directory, and five calls for the slots.
 const FORMATTING: u64 = 6;
 
-/// Where a session is cut by a device call that fails.
+/// The point at which a failed device call cuts a session.
 #[derive(Clone, Copy)]
 struct Cut {
-    /// How many commands were answered before it.
+    /// The number of commands that were answered before it.
     done: usize,
-    /// What the source tells of itself before the command that is cut.
+    /// The content of the source before the command that is cut.
     old: &'static str,
-    /// What it tells after that command.
+    /// The content after that command.
     new: &'static str,
-    /// How many calls the command still had to make, with the one that fails.
+    /// The number of calls that the command still had to make, with the failed one.
     calls: u64,
 }
 
-/// Where a session is cut whose device fails after `k` calls.
+/// Returns the point at which a session is cut whose device fails after `k` calls.
 fn cut_after(steps: &[Step], k: u64) -> Cut {
     let mut cut = Cut {
         done: 0,
@@ -175,7 +175,7 @@ fn cut_after(steps: &[Step], k: u64) -> Cut {
 }
 
 impl Cut {
-    /// The answer to the command of this number. It is `answer` where nothing fails.
+    /// Returns the answer to the command of this number. Without a fault it is `answer`.
     fn answer(self, number: usize, answer: Answer) -> Answer {
         if number < self.done {
             answer
@@ -186,7 +186,7 @@ impl Cut {
         }
     }
 
-    /// What the source tells, if a command is whole once it has this many calls or fewer to make.
+    /// Returns the content of the source, if a command is whole once it has at most this many calls to make.
     fn tells(self, calls: u64) -> &'static str {
         if self.calls <= calls {
             self.new
@@ -196,7 +196,7 @@ impl Cut {
     }
 }
 
-/// Gives a source each command of a session, and checks each answer.
+/// Gives a source all commands of a session, and checks all answers.
 fn answers(
     rt: &(impl Abort + AllocGlobal),
     source: &mut Source<MemoryDisk>,
@@ -210,7 +210,7 @@ fn answers(
     }
 }
 
-/// The disk of a session that is cut.
+/// Returns the disk of a session that is cut.
 fn left_by(
     rt: &(impl Abort + AllocGlobal),
     disk: MemoryDisk,
@@ -222,27 +222,27 @@ fn left_by(
     source.into_disk()
 }
 
-/// The disk of a session whose device stops after `k` calls.
+/// Returns the disk of a session whose device stops after `k` calls.
 fn stopped(rt: &(impl Abort + AllocGlobal), steps: &[Step], k: u64, cut: Cut) -> MemoryDisk {
     let mut disk = disk_of(rt, 65536);
     disk.stop_after(k.saturating_add(FORMATTING));
     left_by(rt, disk, steps, cut)
 }
 
-/// The disk of a session whose device fails one call, after `k` others.
+/// Returns the disk of a session whose device fails one call, after `k` other calls.
 fn failed(rt: &(impl Abort + AllocGlobal), steps: &[Step], k: u64, cut: Cut) -> MemoryDisk {
     let mut disk = disk_of(rt, 65536);
     disk.fail_once(k.saturating_add(FORMATTING));
     left_by(rt, disk, steps, cut)
 }
 
-/// The image of a choice, as a disk.
+/// Returns the image of a choice, as a disk.
 fn image_of(rt: &(impl Abort + AllocGlobal), disk: &MemoryDisk, choice: &[u8]) -> MemoryDisk {
     let image = disk.image(choice).expect(rt, "memory for an image");
     MemoryDisk::from_bytes(rt.alloc(), &image).expect(rt, "memory for a disk")
 }
 
-/// Checks what the source on a disk tells of itself, and gives the disk back.
+/// Checks the content of the source on a disk, and returns the disk.
 fn tells(rt: &(impl Abort + AllocGlobal), disk: MemoryDisk, k: u64, want: &str) -> MemoryDisk {
     let mut source = opened(rt, disk);
     let text = told(rt, &mut source);
@@ -250,15 +250,15 @@ fn tells(rt: &(impl Abort + AllocGlobal), disk: MemoryDisk, k: u64, want: &str) 
     source.into_disk()
 }
 
-// The choices that make images. In each image a command is whole once it has this many calls or fewer to make. The gate
-// is the lowest of the unsettled places, so it has the first byte of the choice; the empty choice gives what a read
-// gives.
+// The choices that make images, and the number of calls: in the image a command is whole once it has at most this many
+// calls to make. The gate is the lowest of the unsettled places, so it has the first byte of the choice; the empty
+// choice gives the bytes that a read gives.
 const IMAGES: [(&[u8], u64); 5] = [(&[], 1), (&[0], 0), (&[1], 2), (&[0, 1], 0), (&[1, 0], 2)];
 
-// Choices for a disk on which nothing is unsettled, where each of them gives the same bytes.
+// Choices for a disk without unsettled places, where all of them give the same bytes.
 const CHOICES: [&[u8]; 5] = [&[0], &[1], &[255], &[0, 1], &[1, 0, 255]];
 
-/// Checks that a disk is settled: each of its images has the bytes that a read gives.
+/// Checks that a disk is settled: all of its images have the bytes that a read gives.
 fn is_settled(rt: &(impl Abort + AllocGlobal), disk: &MemoryDisk, k: u64) {
     let bytes = disk.image(&[]).expect(rt, "memory for an image");
     for choice in &CHOICES {
@@ -267,7 +267,7 @@ fn is_settled(rt: &(impl Abort + AllocGlobal), disk: &MemoryDisk, k: u64) {
     }
 }
 
-/// Opens each of these images of a disk, and checks what it tells.
+/// Opens all of these images of a disk, and checks their content.
 fn images_tell(rt: &(impl Abort + AllocGlobal), disk: &MemoryDisk, k: u64, cut: Cut) {
     for (choice, calls) in &IMAGES {
         let image = image_of(rt, disk, choice);
@@ -281,7 +281,7 @@ fn stop(rt: &(impl Abort + AllocGlobal), steps: &[Step], k: u64, cut: Cut) {
     images_tell(rt, &disk, k, cut);
 }
 
-/// Fails one call of a device, after `k` others of a session, and opens the disk again. That settles it.
+/// Fails one call of a device, after `k` other calls of a session, and opens the disk again. That settles it.
 fn fail(rt: &(impl Abort + AllocGlobal), steps: &[Step], k: u64, cut: Cut) {
     let disk = failed(rt, steps, k, cut);
     images_tell(rt, &disk, k, cut);
@@ -292,7 +292,7 @@ fn fail(rt: &(impl Abort + AllocGlobal), steps: &[Step], k: u64, cut: Cut) {
     }
 }
 
-/// Stops and fails a device at each of the calls of a session, and stops it behind the last one.
+/// Stops and fails a device at every call of a session, and stops it after the last call.
 fn cut_everywhere(rt: &(impl Abort + AllocGlobal), steps: &[Step], calls: u64) {
     for k in 0..calls {
         let cut = cut_after(steps, k);

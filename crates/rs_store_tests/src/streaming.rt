@@ -1,5 +1,5 @@
-//! Puts whose bodies come in pieces: how much is read of them, what a fault within them leaves, and which blocks are
-//! free after it. The digests are from Python's `hashlib`.
+//! Puts whose bodies come in pieces: the number of bytes that are read, the effect of a fault within the bodies, and
+//! the free blocks after it. The digests are from Python's `hashlib`.
 
 use super::asking::Answer::{self, Created, Refused};
 use super::asking::{answer_of, disk_of, made, named, opened, plain};
@@ -14,7 +14,7 @@ use std::process::Abort;
 // The device calls of a formatting.
 const FORMATTING: u64 = 6;
 
-/// Bytes that count from 0 to 250, and then again.
+/// Returns bytes that count from 0 to 250, and then again.
 fn counting(rt: &(impl Abort + AllocGlobal), length: u32) -> Vec<u8> {
     let mut bytes = Vec::new(rt.alloc());
     for i in 0..length {
@@ -23,7 +23,7 @@ fn counting(rt: &(impl Abort + AllocGlobal), length: u32) -> Vec<u8> {
     bytes
 }
 
-/// What a source answers to a put of `a` whose body a reader brings.
+/// Returns the answer of a source to a put of `a` whose body a reader brings.
 fn receive<R: Read + Drop>(
     rt: &(impl Abort + AllocGlobal),
     source: &mut Source<MemoryDisk>,
@@ -35,7 +35,7 @@ fn receive<R: Read + Drop>(
     answer_of(&source.put_from(&named(rt, b"a"), &plain(rt), &mut reader, length, now))
 }
 
-/// The recorded MD5 of the first resource, as a number.
+/// Returns the recorded MD5 of the first resource, as a number.
 fn first_md5(rt: &impl Abort, source: &Source<MemoryDisk>) -> u128 {
     let records = source.records().expect(rt, "records");
     match records.first() {
@@ -44,7 +44,7 @@ fn first_md5(rt: &impl Abort, source: &Source<MemoryDisk>) -> u128 {
     }
 }
 
-/// Puts these bytes, one with each read, and checks the answer and the body after it.
+/// Puts these bytes, one per read, and checks the answer and the body after it.
 fn is_received(rt: &(impl Abort + AllocGlobal), source: &mut Source<MemoryDisk>, bytes: &[u8]) {
     let reader = FaultyReader::new(bytes, 1, u64::MAX);
     assert_eq!(rt; receive(rt, source, reader, bytes.len() as u64), Created(1));
@@ -59,7 +59,7 @@ fn one_byte_a_read(rt: HostRuntime) {
     is_received(&rt, &mut source, &counting(&rt, 10_000));
 }
 
-/// How many bytes of a body of 10,000 come, the number of the read that fails, and the answer.
+/// The number of bytes of a body of 10,000 that come, the number of the read that fails, and the answer.
 const CUT: [(u32, u64, Answer); 2] = [
     (10_000, 1, Refused(ReadFault)),
     (4_096, 9, Refused(ShortBody)),
@@ -67,7 +67,7 @@ const CUT: [(u32, u64, Answer); 2] = [
 
 #[test]
 fn a_body_that_is_cut_short_takes_no_blocks(rt: HostRuntime) {
-    // Of 61 free blocks a put takes three beside its body.
+    // A put takes its body and three more of the 61 free blocks.
     let mut source = made(&rt, disk_of(&rt, 32_768));
     let most = counting(&rt, 29_697);
     for (came, fail_at, want) in &CUT {
@@ -81,7 +81,7 @@ fn a_body_that_is_cut_short_takes_no_blocks(rt: HostRuntime) {
     assert_eq!(rt; fits, Created(1));
 }
 
-/// Checks that a put of 10,000 bytes fails by the device, and reads no more than two pieces.
+/// Checks that a put of 10,000 bytes fails because of the device, and reads at most two pieces.
 fn reads_two_pieces(
     rt: &(impl Abort + AllocGlobal),
     source: &mut Source<MemoryDisk>,
@@ -102,7 +102,7 @@ fn the_second_piece_is_not_written(rt: HostRuntime) {
     reads_two_pieces(&rt, &mut source, &counting(&rt, 10_000));
 }
 
-/// How many resources the source on an image of a disk holds.
+/// Returns the number of resources that the source on an image of a disk holds.
 fn held_in(rt: &(impl Abort + AllocGlobal), disk: &MemoryDisk, choice: u8) -> u32 {
     let image = disk.image(&[choice]).expect(rt, "memory for an image");
     let disk = MemoryDisk::from_bytes(rt.alloc(), &image).expect(rt, "memory for a disk");
@@ -110,7 +110,7 @@ fn held_in(rt: &(impl Abort + AllocGlobal), disk: &MemoryDisk, choice: u8) -> u3
     source.status().expect(rt, "a status").resources
 }
 
-/// The disk of a put of 9,000 bytes in three pieces, which stops after `k` calls of it, and the answer.
+/// Returns the disk of a put of 9,000 bytes in three pieces, which stops after `k` calls of it, and the answer.
 fn stopped(rt: &(impl Abort + AllocGlobal), bytes: &[u8], k: u64) -> (Answer, MemoryDisk) {
     let mut disk = disk_of(rt, 65_536);
     disk.stop_after(k.saturating_add(FORMATTING));
@@ -121,7 +121,7 @@ fn stopped(rt: &(impl Abort + AllocGlobal), bytes: &[u8], k: u64) -> (Answer, Me
 
 #[test]
 fn a_streamed_put_is_whole_or_absent(rt: HostRuntime) {
-    // Three pieces, two pages and the directory; then the spare's bytes and its gate, each with a sync.
+    // Three pieces, two pages and the directory; then the spare's bytes and its gate, both with a sync.
     let bytes = counting(&rt, 9_000);
     for k in 0..10 {
         let (answer, disk) = stopped(&rt, &bytes, k);

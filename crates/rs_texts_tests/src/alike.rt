@@ -19,7 +19,7 @@ pub struct Alike<'a> {
     pub record: &'a Record,
     pub change: &'a Change,
     pub limit: u16,
-    /// How many records it shows, and how many changes.
+    /// The number of records that it shows, and of changes.
     pub items: usize,
     pub ghost low: { 2 ≤ limit },
     pub ghost high: { limit ≤ 4000 },

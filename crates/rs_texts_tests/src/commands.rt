@@ -18,12 +18,12 @@ use std::test::Fail;
 /// The base of the source.
 const BASE: &[u8] = b"http://127.0.0.1:8080";
 
-/// The name `z`.
+/// Returns the name `z`.
 fn z(alloc: Global) -> Result<Name, Fail> {
     Ok(Name::new(alloc, b"z")?)
 }
 
-/// A put of "abc" as `z`.
+/// Returns a put of "abc" as `z`.
 fn put(alloc: Global) -> Result<Command, Fail> {
     Ok(Command::Put {
         name: z(alloc)?,
@@ -32,7 +32,7 @@ fn put(alloc: Global) -> Result<Command, Fail> {
     })
 }
 
-/// A put of `z`, or its delete.
+/// Returns a put of `z`, or its delete.
 fn command(alloc: Global, is_put: bool) -> Result<Command, Fail> {
     if is_put {
         put(alloc)
@@ -41,7 +41,7 @@ fn command(alloc: Global, is_put: bool) -> Result<Command, Fail> {
     }
 }
 
-/// A delete, a put, a delete and a put of `z`, all at the moment 1000.
+/// Returns a delete, a put, a delete and a put of `z`, all at the moment 1000.
 fn commands(alloc: Global) -> Result<Vec<(Command, Moment)>, Fail> {
     let now = at(1000)?;
     let mut commands = Vec::new(alloc);
@@ -51,25 +51,25 @@ fn commands(alloc: Global) -> Result<Vec<(Command, Moment)>, Fail> {
     Ok(commands)
 }
 
-/// A source with the item limit 2, formatted at the moment 0.
+/// Returns a source with the item limit 2, formatted at the moment 0.
 fn started(alloc: Global) -> Result<State, Fail> {
     let start = at(0)?;
     Ok(State::start(alloc, Base::new(alloc, BASE)?, 2, start))
 }
 
-/// The state after these commands. The first is refused.
+/// Returns the state after these commands. The first is refused.
 fn folded(alloc: Global, commands: &[(Command, Moment)]) -> Result<State, Fail> {
     let state = started(alloc)?;
     Ok(state.fold(alloc, commands)?)
 }
 
-/// The state after the four commands.
+/// Returns the state after the four commands.
 fn made(alloc: Global) -> Result<State, Fail> {
     let commands = commands(alloc)?;
     folded(alloc, &commands)
 }
 
-/// The bytes of the resource of this name.
+/// Returns the bytes of the resource of this name.
 fn body<'a>(alloc: Global, state: &'a State, name: &[u8]) -> Result<Option<&'a [u8]>, Fail> {
     let name = Name::new(alloc, name)?;
     Ok(state.body(&name))
@@ -120,14 +120,14 @@ fn mirrors_z(rt: &(impl Abort + AllocGlobal), state: &State) -> Result<(), Fail>
     Ok(())
 }
 
-/// The reply to another put, and the last moment of the state after it.
+/// Returns the reply to another put, and the last moment of the state after it.
 fn stepped(alloc: Global, state: &State, now: Moment) -> Result<(Reply, Moment), Fail> {
     let put = put(alloc)?;
     let (next, reply) = state.step(alloc, &put, now)?;
     Ok((reply, next.last()))
 }
 
-/// How many changes a copy has.
+/// Returns the number of changes of a copy.
 fn copied(alloc: Global, state: &State) -> Result<usize, AllocError> {
     let copy = state.copy(alloc)?;
     Ok(copy.changes().len())
@@ -163,7 +163,7 @@ const LIST: &[&[u8]] = &[
     LIST_END,
 ];
 
-/// The text of a document.
+/// Returns the text of a document.
 fn text(alloc: Global, view: &StateView<'_>, doc: Doc) -> Result<Vec<u8>, ListError> {
     let mut out = Watched::new(Vec::new(alloc));
     write_document(view, doc, &mut out)?;

@@ -13,11 +13,11 @@ use std::alloc::Global;
 use std::process::Abort;
 use std::test::Fail;
 
-/// An item limit, a number of items, a part counted from 0 (none means the heads), and its length in the Resource List
-/// and in the Change List, where it exists.
+/// An item limit, a number of items, a part counted from 0 (`None` means the heads), and its length in the Resource
+/// List and in the Change List, where it exists.
 type Row = (u16, usize, Option<u64>, Option<u64>, Option<u64>);
 
-/// A view that repeats one resource and its update, and what its documents are.
+/// A view that repeats one resource and its update, and its expected documents.
 #[derive(Drop)]
 struct Case<'a> {
     base: &'a [u8],
@@ -81,7 +81,7 @@ fn are_so_long(rt: &impl Abort, view: &Alike<'_>, row: &Row) {
     is_so_long(rt, view, change_doc, *changes);
 }
 
-/// Checks each row.
+/// Checks all rows.
 fn all_are_so_long(rt: &impl Abort, view: &mut Alike<'_>, case: &Case<'_>) -> Result<(), Fail> {
     for row in case.rows {
         view.show(row.0, row.1, case.first)?;
@@ -90,14 +90,14 @@ fn all_are_so_long(rt: &impl Abort, view: &mut Alike<'_>, case: &Case<'_>) -> Re
     Ok(())
 }
 
-/// The text of a list.
+/// Returns the text of a list.
 fn text(alloc: Global, view: &Alike<'_>, doc: Doc) -> Result<Vec<u8>, ListError> {
     let mut out = Watched::new(Vec::new(alloc));
     write_list(view, doc, &mut out)?;
     Ok(out.into_inner())
 }
 
-/// Checks all that a case says of its view.
+/// Checks the view of a case against the case.
 fn is_so(
     rt: &(impl Abort + AllocGlobal),
     view: &mut Alike<'_>,
@@ -148,11 +148,11 @@ fn look(rt: &(impl Abort + AllocGlobal), case: &Case<'_>) -> Result<(), Fail> {
 const LONGEST_BASE: &[u8] =
     b"https://bbbbbbbbbbbbbbbbbbbbbbbbbbbbbbbbbbbbbbbbbbbbbbbbbbbbbbbbbbbbbbbbbbbbbbbbbbbbbbbbbbbbbbbbbbbbbbbbbbbbbbbbbbbbbbbbbbbbbbbb";
 
-/// A longest name. Each of its characters is escaped.
+/// A name of the greatest length. All its characters are escaped.
 const LONGEST_NAME: &[u8] =
     b"''''''''''''''''''''''''''''''''''''''''''''''''''''''''''''''''''''''''''''''''''''''''''''''''''''''''''''''''''''''''''''''''''''''''''''''''''''''''''''''''''''''''''''''''''''''''''''''''''''''''''''''''''''''''''''''''''''''''''''''''";
 
-/// A longest media type. Each of its characters but `/` is escaped.
+/// A media type of the greatest length. All its characters but `/` are escaped.
 const LONGEST_KIND: &[u8] =
     b"'/''''''''''''''''''''''''''''''''''''''''''''''''''''''''''''''''''''''''''''''''''''''''''''''''''";
 

@@ -1,5 +1,5 @@
-//! Tests of the model of a source and of its documents. They use public items only. tests/rows has what a script can
-//! show.
+//! Tests of the model of a source and of its documents. They use public items only. tests/rows has the tests that a
+//! script can make.
 #![tactic(auto)]
 
 #[cfg(test)]

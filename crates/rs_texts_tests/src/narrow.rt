@@ -3,7 +3,7 @@
 use std::io;
 use std::io::{ErrorKind, Write};
 
-/// A writer with room for some bytes. It fails at each write that is longer than the room that is left.
+/// A writer with room for some bytes. It fails at every write that is longer than the room left.
 #[derive(Drop)]
 pub struct Narrow {
     pub room: usize,

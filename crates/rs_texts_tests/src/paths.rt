@@ -36,7 +36,7 @@ const ROWS: [(&[u8], Doc); 9] = [
     ),
 ];
 
-/// The path of a document, as it is written.
+/// Returns the path of a document, as it is written.
 fn written(alloc: Global, doc: Doc) -> Result<Vec<u8>, Fail> {
     let mut out = Watched::new(Vec::new(alloc));
     write_path(doc, &mut out)?;

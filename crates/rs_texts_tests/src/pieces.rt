@@ -13,7 +13,7 @@ const TEXT: &[u8] = b"<a>x &amp; y010184467440737095516152000-02-29T00:00:00.000
     md5:900150983cd24fb0d6963f7d28e17f72 sha-256:\
     ba7816bf8f01cfea414140de5dae2223b00361a396177a9cb410ff61f20015ad";
 
-/// The text that the pieces are written as.
+/// Returns the written text of the pieces.
 fn written(alloc: Global, pieces: &[Piece<'_>]) -> Result<Vec<u8>, WriteFault> {
     let mut out = Watched::new(Vec::new(alloc));
     put_pieces(pieces, &mut out)?;

@@ -1,5 +1,5 @@
-//! What the wanted texts share, spelled by hand from docs/DOCUMENTS.md. Their base is `http://127.0.0.1:8080`, and
-//! their digests are those of no bytes in RFC 1321 (A.5) and of "" in FIPS 180-4.
+//! Common pieces of the expected texts, spelled by hand from docs/DOCUMENTS.md. Their base is `http://127.0.0.1:8080`,
+//! and their digests are those of no bytes in RFC 1321 (A.5) and of "" in FIPS 180-4.
 
 use std::alloc::{AllocError, Global};
 
@@ -29,7 +29,7 @@ pub const INDEX_END: &[u8] = b"</sitemapindex>\n";
 pub const NO_BYTES: &[u8] =
     b" hash=\"md5:d41d8cd98f00b204e9800998ecf8427e sha-256:e3b0c44298fc1c149afbf4c8996fb92427ae41e4649b934ca495991b7852b855\" length=\"0\" type=\"text/plain\"/></url>\n";
 
-/// The text of these pieces.
+/// Returns the text of these pieces.
 pub fn joined(alloc: Global, pieces: &[&[u8]]) -> Result<Vec<u8>, AllocError> {
     let mut text = Vec::new(alloc);
     for piece in pieces {

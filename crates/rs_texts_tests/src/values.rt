@@ -7,7 +7,7 @@ use rs_time::Moment;
 use std::alloc::Global;
 use std::test::Fail;
 
-/// The moment of this many milliseconds.
+/// Returns the moment of this many milliseconds.
 pub fn at(ms: u64) -> Result<Moment, Fail> {
     Ok(Moment::new(ms).ok_or("no moment")?)
 }
@@ -15,7 +15,7 @@ pub fn at(ms: u64) -> Result<Moment, Fail> {
 /// A name, a media type, a length and a moment. The digests are those of no bytes.
 pub type Put<'a> = (&'a [u8], &'a [u8], u32, u64);
 
-/// The record of a resource.
+/// Returns the record of a resource.
 pub fn record(alloc: Global, (name, kind, length, ms): Put<'_>) -> Result<Record, Fail> {
     Ok(Record {
         name: Name::new(alloc, name)?,
@@ -30,7 +30,7 @@ pub fn record(alloc: Global, (name, kind, length, ms): Put<'_>) -> Result<Record
     })
 }
 
-/// The change that updates it.
+/// Returns the change that updates it.
 pub fn updated(alloc: Global, (name, kind, length, ms): Put<'_>) -> Result<Change, Fail> {
     let facts = Facts {
         kind: MediaType::new(alloc, kind)?,

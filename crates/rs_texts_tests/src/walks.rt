@@ -9,7 +9,7 @@ use std::alloc::Global;
 use std::process::Abort;
 use std::test::Fail;
 
-/// A put of no bytes under this name.
+/// Returns a put of no bytes under this name.
 fn put(alloc: Global, name: &[u8]) -> Result<Command, Fail> {
     Ok(Command::Put {
         name: Name::new(alloc, name)?,
@@ -18,12 +18,12 @@ fn put(alloc: Global, name: &[u8]) -> Result<Command, Fail> {
     })
 }
 
-/// A command that is tried at the moment 0.
+/// Returns the event of a command that is tried at the moment 0.
 fn tried(command: Command) -> Result<Event, Fail> {
     Ok(Event::Tried(command, at(0)?))
 }
 
-/// What happens to the put of `c`.
+/// The fate of the put of `c`.
 #[derive(Clone, Copy, Debug, PartialEq, Eq)]
 enum Fate {
     Answered,
@@ -32,7 +32,7 @@ enum Fate {
     NotAsked,
 }
 
-/// The event of the put of `c`.
+/// Returns the event of the put of `c`.
 fn put_of_c(alloc: Global, fate: Fate) -> Result<Event, Fail> {
     match fate {
         Fate::Answered => tried(put(alloc, b"c")?),
@@ -42,8 +42,9 @@ fn put_of_c(alloc: Global, fate: Fate) -> Result<Event, Fail> {
     }
 }
 
-/// The events: a put of `a` and a publication, then a fetch of the Resource List; a put of `b` and a delete of `a`,
-/// then a fetch of the head of the Change List; the puts of `c` and `d`, then fetches of both parts of the Change List.
+/// Returns the events: a put of `a` and a publication, then a fetch of the Resource List; a put of `b` and a delete of
+/// `a`, then a fetch of the head of the Change List; the puts of `c` and `d`, then fetches of both parts of the Change
+/// List.
 fn events(alloc: Global, fate: Fate) -> Result<Vec<Event>, Fail> {
     let mut events = Vec::new(alloc);
     events.push(tried(put(alloc, b"a")?)?)?;
@@ -60,7 +61,7 @@ fn events(alloc: Global, fate: Fate) -> Result<Vec<Event>, Fail> {
     Ok(events)
 }
 
-/// A source with the item limit 2, formatted at the moment 0, after the first `count` events.
+/// Returns a source with the item limit 2, formatted at the moment 0, after the first `count` events.
 fn after(alloc: Global, events: &[Event], count: usize) -> Result<State, Fail> {
     let base = Base::new(alloc, b"http://127.0.0.1:8080")?;
     let start = State::start(alloc, base, 2, at(0)?);
@@ -98,7 +99,8 @@ const FIRST: &[&[u8]] = &[
     LIST_END,
 ];
 
-/// The second part of the Change List after 9 events: what comes before the name in its last entry, and what follows.
+/// The second part of the Change List after 9 events: the text before the name in its last entry, and the text after
+/// it.
 const SECOND: [&[&[u8]]; 2] = [
     &[
         LIST_FRONT,
@@ -114,7 +116,7 @@ const SECOND: [&[&[u8]]; 2] = [
     ],
 ];
 
-/// The answer to a fetch of a path after the first `count` events.
+/// Returns the answer to a fetch of a path after the first `count` events.
 fn fetched(
     alloc: Global,
     events: &[Event],
@@ -125,7 +127,7 @@ fn fetched(
     Ok(answer(alloc, &state, path)?)
 }
 
-/// Checks an answer: these bytes, or nothing.
+/// Checks an answer: these bytes, or no answer.
 fn is_answered(
     rt: &(impl Abort + AllocGlobal),
     events: &[Event],
@@ -137,7 +139,7 @@ fn is_answered(
     Ok(())
 }
 
-/// Checks the fetches that are the same in each walk.
+/// Checks the fetches that are the same in every walk.
 fn answers_what_it_holds(rt: &(impl Abort + AllocGlobal), events: &[Event]) -> Result<(), Fail> {
     const ROWS: [(usize, &[u8], Option<&[&[u8]]>); 9] = [
         (2, b"/resourcelist.xml", Some(RESOURCES)),

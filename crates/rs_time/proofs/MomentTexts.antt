@@ -138,7 +138,7 @@ moment_text-bytes t =
 passes : (p : ℕ → Bool) (text : List ℕ) (c : ℕ) → list_all p text ≡ true → Contains text c → p c ≡ true
 passes p text c h among = All-contains (λ b. p b ≡ true) text c (AllPass-from_list_all p text h) among
 
--- so it has no line feed, and none of the five characters that XML has references for
+-- so it has no line feed, and no character of the five that XML has references for
 pub moment_text-unescaped : (t c : ℕ) → Contains (10 ∷ codes "\"&'<>") c → ¬ Contains (moment_text t) c
 moment_text-unescaped t c mark among =
     let other = passes (λ b. not (is_moment_byte b)) (10 ∷ codes "\"&'<>") c refl mark in

@@ -35,8 +35,8 @@ date_of n =
     let in_month = period_of (month_length in_year.0) 11 1 in_year.1 in
     record { year = in_year.0; month = in_month.0; day = in_month.1 + 1 }
 
--- how many days lie between 1 January 1970 and the date: those of the whole years before it, of the whole
--- months of its year, and of its month
+-- the number of days from 1 January 1970 to the date: the days of the whole years before it, of the whole months of its
+-- year, and of its month
 abbrev pub days_before : CivilDate → ℕ
 days_before d =
     days_of year_length 1970 (d.year - 1970) + days_of (month_length d.year) 1 (d.month - 1) + (d.day - 1)

@@ -17,7 +17,7 @@ IsMoment ms = ms ≤ greatest
 abbrev pub moment_of : ℕ → Option ℕ
 moment_of ms = if nat_le ms greatest then Some ms else None
 
--- the first moment after `last` that is not before `now`; none is after the greatest
+-- the first moment after `last` that is not before `now`; no moment is after the greatest
 abbrev pub moment_after : ℕ → ℕ → Option ℕ
 moment_after last now = if nat_lt last greatest then Some (max now (last + 1)) else None
 

@@ -18,7 +18,7 @@ pub struct CivilDate {
     pub day: u8,
 }
 
-/// The date of day `days`. Day 0 is 1 January 1970, and day 2,932,896 is 31 December 9999.
+/// Returns the date of day `days`. Day 0 is 1 January 1970, and day 2,932,896 is 31 December 9999.
 pub fn civil_date(days: u32) -> CivilDate
     requires { days ≤ 2932896 }
     ensures { result ≡ date_of days }
@@ -31,7 +31,7 @@ pub fn civil_date(days: u32) -> CivilDate
     }
 }
 
-/// 1 January 1970 plus some days.
+/// Returns 1 January 1970 plus some days.
 fn day_after_epoch(days: u32) -> Date
     requires { days ≤ 2932896 }
     ensures { epoch_day result ≡ pos days }

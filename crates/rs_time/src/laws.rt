@@ -1,6 +1,6 @@
 //! Laws of dates and of the text of moments.
 //!
-//! Each function here does nothing: its contract is the law, which the check proves.
+//! The functions here have no effect: their contracts are the laws, which the check proves.
 
 ghost use Rattle.std.specs.Prelude.{◌≡◌, ◌≤◌, ℕ, List, ◌∷◌, Some, IsTrue, Contains, codes};
 ghost use Rattle.std.specs.List.{list_all};
@@ -14,16 +14,16 @@ pub fn dates_lie_on_their_days()
     ensures { (n : ℕ) → n ≤ 2932896 → IsDateOf n (date_of n) }
 {}
 
-/// The text of each moment reads as that moment, and any text that reads as a moment is its text. So no
-/// two moments have the same text.
+/// The text of a moment reads as that moment, and any text that reads as a moment is its text. So different moments
+/// have different texts.
 pub fn moment_texts_read_back()
     ensures read { (t : ℕ) → IsMoment t → read_moment (moment_text t) ≡ Some t }
     ensures exact { (text : List ℕ) (t : ℕ) → read_moment text ≡ Some t →
         IsMoment t × (text ≡ moment_text t) }
 {}
 
-/// The text of a moment has only digits, `-`, `T`, `:`, `.` and `Z`. It has no line feed, and none of `"`,
-/// `&`, `'`, `<`, `>`, so XML content and attribute values need no escaping of it.
+/// The text of a moment has only digits, `-`, `T`, `:`, `.` and `Z`. It has no line feed and no `"`, `&`, `'`, `<` or
+/// `>`, so XML content and attribute values need no escaping of it.
 pub fn moment_texts_need_no_escaping()
     ensures bytes { (t : ℕ) → IsTrue (list_all is_moment_byte (moment_text t)) }
     ensures unescaped { (t mark : ℕ) → Contains (10 ∷ codes "\"&'<>") mark →

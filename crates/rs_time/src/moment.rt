@@ -9,8 +9,7 @@ use std::{fmt, str};
 
 /// A moment of UTC: whole milliseconds since 1970-01-01T00:00:00.000Z, up to 9999-12-31T23:59:59.999Z.
 ///
-/// Earlier moments are less than later ones. There are no leap seconds: each day has 86,400,000
-/// milliseconds.
+/// Earlier moments are less than later ones. There are no leap seconds: all days have 86,400,000 milliseconds.
 #[derive(Clone, Copy, Debug, PartialEq, Eq, PartialOrd, Ord)]
 pub struct Moment {
     ms: u64,
@@ -33,14 +32,14 @@ impl Moment {
     /// The milliseconds of the greatest moment, 9999-12-31T23:59:59.999Z.
     pub const GREATEST: u64 = 253_402_300_799_999;
 
-    /// The first moment, 1970-01-01T00:00:00.000Z.
+    /// Returns the first moment, 1970-01-01T00:00:00.000Z.
     pub fn first() -> Moment
         ensures { result ≡ 0 }
     {
         Moment { ms: 0 }
     }
 
-    /// The moment `ms` milliseconds after 1970-01-01T00:00:00.000Z, or `None` where `ms` is above
+    /// Returns the moment `ms` milliseconds after 1970-01-01T00:00:00.000Z, or `None` if `ms` is above
     /// [`Moment::GREATEST`].
     pub fn new(ms: u64) -> Option<Moment>
         ensures { result ≡ moment_of ms }
@@ -52,7 +51,7 @@ impl Moment {
         }
     }
 
-    /// Its milliseconds since 1970-01-01T00:00:00.000Z, at most [`Moment::GREATEST`].
+    /// Returns its milliseconds since 1970-01-01T00:00:00.000Z, at most [`Moment::GREATEST`].
     pub fn ms(self) -> u64
         ensures value { result ≡ self }
         ensures bound { IsMoment self }
@@ -60,8 +59,7 @@ impl Moment {
         self.ms
     }
 
-    /// The first moment after `last` that is not before `now`, or `None` where `last` is the greatest
-    /// moment.
+    /// Returns the first moment after `last` that is not before `now`, or `None` if `last` is the greatest moment.
     pub fn after(last: Moment, now: Moment) -> Option<Moment>
         ensures { result ≡ moment_after last now }
     {
@@ -74,8 +72,8 @@ impl Moment {
         }
     }
 
-    /// Its text, `YYYY-MM-DDThh:mm:ss.mmmZ`, as `2000-02-29T00:00:00.000Z`: a W3C Datetime in UTC with
-    /// three digits of a second's fraction. The date is of the Gregorian calendar.
+    /// Returns its text, `YYYY-MM-DDThh:mm:ss.mmmZ`, as `2000-02-29T00:00:00.000Z`: a W3C Datetime in UTC with three
+    /// digits of a second's fraction. The date is of the Gregorian calendar.
     #[tactic(auto, unfolding(crate::specs::Moment::moment_text))]
     pub fn text(self) -> [u8; 24]
         ensures { result ≡ moment_text self }
@@ -118,7 +116,7 @@ impl Moment {
     }
 }
 
-/// Prints the text. A width or other options of the placeholder change nothing.
+/// Prints the text. A width or other options of the placeholder have no effect.
 impl fmt::Display for Moment {
     ghost use Rattle.std.specs.Prelude.{Some};
     ghost use Rattle.rs_time.specs.Moment.{moment_text};
@@ -134,7 +132,7 @@ impl fmt::Display for Moment {
     }
 }
 
-/// The last decimal digit.
+/// Returns the last decimal digit.
 fn last_digit(n: u32) -> u8
     ensures { result ≡ digit_of n }
 {

@@ -1,4 +1,4 @@
-//! The used blocks of a disk. What is free was found by a slow list of blocks in Python.
+//! The used blocks of a disk. A slow list of blocks in Python found the expected free blocks.
 
 use rs_extent::{Extent, Used};
 use std::alloc::{AllocError, Global};
@@ -22,7 +22,7 @@ fn take(used: &mut Used, run: Run) {
     }
 }
 
-/// Runs on a disk of ten blocks, and whether they are free. Blocks 0 and 1 are not, nor is any past the end.
+/// Runs on a disk of ten blocks, and whether they are free. Blocks 0, 1 and all past the end are not free.
 const FREE: [(Run, bool); 10] = [
     ((2, 8), true),
     ((2, 9), false),
@@ -46,8 +46,8 @@ fn ten_blocks_are_free_or_not(rt: HostRuntime) -> Result<(), Fail> {
     Ok(())
 }
 
-/// What is found on a disk of ten blocks where 4 and 7 are used: one block, two, three, the length of the longest run, and the
-/// number of all blocks.
+/// Returns the runs of one, two and three blocks found on a disk of ten blocks where 4 and 7 are used, the length of
+/// the longest free run, and the number of all blocks.
 fn found_beside_4_and_7(alloc: Global) -> Result<([Option<Extent>; 3], u32, u32), AllocError> {
     let mut used = Used::new(alloc, 10)?;
     take(&mut used, (4, 1));
@@ -77,7 +77,7 @@ fn found(used: &Used) -> Found {
     (first_of(used.find(1)), longest, first_of(most))
 }
 
-/// What is found while the blocks of a free run are taken. It gives them back.
+/// Returns the findings while the blocks of a free run are taken. It gives the blocks back.
 fn found_without(used: &mut Used, run: Run) -> Option<Found> {
     let extent = extent(run);
     if !used.is_free(extent) {
@@ -89,8 +89,8 @@ fn found_without(used: &mut Used, run: Run) -> Option<Found> {
     Some(found)
 }
 
-/// The size of a disk in blocks, a used run, another one that is taken too, and what is then found. Words have 64
-/// blocks; tests/rows/full_disks.session has disks that end beside the border of a word.
+/// The size of a disk in blocks, a used run, another run that is taken too, and the findings then. Words have 64
+/// blocks; tests/rows/full_disks.session has disks that end next to the border of a word.
 const RUNS: [(u32, Run, Run, Found); 7] = [
     (200, (65, 3), (63, 2), (Some(2), 132, Some(68))),
     (200, (128, 3), (64, 64), (Some(2), 69, Some(131))),
@@ -106,7 +106,7 @@ const RUNS: [(u32, Run, Run, Found); 7] = [
     ),
 ];
 
-/// What is found on a disk beside two runs, if taking the second again after it was given back finds the same.
+/// Returns the findings on a disk with both runs, if taking the second again after it was given back finds the same.
 fn found_twice(
     alloc: Global,
     blocks: u32,

@@ -1,4 +1,4 @@
-//! Copies are made while there is memory. Clauses say what they hold.
+//! Copies are made while there is memory. Clauses state their content.
 
 use rs_fixity::Digests;
 use rs_record::{Base, Duplicate, Facts, MediaType, Name};

@@ -3,7 +3,7 @@
 
 use rs_fixity::{Digests, Hashing, Sha256Hashing, digests_of, hash_text, sha256_of};
 
-/// The text of the digests of `piece` this many times, with `rest` behind it.
+/// Returns the text of the digests of `piece` repeated this many times, followed by `rest`.
 fn text_in_pieces(times: u32, piece: &[u8], rest: &[u8]) -> [u8; 109] {
     let mut hashing = Hashing::new();
     for _ in 0..times {

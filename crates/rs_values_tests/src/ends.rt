@@ -1,5 +1,5 @@
-//! Ends that fail at one of their calls, and the answers of the watched end. No clause says this, since the library's
-//! contracts never say that a reader or a writer failed.
+//! Ends that fail at one of their calls, and the answers of the watched end. No clause states them, since the library's
+//! contracts never state that a reader or a writer failed.
 
 use rs_io::{Watched, WriteFault};
 use std::alloc::Global;
@@ -10,7 +10,7 @@ use std::io::{ErrorKind, Read, Write};
 #[derive(Drop)]
 struct FailsOnce<T> {
     inner: T,
-    /// How many calls come before the one that fails, `None` after it.
+    /// The number of calls before the one that fails, `None` after it.
     calls_before: Option<u32>,
 }
 
@@ -49,9 +49,9 @@ impl<W: Write> Write for FailsOnce<W> {
     }
 }
 
-/// Which call of a reader of `abcde` fails; how many bytes each of five reads gives, `None` where it fails; the counts
-/// of failures, and of calls of the reader inside; how many bytes are left. After a failure each read fails, and makes
-/// no call of the reader inside, which would give more.
+/// The number of calls before the failing call of a reader of `abcde`; the numbers of bytes that five reads return,
+/// `None` for a failed read; the counts of failures, and of calls of the reader inside; the number of bytes left. After
+/// a failure every read fails, and makes no call of the reader inside, which would return more bytes.
 type Reads = (u32, [Option<usize>; 5], u64, u64, usize);
 
 const READS: [Reads; 6] = [
@@ -63,7 +63,7 @@ const READS: [Reads; 6] = [
     (5, [Some(2), Some(2), Some(1), Some(0), Some(0)], 0, 5, 0),
 ];
 
-/// What the reads give, and the reader's counts.
+/// Returns the results of the reads, and the reader's counts.
 fn told_by_reads(fails_at: u32) -> Reads {
     let mut reader = Watched::new(FailsOnce {
         inner: b"abcde".as_slice(),
@@ -105,9 +105,9 @@ const WROTE: Result<(), WriteFault> = Ok(());
 
 const FAILED: Result<(), WriteFault> = Err(WriteFault);
 
-/// Which call of a writer fails; the answers to the bytes `abcd`, to a text of three pieces and to a flush; the counts
-/// of failures, and of calls of the writer inside; all that is written. After a failure each call fails, and makes no
-/// call of the writer inside.
+/// The number of calls before the failing call of a writer; the answers to the bytes `abcd`, to a text of three pieces
+/// and to a flush; the counts of failures, and of calls of the writer inside; all written bytes. After a failure every
+/// call fails, and makes no call of the writer inside.
 type Writes = (u32, [Result<(), WriteFault>; 3], u64, u64, &'static [u8]);
 
 const WRITES: [Writes; 7] = [
@@ -120,7 +120,7 @@ const WRITES: [Writes; 7] = [
     (6, [WROTE, WROTE, WROTE], 0, 6, b"abcd12:30"),
 ];
 
-/// The answers, the counts, and what is written.
+/// Returns the answers, the counts, and the written bytes.
 fn told_by_writes(
     alloc: Global,
     fails_at: u32,
@@ -150,7 +150,7 @@ fn a_write_fails_from_where_the_writer_does(rt: HostRuntime) {
     }
 }
 
-/// Which call of a writer fails, the answer to the number 12345, and what is written of it.
+/// The number of calls before the failing call of a writer, the answer to the number 12345, and its written digits.
 const NUMBERS: [(u32, Result<(), WriteFault>, &[u8]); 4] = [
     (0, FAILED, b""),
     (1, FAILED, b"12"),
@@ -174,7 +174,7 @@ fn a_number_fails_within(rt: HostRuntime) {
 #[derive(Drop)]
 struct Interrupted<W> {
     inner: W,
-    /// How many further calls are interrupted.
+    /// The number of further calls that are interrupted.
     times: u32,
 }
 
@@ -192,8 +192,8 @@ impl<W: Write> Write for Interrupted<W> {
     }
 }
 
-/// How many calls of a writer are interrupted, the answers to the bytes `ab` and `cd`, the count of failures, and all
-/// that is written. One put tries 100 interrupted writes again.
+/// The number of interrupted calls of a writer, the answers to the bytes `ab` and `cd`, the count of failures, and all
+/// written bytes. One put retries 100 interrupted writes.
 const INTERRUPTIONS: [(u32, [Result<(), WriteFault>; 2], u64, &[u8]); 4] = [
     (0, [WROTE, WROTE], 0, b"abcd"),
     (1, [WROTE, WROTE], 0, b"abcd"),

@@ -1,6 +1,6 @@
 //! Tests of the values that the crates above use: watched ends, moments, digests, runs of blocks, names, media types,
-//! bases, records and changes. They test what no clause says, through public items. What a script or a file shows of
-//! these values is in tests/rows.
+//! bases, records and changes. They test, through public items, the properties that no clause states. tests/rows tests
+//! the properties that a script or a file shows.
 #![tactic(auto)]
 
 #[cfg(test)]

@@ -15,8 +15,8 @@ use rs_model::{State, states_are_lawful};
 use rs_record::{Name, ValueFault};
 use std::alloc::{AllocError, Global};
 
-/// The answer at this path: the text of the document that has it, or the bytes of the resource that has it. `None`
-/// where the document does not exist, or the resource is not held.
+/// Returns the answer at this path: the text of the document that has it, or the bytes of the resource that has it.
+/// `None` where the document does not exist, or the resource is not held.
 ///
 /// # Errors
 ///
@@ -31,7 +31,7 @@ pub fn answer(alloc: Global, state: &State, path: &[u8]) -> Result<Option<Vec<u8
     }
 }
 
-/// The text of a document, if it exists.
+/// Returns the text of a document, if it exists.
 fn document(alloc: Global, state: &State, doc: Doc) -> Result<Option<Vec<u8>>, AllocError>
     ensures { IfOk result (λ text.
         option_map (λ bytes. bytes.items) text ≡ document_text (shown_of state.now) doc) }
@@ -45,7 +45,7 @@ fn document(alloc: Global, state: &State, doc: Doc) -> Result<Option<Vec<u8>>, A
     }
 }
 
-/// The bytes of the resource that has this path, if it is held.
+/// Returns the bytes of the resource that has this path, if it is held.
 fn resource(alloc: Global, state: &State, path: &[u8]) -> Result<Option<Vec<u8>>, AllocError>
     ensures { IfOk result
         (λ body. option_map (λ bytes. bytes.items) body ≡ body_at state.now path.now) }
@@ -56,7 +56,8 @@ fn resource(alloc: Global, state: &State, path: &[u8]) -> Result<Option<Vec<u8>>
     }
 }
 
-/// The bytes of the resource of this name, if it is held. No state holds a name that is not lawful.
+/// Returns the bytes of the resource of this name, if it is held. No state holds a name that is not
+/// lawful.
 fn body(alloc: Global, state: &State, name: &[u8]) -> Result<Option<Vec<u8>>, AllocError>
     ensures { IfOk result
         (λ body. option_map (λ bytes. bytes.items) body ≡ body_of name.now state.now) }
@@ -69,7 +70,7 @@ fn body(alloc: Global, state: &State, name: &[u8]) -> Result<Option<Vec<u8>>, Al
     }
 }
 
-/// A copy of the bytes.
+/// Returns a copy of the bytes.
 fn copied(alloc: Global, bytes: Option<&[u8]>) -> Result<Option<Vec<u8>>, AllocError>
     ensures { IfOk result
         (λ copied. option_map (λ copy. copy.items) copied ≡ option_copied bytes.entry) }

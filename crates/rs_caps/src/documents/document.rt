@@ -12,7 +12,7 @@ use rs_record::Base;
 use std::io::Write;
 use std::marker::Model;
 
-/// What a document has: the base that it names, or a list.
+/// The content of a document: the base that it names, or a list.
 #[derive(Drop)]
 enum Content<'a, V: View> {
     Description(&'a Base),
@@ -38,7 +38,7 @@ impl<'a, V: View> Model for Document<'a, V> {
 }
 
 impl<'a, V: View> Document<'a, V> {
-    /// The document, or `None` exactly where it does not exist.
+    /// Returns the document, or `None` exactly where it does not exist.
     ///
     /// The Source Description, the Capability List and the heads of both lists always exist. A part exists only where
     /// its head is an index, and a part of a Resource List only under the number of the latest publication.
@@ -53,7 +53,7 @@ impl<'a, V: View> Document<'a, V> {
         Some(Document { content })
     }
 
-    /// The length of its text in bytes. It makes no text and takes no memory.
+    /// Returns the length of its text in bytes. It makes no text and takes no memory.
     pub fn len(&self) -> u64
         ensures { result ≡ length self.now }
     {
@@ -64,7 +64,7 @@ impl<'a, V: View> Document<'a, V> {
         }
     }
 
-    /// Writes its whole text: UTF-8, each line ended by a line feed.
+    /// Writes its whole text: UTF-8, every line ended by a line feed.
     ///
     /// # Errors
     ///
@@ -83,11 +83,11 @@ impl<'a, V: View> Document<'a, V> {
     }
 }
 
-/// Writes the whole text of a document: what [`Document::write`] writes.
+/// Writes the whole text of a document, as [`Document::write`] does.
 ///
 /// # Errors
 ///
-/// `NoSuchDocument` exactly where the document does not exist; then it writes nothing. `WriteFault` only where the
+/// `NoSuchDocument` exactly where the document does not exist; then it writes no byte. `WriteFault` only where the
 /// writer failed in this call; then it has written a beginning of the text and no other byte.
 pub fn write_document<V: View, W: Write>(
     view: &V,
@@ -112,8 +112,8 @@ pub fn write_document<V: View, W: Write>(
     }
 }
 
-/// The length in bytes of what [`write_document`] writes, or `None` where the document does not exist. It makes no text
-/// and takes no memory.
+/// Returns the length in bytes of the text that [`write_document`] writes, or `None` where the document does not exist.
+/// It makes no text and takes no memory.
 pub fn document_length<V: View>(view: &V, doc: Doc) -> Option<u64>
     ensures { result ≡ option_map length (document_text (V.shown view.now) doc) }
 {
@@ -121,7 +121,7 @@ pub fn document_length<V: View>(view: &V, doc: Doc) -> Option<u64>
     Some(document.len())
 }
 
-/// The Source Description, in pieces.
+/// Returns the Source Description, in pieces.
 fn description(base: &Base) -> [Piece<'_>; 6]
     ensures text { pieces_text result ≡ description_text base.now }
     ensures lawful { IsTrue (is_base base.now) }
@@ -138,7 +138,7 @@ fn description(base: &Base) -> [Piece<'_>; 6]
     ]
 }
 
-/// The Capability List, in pieces.
+/// Returns the Capability List, in pieces.
 fn capabilities(base: &Base) -> [Piece<'_>; 10]
     ensures text { pieces_text result ≡ capabilities_text base.now }
     ensures lawful { IsTrue (is_base base.now) }

@@ -10,7 +10,7 @@ ghost use Rattle.rs_caps.specs.Paths.{path_of, HasCounts, if_path_of, read_count
 
 use rs_lists::Doc;
 
-/// The document that has this path, or `None`. A path begins with `/` and follows the base of a source.
+/// Returns the document that has this path, or `None`. A path begins with `/` and follows the base of a source.
 ///
 /// The path of a part reads as that part even where the part does not exist. Its numbers are decimal, without leading
 /// zeros and below 2^64.
@@ -22,7 +22,7 @@ pub fn doc_of(path: &[u8]) -> Option<Doc>
     document_at(path)
 }
 
-/// The document that has this path.
+/// Returns the document that has this path.
 #[tactic(auto, unfolding(crate::specs::Paths::doc_of))]
 fn document_at(path: &[u8]) -> Option<Doc>
     ensures { result ≡ document_of path.now }
@@ -35,7 +35,7 @@ fn document_at(path: &[u8]) -> Option<Doc>
         .or_else(|| if_at(Doc::Description, b"/.well-known/resourcesync", path))
 }
 
-/// The document, where this is its path.
+/// Returns the document, where this is its path.
 fn if_at(doc: Doc, place: &[u8], path: &[u8]) -> Option<Doc>
     requires { place.now ≡ path_of doc }
     ensures { result ≡ if_path_of doc path.now }
@@ -43,7 +43,7 @@ fn if_at(doc: Doc, place: &[u8], path: &[u8]) -> Option<Doc>
     if path == place { Some(doc) } else { None }
 }
 
-/// The part of a Resource List at `/resourcelist/P/K.xml`.
+/// Returns the part of a Resource List at `/resourcelist/P/K.xml`.
 #[tactic(auto, unfolding(crate::specs::Paths::resource_part))]
 fn resource_part(path: &[u8]) -> Option<Doc>
     ensures { result ≡ resource_part_of path.now }
@@ -55,7 +55,7 @@ fn resource_part(path: &[u8]) -> Option<Doc>
     Some(Doc::ResourcePart { publication, part })
 }
 
-/// The part of a Change List at `/changelist/K.xml`.
+/// Returns the part of a Change List at `/changelist/K.xml`.
 #[tactic(auto, unfolding(crate::specs::Paths::change_part))]
 fn change_part(path: &[u8]) -> Option<Doc>
     ensures { result ≡ change_part_of path.now }
@@ -64,7 +64,7 @@ fn change_part(path: &[u8]) -> Option<Doc>
     Some(Doc::ChangePart { part })
 }
 
-/// The number of `K.xml`, whatever document has it.
+/// Returns the number of `K.xml`, for any document that has it.
 #[tactic(auto, unfolding(crate::specs::Paths::last_part))]
 fn part_number(text: &[u8]) -> Option<u64>
     ensures { (part : ℕ → Doc) → option_map part result ≡ last_part part text.now }
@@ -75,14 +75,14 @@ fn part_number(text: &[u8]) -> Option<u64>
     if rest.is_empty() { Some(number) } else { None }
 }
 
-/// What follows the prefix, where the text begins with it.
+/// Returns the text after the prefix, where the text begins with it.
 pub(crate) fn strip<'a>(prefix: &[u8], text: &'a [u8]) -> Option<&'a [u8]>
     ensures { option_copied result ≡ what_follows prefix.now text.now }
 {
     text.strip_prefix(prefix)
 }
 
-/// The text before the first such mark, and the rest from the mark on.
+/// Returns the text before the first such mark, and the rest from the mark on.
 fn cut(mark: u8, text: &[u8]) -> (&[u8], &[u8])
     ensures { (result.0.now, result.1.now) ≡ cut_at mark text.now }
 {
@@ -92,14 +92,14 @@ fn cut(mark: u8, text: &[u8]) -> (&[u8], &[u8])
     }
 }
 
-/// The place of the first such mark.
+/// Returns the place of the first such mark.
 fn find(mark: u8, text: &[u8]) -> Option<usize>
     ensures { result ≡ position (λ byte. byte == mark) text.now }
 {
     text.iter().position(|byte| *byte == mark)
 }
 
-/// The number of 64 bits that the text writes.
+/// Returns the number of 64 bits that the text writes.
 #[tactic(auto, unfolding(crate::specs::Paths::read_count, crate::specs::Cut::read_number))]
 fn read_count(text: &[u8]) -> Option<u64>
     ensures { result ≡ count_of text.now }
@@ -111,7 +111,7 @@ fn read_count(text: &[u8]) -> Option<u64>
     }
 }
 
-/// Whether the text is digits, without a 0 before another digit.
+/// Returns whether the text is digits, without a 0 before another digit.
 fn is_number(text: &[u8]) -> bool
     ensures { result ≡ is_number_text text.now }
 {
@@ -122,14 +122,14 @@ fn is_number(text: &[u8]) -> bool
     }
 }
 
-/// Whether each byte is a digit.
+/// Returns whether every byte is a digit.
 fn are_digits(text: &[u8]) -> bool
     ensures { result ≡ list_all is_digit_byte text.now }
 {
     text.iter().all(|byte| byte.is_ascii_digit())
 }
 
-/// The number that digits write, if it has 64 bits.
+/// Returns the number that digits write, if it has 64 bits.
 fn read_digits(digits: &[u8]) -> Option<u64>
     requires { IsTrue (list_all is_digit_byte digits.now) }
     ensures { result ≡ (if nat_lt (number_after 0 digits.now) (2 ^ 64)

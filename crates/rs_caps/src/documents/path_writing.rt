@@ -46,7 +46,7 @@ pub fn write_path<W: Write>(doc: Doc, out: &mut Watched<W>) -> Result<(), WriteF
     }
 }
 
-/// The path of a document, at most 60 bytes.
+/// Returns the path of a document, at most 60 bytes.
 ///
 /// # Errors
 ///

@@ -9,8 +9,8 @@ use rs_record::{Base, Change, Record};
 use rs_time::Moment;
 use std::alloc::{AllocError, Global};
 
-/// A state as its documents show it: its latest publication and the changes that it keeps. It borrows the state and
-/// copies nothing. A listed resource has no extent of its own here, so each record's extent is empty.
+/// A state as its documents show it: its latest publication and the changes that it keeps. It borrows the state without
+/// a copy. A listed resource has no extent of its own here, so its record has an empty extent.
 #[derive(Drop)]
 pub struct StateView<'a> {
     state: &'a State,
@@ -19,11 +19,11 @@ pub struct StateView<'a> {
 impl<'a> StateView<'a> {
     ghost use Rattle.rs_caps.specs.Views.{shown_by_state};
 
-    /// The view of a state.
+    /// Returns the view of a state.
     ///
     /// # Errors
     ///
-    /// None: no memory is taken, whatever the allocator is.
+    /// None: it takes no memory, from any allocator.
     pub fn new(_alloc: Global, state: &'a State) -> Result<StateView<'a>, AllocError>
         ensures { IsOkAnd result (λ view. shown_by_state view ≡ shown_of state.now) }
     {

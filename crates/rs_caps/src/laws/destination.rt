@@ -11,12 +11,12 @@ use rs_record::{Change, Record};
 
 /// A destination fetches the Resource List and then the Change List, each with the parts that its head names, and
 /// mirrors the one with the other. Between its fetches there may be commands, refusals, and crashes within commands and
-/// between them. The mirror is a catalogue of the source: what its first n changes make, where change n came between
-/// the fetches of the Change List. The source held that at a point between them. Where a group came next there, the
-/// mirror may be what the source held followed by the group's first changes.
+/// between them. The mirror is a catalogue of the source: the result of its first n changes, where change n came
+/// between the fetches of the Change List. The source held that at a point between them. Where a group came next there,
+/// the mirror may be the resources held followed by the group's first changes.
 ///
 /// The premise is that the fetched Change List does not begin after the moment of the Resource List. It may do so where
-/// publications between the two fetches drop changes. A destination that sees this begins anew.
+/// publications between the two fetches drop changes. A destination that sees this begins again.
 pub fn destination_mirrors()
     ensures mirrored { DestinationMirrors }
     ensures held { MirrorWasHeld }

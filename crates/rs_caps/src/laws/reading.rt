@@ -24,7 +24,7 @@ pub fn escaped_reads()
     ensures exact { (text value : List ℕ) → unescape text ≡ Some value → text ≡ escape value }
 {}
 
-/// The decimal digits of each number of 64 bits read as that number. No other text does: no leading zero, no sign and
+/// The decimal digits of every number of 64 bits read as that number. No other text does: no leading zero, no sign and
 /// no space.
 pub fn numbers_read()
     ensures read { (n : ℕ) → n < 2 ^ 64 → read_number (decimal n) ≡ Some n }
@@ -32,8 +32,8 @@ pub fn numbers_read()
         → text ≡ decimal n }
 {}
 
-/// Lines without a line feed are the lines of the text in which a line feed ends each. The lines that a text reads as,
-/// each ended by a line feed, are the text.
+/// Lines without a line feed are the lines of the text in which a line feed ends every line. The lines that a text
+/// reads as, all ended by a line feed, are the text.
 pub fn lines_read()
     ensures read { (lines : List (List ℕ)) → IsTrue (list_all (lacks 10) lines)
         → lines_of (joined lines) ≡ Some lines }

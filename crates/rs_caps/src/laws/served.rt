@@ -1,4 +1,4 @@
-//! Laws of what a source serves.
+//! Laws of the documents that a source serves.
 
 ghost use Rattle.rs_model.specs.State.{Source};
 ghost use Rattle.rs_model.specs.Regular.{IsRegular};
@@ -16,7 +16,7 @@ pub fn texts_read()
     ensures read { TextsRead }
 {}
 
-/// Served lists mirror what is held. The texts of the Resource List give all that was published. The texts of the
+/// Served lists mirror the held resources. The texts of the Resource List give the whole publication. The texts of the
 /// Change List give all kept changes and where they begin. In a regular state the published resources with the changes
 /// after their publication are the resources that are held.
 pub fn lists_read()
@@ -38,13 +38,13 @@ pub fn lists_of_a_state_read(state: &State)
     states_are_lawful(state);
 }
 
-/// A part of the Resource List stays as it is: two answers at its path are equal, whatever commands come between them.
-/// The law says nothing where there is no answer, as after the next publication.
+/// A part of the Resource List stays as it is: two answers at its path are equal, with any commands between them. The
+/// law does not apply where there is no answer, as after the next publication.
 pub fn listed_parts_stay()
     ensures { ListedPartsStay }
 {}
 
-/// A part of the Change List stays as it is once it has an `until`, whatever earlier parts are dropped.
+/// A part of the Change List stays as it is once it has an `until`, also where earlier parts are dropped.
 pub fn closed_parts_stay()
     ensures { ClosedPartsStay }
 {
@@ -52,14 +52,14 @@ pub fn closed_parts_stay()
     lawful_stays();
 }
 
-/// In a regular state the changes of each part of the Change List are after the part's `from`, and not after
-/// the `from` of the next, which is its `until` where it has one.
+/// In a regular state the changes of every part of the Change List are after the part's `from`, and not after the
+/// `from` of the next, which is its `until` where it has one.
 pub fn parts_are_bounded()
     ensures { PartsAreBounded }
 {}
 
 /// No document says where the blocks of a body are. A view of a stored source shows published records with the blocks
-/// of their bodies, and a view of a state shows them with none. Their documents are equal.
+/// of their bodies, and a view of a state shows them without blocks. Their documents are equal.
 pub fn blocks_are_not_shown()
     ensures bare { BlocksAreNotShown }
     ensures alike { AlikeViewsHaveOneText }

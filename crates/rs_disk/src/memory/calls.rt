@@ -13,8 +13,8 @@ use crate::{Disk, Fault};
 use std::alloc::AllocError;
 
 impl MemoryDisk {
-    /// Counts a call, and gives the number of calls before it. At the last value of the count it
-    /// fails, and changes nothing.
+    /// Counts a call, and returns the number of calls before it. At the last value of the count it
+    /// fails, and changes no part of the disk.
     fn begin_call(&mut self) -> Result<u64, Fault>
         ensures spent { OnErr result (2 ^ 64 ≤ self.old.calls + 1) }
         ensures unchanged { OnErr result (self.new ≡ self.old) }
@@ -52,7 +52,7 @@ impl MemoryDisk {
     }
 
     /// Puts the bytes at an offset, and makes `places` places from there on unsettled. Where the
-    /// record can't grow, nothing changes.
+    /// record cannot grow, the disk stays as it was.
     fn put(&mut self, call: u64, at: usize, places: usize, bytes: &[u8]) -> Result<(), AllocError>
         requires begun { Begun call (memory_state self.old) }
         requires range { at + places ≤ (memory_state self.old).size }
@@ -71,7 +71,8 @@ impl MemoryDisk {
         Ok(())
     }
 
-    /// Settles what a read gives. Where the record can't grow, nothing changes.
+    /// Settles the bytes that a read returns. Where the record cannot grow, the disk stays as it
+    /// was.
     fn settle(&mut self, call: u64) -> Result<(), AllocError>
         requires begun { Begun call (memory_state self.old) }
         ensures ok { OnOk result
@@ -135,7 +136,8 @@ impl Disk for MemoryDisk {
             (Tears at (length bytes.now) (memory_state self.old) (memory_state self.new)) }
 
         ensures works { OnOk result (planned self.old 0 ≡ Works) }
-        // A failing write leaves what was planned, or nothing new where the record can't grow.
+        // A failing write leaves the planned content, or the old content where the record cannot
+        // grow.
         ensures fails { OnErr result (((memory_state self.new).now
             ≡ left_by_write (planned self.old 0) at bytes.now (memory_state self.old).now)
             ⊎ ((memory_state self.new).now ≡ (memory_state self.old).now)) }

@@ -10,7 +10,8 @@ use rs_record::Change;
 use rs_time::Moment;
 
 impl State {
-    /// How many parts a publication drops: the full ones whose last change is not after the publication before it.
+    /// Returns the number of parts that a publication drops: the full ones whose last change is not after the
+    /// publication before it.
     pub(super) fn dropped_parts(&self) -> usize
         ensures value { result ≡ dropped_parts_of self.now }
         ensures few { dropped_parts_of self.now ≤ most_changes }
@@ -19,7 +20,7 @@ impl State {
         passed_by(self.at, &self.changes) / self.limit as usize
     }
 
-    /// Whether no number is left for the first part that a publication keeps.
+    /// Returns whether no number is left for the first part that a publication keeps.
     pub(super) fn is_out_of_parts(&self) -> bool
         ensures { result ≡ is_out_of_parts_of self.now }
     {
@@ -27,7 +28,7 @@ impl State {
     }
 }
 
-/// How many changes, from the first on, are not after the moment.
+/// Returns the number of changes, from the first on, that are not after the moment.
 fn passed_by(moment: Moment, changes: &[Change]) -> usize
     ensures value { result ≡ passed_in moment changes.now }
     ensures within { passed_in moment changes.now ≤ length changes.now }
@@ -42,7 +43,7 @@ fn passed_by(moment: Moment, changes: &[Change]) -> usize
     passed
 }
 
-/// The moment of the last change, or `before` where there is none.
+/// Returns the moment of the last change, or `before` where there is none.
 pub(super) fn last_moment(before: Moment, changes: &[Change]) -> Moment
     ensures { result ≡ last_moment_of before changes.now }
 {

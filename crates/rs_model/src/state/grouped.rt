@@ -11,7 +11,7 @@ use rs_time::Moment;
 use std::alloc::{AllocError, Global};
 
 impl State {
-    /// Why a group is refused, if it is.
+    /// Returns the refusal of a group, if it is refused.
     pub(super) fn group_refusal(&self, group: &Group, now: Moment) -> Option<Refusal>
         ensures { result ≡ refusal_of self.now (commands.Group group.now) now }
     {
@@ -26,8 +26,8 @@ impl State {
         group_refusal(items, &held[..items.len()], self.counts(), now)
     }
 
-    /// Does the items of a group that comes at `now`, in their order. It works on a copy, so that after an error none
-    /// is done.
+    /// Applies the items of a group that comes at `now`, in their order. It works on a copy, so that after an error no
+    /// item is applied.
     pub(super) fn group(
         &mut self,
         alloc: Global,

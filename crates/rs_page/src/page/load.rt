@@ -13,8 +13,7 @@ use rs_disk::Disk;
 use rs_record::ValueFault;
 use std::alloc::Global;
 
-/// The fault of a page or a directory whose fields cannot be read: it is damaged where they are
-/// malformed.
+/// Returns the fault of a page or a directory whose fields cannot be read: it is damaged if they are malformed.
 pub fn fault_of_fields(fault: ValueFault) -> LoadFault
     ensures { result ≡ fault_of_fields fault }
 {
@@ -25,23 +24,22 @@ pub fn fault_of_fields(fault: ValueFault) -> LoadFault
 }
 
 impl<T: PageItem> Page<T> {
-    /// Reads the page that a reference points to, whatever the reference says. The disk stays as
-    /// it is.
+    /// Reads the page that a reference points to, for any reference. The disk stays as it is.
     ///
-    /// It asks for no memory before it has checked that the extent lies on the disk and has exactly
-    /// the blocks of the length, and for none because of the number of items alone.
+    /// It asks for no memory before it has checked that the extent lies on the disk and has exactly the blocks of the
+    /// length, and for no memory because of the number of items alone.
     ///
     /// # Errors
-    /// - [`LoadFault::Device`] where the device fails.
-    /// - [`LoadFault::Damaged`] where the disk holds no page there: extent, length, SHA-256 or bytes
-    ///   are not those of a page of such items.
-    /// - [`LoadFault::NoMemory`] where the memory for the bytes or the items is refused.
+    /// - [`LoadFault::Device`] if the device fails.
+    /// - [`LoadFault::Damaged`] if the disk holds no page there: extent, length, SHA-256 or bytes are not those of a
+    ///   page of such items.
+    /// - [`LoadFault::NoMemory`] if the memory for the bytes or the items is refused.
     pub fn load<D: Disk>(alloc: Global, disk: &mut D, page: &PageRef) -> Result<Page<T>, LoadFault>
         ensures place { IfOk result (λ loaded. loaded.place ≡ Place.Stored page.now) }
         ensures blocks { IfOk result (λ _. HasItsBlocks (D.state disk.new).size page.now) }
         ensures lawful { IfOk result (λ loaded. ArePageItems T.format loaded.items) }
 
-        // Where the device has followed the model:
+        // If the device has followed the model:
         ensures found { IfOk result (λ loaded. IsTrue (D.state disk.new).honest
             → IsPage T.format page.now (D.state disk.new).now.seen loaded.items) }
         ensures damaged { IsErrOf result LoadFault.Damaged

@@ -14,7 +14,7 @@ use rs_fixity::sha256_of;
 use std::alloc::{AllocError, Global};
 use thiserror::Error;
 
-/// Why a page was not stored.
+/// The fault of a page that was not stored.
 #[derive(Clone, Copy, Debug, PartialEq, Eq, Error)]
 pub enum StoreFault {
     /// The device failed.
@@ -49,17 +49,15 @@ impl<T: PageItem> Page<T> {
     /// Writes the page at the front of the blocks that it was given, by one device call. A page
     /// that is on the disk already is not written again.
     ///
-    /// It has blocks, and they lie on the disk. A read gives the page from then on; a crash may
-    /// leave anything in its blocks until the next sync. Nothing else on the disk changes, whether
-    /// it succeeds or not: each set of blocks beside the page's stays as it is, at every moment of
-    /// the call.
+    /// It has blocks, and they lie on the disk. A read gives the page from then on; a crash may leave any bytes in its
+    /// blocks until the next sync. No other block of the disk changes, whether it succeeds or not: every set of blocks
+    /// disjoint from the page's stays as it is, at every moment of the call.
     ///
     /// # Errors
-    /// - [`StoreFault::NoMemory`] where the memory for its bytes is refused; the device is not
-    ///   called then.
-    /// - [`StoreFault::Device`] where the device fails. Its blocks may then hold anything.
+    /// - [`StoreFault::NoMemory`] if the memory for its bytes is refused; the device is not called then.
+    /// - [`StoreFault::Device`] if the device fails. Its blocks may then hold any bytes.
     ///
-    /// After each of them the page is as it was, and may be stored again.
+    /// After any of these errors the page is as it was, and may be stored again.
     pub fn store<D: Disk>(&mut self, alloc: Global, disk: &mut D) -> Result<(), StoreFault>
         requires placed { ¬ IsTouched self.old.place }
         requires room { IfSome (placed_extent self.old.place)
@@ -72,7 +70,7 @@ impl<T: PageItem> Page<T> {
         ensures stored { IsSome (stored_ref self.old.place)
             → (result ≡ Ok tt) × (D.state disk.new ≡ D.state disk.old) }
 
-        // Whatever the answer:
+        // With any answer:
         ensures writes { WritesOnly (placed_extents (self.old ∷ []))
             (IsErrOf result StoreFault.Device) (D.state disk.old) (D.state disk.new) }
         ensures calls { CallsAtMost 1 (D.state disk.old) (D.state disk.new) }

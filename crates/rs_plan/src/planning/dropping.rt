@@ -1,4 +1,4 @@
-//! What a publication drops of the changes.
+//! The changes that a publication drops.
 
 ghost use Rattle.std.specs.Prelude.{◌≡◌, ◌≤◌, ◌*◌, length, take};
 ghost use Rattle.rs_record.specs.Changes.{last_moment};
@@ -8,8 +8,8 @@ ghost use Rattle.rs_plan.specs.Allowed.{parts_dropped, changes_dropped};
 use rs_image::Contents;
 use rs_time::Moment;
 
-/// The number of parts of the changes that the next publication drops: the full parts whose last
-/// change is not after the latest publication.
+/// Returns the number of parts of the changes that the next publication drops: the full parts whose
+/// last change is not after the latest publication.
 pub fn dropped_parts(contents: &Contents) -> u64
     ensures value { result ≡ parts_dropped contents.now }
     ensures full { changes_dropped contents.now
@@ -19,8 +19,8 @@ pub fn dropped_parts(contents: &Contents) -> u64
     passed as u64 / u64::from(contents.header.limit.items())
 }
 
-/// The moment at which the history begins without its first `parts` parts, which are full: the moment
-/// of their last change, or where the history begins now, if `parts` is 0.
+/// Returns the moment at which the history begins without its first `parts` parts, which are full:
+/// the moment of their last change, or the present begin of the history, if `parts` is 0.
 pub(crate) fn begin_without(contents: &Contents, parts: u64) -> Moment
     requires { parts * contents.now.header.limit ≤ length (changes_of contents.now.history.pages) }
     ensures { result ≡ last_moment contents.now.header.begin

@@ -1,4 +1,4 @@
-//! What the root after a command no longer reaches.
+//! The blocks that the root after a command no longer reaches.
 
 ghost use Rattle.std.specs.Prelude.{◌≡◌, [], ◌∷◌, ◌++◌, IfOk, OnOk};
 ghost use Rattle.rs_page.specs.Pages.{stored_refs, extents_of};
@@ -13,19 +13,19 @@ use rs_page::PageRef;
 use rs_record::Name;
 use std::alloc::{AllocError, Global};
 
-/// What items free beside the directory.
+/// The blocks, other than the directory's, that items free.
 #[derive(Drop)]
 pub(crate) struct Freed {
     /// The touched pages of the catalogue that are not published.
     pub(crate) pages: Vec<Extent>,
     /// The touched pages of the history.
     pub(crate) history_pages: Vec<Extent>,
-    /// The bodies that names had.
+    /// The bodies that the names had.
     pub(crate) bodies: Vec<Extent>,
 }
 
 impl Freed {
-    /// Nothing freed yet.
+    /// Returns an empty collection.
     pub(crate) fn new(alloc: Global) -> Freed
         ensures pages { result.pages.items ≡ [] }
         ensures history { result.history_pages.items ≡ [] }
@@ -38,7 +38,7 @@ impl Freed {
         }
     }
 
-    /// Adds what a change of this name frees. `lists` are the lists before the change.
+    /// Adds the blocks that a change of this name frees. `lists` are the lists before the change.
     ///
     /// # Errors
     ///
@@ -59,7 +59,7 @@ impl Freed {
         add_body(&mut self.bodies, lists, name)
     }
 
-    /// All that is freed: this directory, and what the lists here have.
+    /// Returns all freed blocks: this directory, and the blocks in the lists here.
     ///
     /// # Errors
     ///
@@ -81,9 +81,9 @@ impl Freed {
     }
 }
 
-/// What a change of this name frees: the directory, the page of the catalogue that the name goes
-/// into, unless it is published, the page of the history that the change goes into, and the body
-/// that the name has.
+/// Returns the blocks that a change of this name frees: the directory, the page of the catalogue
+/// that the name goes into, unless it is published, the page of the history that the change goes
+/// into, and the body that the name has.
 ///
 /// # Errors
 ///
@@ -104,8 +104,8 @@ pub(crate) fn freed_by_change(
     Ok(freed)
 }
 
-/// What a publication frees: the directory, the pages of the history with a change that it drops, and
-/// the published pages that are not catalogue pages.
+/// Returns the blocks that a publication frees: the directory, the pages of the history with a
+/// change that the publication drops, and the published pages that are not catalogue pages.
 ///
 /// # Errors
 ///
@@ -126,7 +126,7 @@ pub(crate) fn freed_by_publication(
     Ok(freed)
 }
 
-/// The pages of the history with a change that a publication drops.
+/// Returns the pages of the history with a change that a publication drops.
 fn dropped_pages(alloc: Global, contents: &Contents) -> Result<Vec<PageRef>, AllocError>
     ensures { IfOk result (λ pages. pages.items ≡ stored_refs
         (front_pages (changes_dropped contents.now) contents.now.history.pages)) }
@@ -146,7 +146,7 @@ fn add_pages(freed: &mut Vec<Extent>, pages: &[PageRef]) -> Result<(), AllocErro
     Ok(())
 }
 
-/// The page of the catalogue that a name goes into, unless it is published.
+/// Returns the page of the catalogue that a name goes into, unless it is published.
 fn unpublished_page(contents: &Contents, name: &Name) -> Option<PageRef>
     ensures { result ≡ unpublished (entry_of_name contents.now name.now)
         (stored_refs contents.now.published) }

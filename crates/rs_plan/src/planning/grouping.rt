@@ -30,9 +30,9 @@ use rs_time::Moment;
 use std::alloc::{AllocError, Global};
 
 /// Plans to bind and unbind the names of these items in their order, in one step: the first at this
-/// moment, each other one millisecond after the one before it. A source accepts the command. A body
-/// that a later item replaces or deletes gets no blocks. `used` has the blocks in use, and does not
-/// change.
+/// moment, every later one a millisecond after the one before it. A source accepts the command. A
+/// body that a later item replaces or deletes gets no blocks. `used` has the blocks in use, and
+/// does not change.
 ///
 /// # Errors
 ///
@@ -61,8 +61,8 @@ pub fn plan_group(
     place_lists(alloc, used, bodies, lists, reply, freed)
 }
 
-/// Finds blocks for each body that is written: the lowest run of free blocks of its size, after the
-/// bodies before it have theirs. `used` does not change.
+/// Finds blocks for every body that is written: the lowest run of free blocks of its size, after
+/// the bodies before it have theirs. `used` does not change.
 fn find_bodies(alloc: Global, used: &mut Used, items: &[Item]) -> Result<Vec<Extent>, PlanFault>
     requires short { AllByRecursion IsShort items.now }
     ensures same { used.new ≡ used.old }
@@ -78,8 +78,8 @@ fn find_bodies(alloc: Global, used: &mut Used, items: &[Item]) -> Result<Vec<Ext
     Ok(bodies)
 }
 
-/// Takes blocks for each body that is written, and adds them to the list. Where one has no run, what
-/// was taken before stays in the list.
+/// Takes blocks for every body that is written, and adds them to the list. Where a body has no run,
+/// the blocks taken before stay in the list.
 fn take_bodies(used: &mut Used, items: &[Item], bodies: &mut Vec<Extent>) -> Result<(), Full>
     requires short { AllByRecursion IsShort items.now }
     requires empty { bodies.old.items ≡ [] }
@@ -102,7 +102,7 @@ fn take_bodies(used: &mut Used, items: &[Item], bodies: &mut Vec<Extent>) -> Res
     Ok(())
 }
 
-/// The length of an item's body, where it is written: no later item has its name.
+/// Returns the length of an item's body, where it is written: no later item has its name.
 fn written_length(item: &Item, later: &[Item]) -> Option<u32>
     requires { IsShort item.now }
     ensures { bodies_needed (bodies_kept (item.now ∷ later.now))
@@ -116,8 +116,8 @@ fn written_length(item: &Item, later: &[Item]) -> Option<u32>
     }
 }
 
-/// The body of the first of these items, if it has one and no later item replaces or deletes it. A
-/// group writes no other bodies.
+/// Returns the body of the first of these items, if it has one and no later item replaces or
+/// deletes it. A group writes no other bodies.
 pub fn body_kept(items: &[Item]) -> Option<&[u8]>
     ensures { bodies_kept items.now
         ≡ cons_option (option_copied result) (bodies_kept (drop 1 items.now)) }
@@ -130,15 +130,15 @@ pub fn body_kept(items: &[Item]) -> Option<&[u8]>
     }
 }
 
-/// Whether one of these items has this name.
+/// Returns whether one of these items has this name.
 fn is_named_in(name: &Name, items: &[Item]) -> bool
     ensures { result ≡ is_named_in name.now items.now }
 {
     items.iter().any(|item| name.bytes() == item.name().bytes())
 }
 
-/// The lists after these items in turn, the first of them at this moment, with the written bodies in
-/// these blocks; and what the items free beside the directory.
+/// Returns the lists after these items in turn, the first of them at this moment, with the written
+/// bodies in these blocks; and the blocks, other than the directory's, that the items free.
 fn turn_items(
     alloc: Global,
     old: &Contents,
@@ -172,8 +172,8 @@ fn turn_items(
     Ok((lists, freed))
 }
 
-/// The blocks of an item's body, and those that are left for the later items. A body has none where a
-/// later item has its name.
+/// Returns the blocks of an item's body, and the blocks left for the later items. A body has no
+/// blocks where a later item has its name.
 fn body_for<'a>(item: &Item, later: &[Item], left: &'a [Extent]) -> (Extent, &'a [Extent])
     ensures body { result.0 ≡ extent_for item.now later.now left.now }
     ensures others { result.1.now ≡ extents_left item.now later.now left.now }
@@ -187,7 +187,7 @@ fn body_for<'a>(item: &Item, later: &[Item], left: &'a [Extent]) -> (Extent, &'a
     }
 }
 
-/// Whether the body of an item is written: no later item replaces or deletes it.
+/// Returns whether the body of an item is written: no later item replaces or deletes it.
 fn is_written(item: &Item, later: &[Item]) -> bool
     ensures { result ≡ is_written item.now later.now }
 {
@@ -197,7 +197,7 @@ fn is_written(item: &Item, later: &[Item]) -> bool
     }
 }
 
-/// The lists after one item at its moment, with its body in this extent.
+/// Returns the lists after one item at its moment, with its body in this extent.
 fn lists_after_item(
     alloc: Global,
     old: &Contents,

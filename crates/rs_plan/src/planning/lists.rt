@@ -22,8 +22,8 @@ use rs_record::{Change, Facts, MediaType, Name, Record, What};
 use rs_time::Moment;
 use std::alloc::{AllocError, Global};
 
-/// The lists with the name bound, at a moment, to a body of this type, of `body_length` bytes, with
-/// these digests, in this extent.
+/// Returns the lists with the name bound, at a moment, to a body of this type, of `body_length`
+/// bytes, with these digests, in this extent.
 ///
 /// # Errors
 ///
@@ -63,7 +63,7 @@ pub(crate) fn lists_after_put(
     lists_with(alloc, old, catalogue, change)
 }
 
-/// The reply to the command that made the last change.
+/// Returns the reply to the command that made the last change.
 pub(crate) fn reply_told(history: &History) -> Reply
     requires { 1 ≤ length (changes_of history.now.pages) }
     ensures { MatchOption (last_of (changes_of history.now.pages)) ⊥
@@ -77,7 +77,7 @@ pub(crate) fn reply_told(history: &History) -> Reply
     }
 }
 
-/// The lists without a held name, at a moment.
+/// Returns the lists without a held name, at a moment.
 ///
 /// # Errors
 ///
@@ -97,7 +97,8 @@ pub(crate) fn lists_after_delete(
     lists_with(alloc, old, old.catalogue.without(alloc, name)?, change)
 }
 
-/// The lists with this catalogue, and with a change at the end of the history, at its moment.
+/// Returns the lists with this catalogue, and with a change at the end of the history, at its
+/// moment.
 ///
 /// # Errors
 ///
@@ -122,8 +123,8 @@ fn lists_with(
     })
 }
 
-/// The lists after a publication at a moment: all held resources are published, and the parts of the
-/// changes that end no later than the publication before are dropped.
+/// Returns the lists after a publication at a moment: all held resources are published, and the
+/// parts of the changes that end no later than the publication before are dropped.
 ///
 /// # Errors
 ///
@@ -147,7 +148,7 @@ pub(crate) fn lists_after_publish(
     })
 }
 
-/// The header after a publication at this moment that drops `dropped` parts.
+/// Returns the header after a publication at this moment that drops `dropped` parts.
 ///
 /// # Errors
 ///
@@ -172,7 +173,7 @@ fn published_header(
     Ok(header)
 }
 
-/// A copy of the lists.
+/// Returns a copy of the lists.
 ///
 /// # Errors
 ///
@@ -188,7 +189,7 @@ pub(crate) fn lists_copied(alloc: Global, old: &Contents) -> Result<Contents, Al
     })
 }
 
-/// A copy of the header, with the last command at this moment.
+/// Returns a copy of the header, with the last command at this moment.
 ///
 /// # Errors
 ///

@@ -20,8 +20,8 @@ use rs_model::Reply;
 use rs_page::Full;
 use std::alloc::{AllocError, Global};
 
-/// The lowest run of free blocks for `length` bytes; no blocks for no bytes. `None` where there is no
-/// such run.
+/// Returns the lowest run of free blocks for `length` bytes; no blocks for no bytes. Returns `None`
+/// where the disk has no run of this length.
 pub(crate) fn find_lowest(used: &Used, length: u32) -> Option<Extent>
     ensures { MatchOption result (HasNoRun used.now (blocks_of length))
         (IsFoundRun used.now (blocks_of length)) }
@@ -36,13 +36,14 @@ pub(crate) fn find_lowest(used: &Used, length: u32) -> Option<Extent>
     used.find(blocks)
 }
 
-/// Plans the lists after a command whose bodies have their blocks already. Each touched page of the
-/// catalogue, then each of the history, and then the directory gets the lowest run of free blocks of
-/// its size. The plan has this reply and frees these extents. `used` does not change.
+/// Plans the lists after a command whose bodies have their blocks already. The touched pages of the
+/// catalogue, then those of the history, and then the directory get the lowest run of free blocks
+/// of their size, one after another. The plan has this reply and frees these extents. `used` does
+/// not change.
 ///
 /// # Errors
 ///
-/// - [`PlanFault::Full`] where a page or the directory has no such run.
+/// - [`PlanFault::Full`] where a page or the directory has no run of free blocks.
 /// - [`PlanFault::NoMemory`] where the memory for the list of the places is refused.
 pub(crate) fn place_lists(
     alloc: Global,
@@ -74,7 +75,7 @@ pub(crate) fn place_lists(
     })
 }
 
-/// These extents, in a list with room for `more` others.
+/// Returns these extents, in a list with room for `more` others.
 fn with_room(alloc: Global, extents: &[Extent], more: usize) -> Result<Vec<Extent>, AllocError>
     ensures items { IfOk result (λ found. found.items ≡ extents.now) }
     ensures room { IfOk result (λ found. vec_len found + more ≤ vec_capacity found) }
@@ -84,8 +85,9 @@ fn with_room(alloc: Global, extents: &[Extent], more: usize) -> Result<Vec<Exten
     Ok(found)
 }
 
-/// Takes blocks for the touched pages and then for the directory, and adds them to the list of what
-/// is taken. Where one has no run, what was taken before stays in the list.
+/// Takes blocks for the touched pages and then for the directory, and adds them to the list of
+/// taken blocks. Where a page or the directory has no run, the blocks taken before stay in the
+/// list.
 fn take_places(
     used: &mut Used,
     lists: &mut Contents,
@@ -114,8 +116,8 @@ fn take_places(
     Ok(directory)
 }
 
-/// Takes the lowest run of free blocks for `length` bytes; no blocks for no bytes. Where there is no
-/// such run, it returns `None` and takes nothing.
+/// Takes the lowest run of free blocks for `length` bytes; no blocks for no bytes. Where the disk
+/// has no run of this length, it returns `None` and takes no blocks.
 pub(crate) fn take_lowest(used: &mut Used, length: u32) -> Option<Extent>
     ensures found { MatchOption result (HasNoRun used.old (blocks_of length))
         (λ extent. Takes used.old (blocks_of length) extent used.new) }

@@ -1,4 +1,4 @@
--- The pieces so far are the front of the extent, and each but the last is full.
+-- The pieces so far are the front of the extent, and all but the last are full.
 use Rattle.std.proofs.Common.{◌≡◌, ◌+◌, ◌-◌, ◌/◌, ◌%◌, ◌≤◌, ◌<◌, IsTrue}
 use Rattle.rs_disk.specs.Runs.{RunsReading, CallsAtMost}
 use Rattle.rs_fixity.specs.Hashed.{HasTakenSha256}

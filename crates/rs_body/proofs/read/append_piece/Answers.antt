@@ -8,7 +8,7 @@ use Rattle.rs_body.specs.Blocks.{part}
 use Rattle.rs_body.specs.Reading.{HasNextPiece}
 use Rattle.rs_body.proofs.read.append_piece.Goals as goal
 
--- a piece read behind the bytes before it
+-- a piece read after the bytes before it
 next : {E : Type 0} (e : Extent) (at n end : ℕ) (old new : DiskState) (before into bytes : List ℕ) (result : Result (Unit {0}) E) → at ≡ length before → at + n ≡ end → length into ≡ n
     → bytes ≡ before ++ into → OnOk result (IsTrue new.honest → part e (at + n) old.now.seen ≡ part e at old.now.seen ++ into) → OnOk result (HasNextPiece e end old new before bytes)
 next e at n end old new before into bytes (Ok x) is order long joined given = record {

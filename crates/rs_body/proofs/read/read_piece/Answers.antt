@@ -6,7 +6,7 @@ use Rattle.rs_body.proofs.KeptBlocks.{lies}
 use Rattle.rs_body.proofs.Pieces.{piece_behind}
 use Rattle.rs_body.proofs.read.read_piece.Goals as goal
 
--- a read at the place of a piece gives what follows the bytes before it
+-- a read at the place of a piece gives the bytes that follow those before it
 given_behind : {E : Type 0} (H : Type 0) (e : Extent) (at n from : ℕ) (seen into : List ℕ) (result : Result (Unit {0}) E) → from ≡ block_size * e.first + at → (H → OnOk result (into ≡ take n (drop from seen)))
     → OnOk result (H → part e (at + n) seen ≡ part e at seen ++ into)
 given_behind H e at n from seen into (Ok x) is given = λ h. piece_behind e at n seen ∙ ap (λ (l : List ℕ). part e at seen ++ l) (ap (λ (k : ℕ). take n (drop k seen)) (sym is) ∙ sym (given h))

@@ -1,4 +1,4 @@
--- The front of both extents is the same so far, and hashed. Each piece but the last is full.
+-- The start of both extents is the same so far, and hashed. Every piece except the last is full.
 use Rattle.std.proofs.Common.{◌≡◌, ◌+◌, ◌-◌, ◌/◌, ◌%◌, ◌≤◌, ◌<◌, [], ◌∷◌, IsTrue}
 use Rattle.rs_disk.specs.Runs.{CallsAtMost}
 use Rattle.rs_fixity.specs.Hashed.{HasTakenSha256}

@@ -15,12 +15,12 @@ use Rattle.rs_copy.proofs.Roomy.{directory_needed, needed_in_turn}
 use Rattle.rs_copy.proofs.Handed.{on_err, mapped_err}
 use Rattle.rs_copy.proofs.placing.place_lists.Goals as goal
 
--- There is no room for all where there is none behind the catalogue, ..
+-- There is no room for all parts if there is none after the catalogue, ..
 behind_catalogue : (used : List Bool) (c : Contents) → HasNoRoom used (pages_needed record_format c.catalogue ++ (pages_needed change_format c.history.pages ++ (pages_needed record_format c.published ++ directory_needed c)))
     → HasNoRoom used (copy_needed c)
 behind_catalogue used c none = subst (HasNoRoom used) (sym (needed_in_turn c)) none
 
--- .. or behind the history
+-- .. or after the history
 behind_history : (used one two : List Bool) (c : Contents) (first : List (Page Record)) (second : List (Page Change)) → AreAllUnplaced c → Places record_format used c.catalogue one first
     → Places change_format one c.history.pages two second → HasNoRoom two (pages_needed record_format c.published ++ directory_needed c) → HasNoRoom used (copy_needed c)
 behind_history used one two c first second unplaced a b none =

@@ -11,7 +11,7 @@ use Rattle.rs_copy.proofs.Handed.{handed_err, on_ok, told_on}
 use Rattle.rs_copy.proofs.Laid.{among_first, among_second, among_last}
 use Rattle.rs_copy.proofs.writing.write_pages.Goals as goal
 
--- the blocks of the catalogue, of the history, and of what was published
+-- the blocks of the catalogue, of the history, and of the publication
 abbrev first : Contents → List Extent
 first c = placed_extents c.catalogue
 

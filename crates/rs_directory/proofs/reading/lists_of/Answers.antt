@@ -1,4 +1,4 @@
--- Each list is read from its own part of the bytes.
+-- Every list is read from its own part of the bytes.
 use Rattle.std.proofs.Common.{arith}
 use Rattle.rs_directory.proofs.Entries.{three_read}
 use Rattle.rs_directory.proofs.reading.lists_of.Goals as goal

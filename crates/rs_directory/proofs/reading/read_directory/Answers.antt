@@ -1,4 +1,4 @@
--- What each outcome says of the bytes.
+-- The meaning of every outcome for the bytes.
 use Rattle.std.proofs.Common.{refl, sym, subst, arith}
 use Rattle.std.proofs.lemmas.Result.{err_from_is_err_and}
 use Rattle.rs_directory.specs.declared.header.Header.{Header}

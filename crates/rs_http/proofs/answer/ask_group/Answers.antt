@@ -12,7 +12,7 @@ use Rattle.rs_http.proofs.Asking.{answers_more}
 use Rattle.rs_http.proofs.Groups.{whole_comes}
 use Rattle.rs_http.proofs.answer.ask_group.Goals as goal
 
--- The response to want of memory for the items is the same as where the source refuses for it.
+-- The response to a lack of memory for the items is that of a source that refuses for lack of memory.
 pub returns-in-Err : goal.returns-in-Err
 returns-in-Err g c = λ rest.
     let fault = c.in-Err.fault in

@@ -1,4 +1,4 @@
--- Each plan, as its own function answers it.
+-- Every plan, as its own function answers it.
 use Rattle.std.proofs.Common.{◌≡◌, ◌∙◌, Ok, Err, ap, refl}
 use Rattle.rs_http.specs.declared.request.RequestPlan.TheVariants.{ShowBody, ShowDocument, Delete, Publish}
 use Rattle.rs_http.specs.Responses.{faulted}

@@ -1,4 +1,4 @@
--- A document is shown where it exists, unless the source is closed.
+-- A document is shown if it exists, unless the source is closed.
 use Rattle.std.proofs.Common.{ap, sym, ◌∙◌, codes}
 use Rattle.rs_store.specs.Views.{shown_by_source}
 use Rattle.rs_http.specs.declared.request.RequestFault.TheVariants.{NoSuchDocument}

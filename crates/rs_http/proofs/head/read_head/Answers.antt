@@ -1,4 +1,4 @@
--- What came stays, and the byte that comes ends it or does not.
+-- The bytes that came stay, and the next byte ends them or does not.
 use Rattle.std.proofs.Common.{◌<◌, ◌≤◌, ◌+◌, take, set, length, arith, refl, sym, ◌∙◌}
 use Rattle.std.proofs.lemmas.Grind.{common_steps}
 use Rattle.std.proofs.KnownBytes.{Consumes-nil, Consumes-kept}

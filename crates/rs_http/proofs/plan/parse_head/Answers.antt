@@ -1,4 +1,4 @@
--- The room is never too small, so each answer but a head means that there is none.
+-- The room is never too small, so every answer but a head means that there is no head.
 use Rattle.httparse.specs.Spans.{RequestOverflows}
 use Rattle.rs_http.proofs.Room.{never_overflows}
 use Rattle.rs_http.proofs.plan.parse_head.Goals as goal

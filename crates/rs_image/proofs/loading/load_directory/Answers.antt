@@ -2,7 +2,7 @@ use Rattle.std.proofs.Common.{true≢false, ◌≡◌, length, sym, ap, ◌∙�
 use Rattle.rs_image.proofs.Found.{size_seen, malformed, body_read, refuses_memory, read_behind, untold, untold_pages, untold_first}
 use Rattle.rs_image.proofs.loading.load_directory.Goals as goal
 
--- the pages of lists that the root tells are placed
+-- the pages of lists that the root describes are placed
 pub returns-then-not-names_placed-clause-damaged : goal.returns-then-not-names_placed-clause-damaged
 returns-then-not-names_placed-clause-damaged g c is honest =
     let new = g.D.Disk.state c.read_body.new.disk in
@@ -18,7 +18,7 @@ returns-in-Err-clause-damaged g c is honest =
     (body_read c.args.root.now _ _ c.deref-2.result.now _ (g.D.Disk.state c.args.disk.now) new c.in_ok-read_body.ensures.body c.deref-2.ensures.value honest)
     (c.in-Err.ensures.malformed.0 (ap Err (malformed c.in-Err.fault c.fault_of_fields.result c.fault_of_fields.ensures is)))
 
--- a history that the root tells can begin with its first part
+-- a history that the root describes can begin with its first part
 pub returns-then-not-has_first_part-clause-damaged : goal.returns-then-not-has_first_part-clause-damaged
 returns-then-not-has_first_part-clause-damaged g c is honest =
     let new = g.D.Disk.state c.read_body.new.disk in

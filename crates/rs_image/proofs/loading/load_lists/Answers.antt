@@ -32,7 +32,7 @@ returns-clause-reads g c =
       calls = all.calls;
     }
 
--- the catalogue that was read stands where the published list is read beside it
+-- the catalogue that was read is on the disk where the published list is read with it
 pub returns-in_err-published-clause-damaged : goal.returns-in_err-published-clause-damaged
 returns-in_err-published-clause-damaged g c =
     let state = g.D.Disk.state in

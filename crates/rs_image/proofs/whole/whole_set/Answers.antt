@@ -7,7 +7,7 @@ use Rattle.rs_image.specs.Reach.{reach, AreInside}
 use Rattle.rs_image.proofs.Reaching.{reaches_published}
 use Rattle.rs_image.proofs.whole.whole_set.Goals as goal
 
--- what holds where something is found
+-- a claim that holds where a value is found
 where_some : {A : Type 0} (o : Option A) (x : A) (P : Type 0) → o ≡ Some x → IfSome o (λ _. P) → P
 where_some {A} o x P some holds = subst (λ (v : Option A). IfSome v (λ _. P)) some holds
 

@@ -1,4 +1,4 @@
--- What follows, by what the library says of it.
+-- The bytes after a prefix, by the library's contracts.
 use Rattle.std.proofs.Common.{◌≡◌, ◌≤◌, ◌+◌, ℕ, List, [], ◌∷◌, Option, Some, None, Bor, true, false, refl, ◌∙◌, length, take, drop, nat_eq, arith}
 use Rattle.std.proofs.lemmas.Bool.Decides.{nat_tests}
 use Rattle.std.specs.Cmp.Lexicographic.{pointwise}

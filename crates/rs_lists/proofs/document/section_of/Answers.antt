@@ -1,4 +1,4 @@
--- What a document is of its list, by its kind.
+-- A document as a section of its list, by its kind.
 use Rattle.std.proofs.Common.{◌≡◌, ◌∙◌, sym, ap, Some, None}
 use Rattle.std.specs.Option.{option_map}
 use Rattle.rs_lists.specs.Sections.{section_text}

@@ -1,4 +1,4 @@
--- Each clause is a lemma.
+-- The clauses are lemmas.
 use Rattle.rs_page.proofs.OneList.{page_holds_once, pages_hold_once}
 use Rattle.rs_page.proofs.laws.pages_hold_once.Goals as goal
 

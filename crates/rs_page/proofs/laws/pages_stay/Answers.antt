@@ -1,4 +1,4 @@
--- Each clause is a lemma.
+-- The clauses are lemmas.
 use Rattle.rs_page.proofs.Standing.{page_stays, pages_stay, stored_pages_stay, written_stay}
 use Rattle.rs_page.proofs.laws.pages_stay.Goals as goal
 

@@ -1,4 +1,4 @@
--- Each clause is a lemma.
+-- The clauses are lemmas.
 use Rattle.rs_page.proofs.Standing.{written_stand, standing_are_pages, pages_stand}
 use Rattle.rs_page.proofs.laws.stored_pages_stand.Goals as goal
 

@@ -10,7 +10,7 @@ use Rattle.rs_pages.proofs.storing.+place_from.Given.{Over}
 use Rattle.rs_pages.proofs.storing.+place_from.Goals as goal
 use Rattle.rs_pages.proofs.storing.+place_from.Goals.{In_ok-place_in, After-take_back}
 
--- what a step found and placed
+-- the page that a step found and placed
 first : (g : Over) (t : ℕ) (c : In_ok-place_in g t) → PlacesFirst g.T.PageItem.format c.args.used.now c.place_in.new.used c.next_touched-k.result c.args.pages.now c.index-pages-k.result c.place_in.new.self
 first g t c = record { inside = omega arith; before = c.next_touched-k.ensures.before; touched = c.next_touched-k.ensures.touched; one = c.in_ok-place_in.ensures.ok }
 

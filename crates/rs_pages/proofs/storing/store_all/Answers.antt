@@ -24,7 +24,7 @@ loop-page-preserved g c =
           c.in_ok-store.ensures.ok c.in_ok-store.ensures.reads;
     }
 
--- what the writing of a page that failed leaves
+-- the result of a failed write of a page
 stopped : (g : Over) (c : In_err-store g) → StoresSome g.T.PageItem.format (g.D.Disk.state c.store.new.disk).now.seen c.args.pages.now (set c.loop-page.pages c.loop-page.page-index c.store.new.self)
     × WritesPages c.args.pages.now (IsErrOf {T = Unit {0}} (Err c.in_err-store.field-0.0) Device) (g.D.Disk.state c.args.disk.now) (g.D.Disk.state c.store.new.disk)
 stopped g c =

@@ -38,7 +38,7 @@ use Rattle.rs_plan.proofs.Replies.{put_told, some_change}
 use Rattle.rs_plan.proofs.planning.draft_put.Goals as goal
 use Rattle.rs_plan.proofs.planning.draft_put.Goals.{After-types_are_kept, In_ok-lists}
 
--- what stands in the place of digests that are not known
+-- the placeholder for digests that are not known
 abbrev unknown : Digests
 unknown = record { md5 = replicate 16 0; sha256 = replicate 32 0 }
 
@@ -49,7 +49,7 @@ unknown_long = record { md5 = refl; sha256 = refl }
 abbrev blank : List ℕ → List ℕ → ℕ → Extent → ℕ → Record
 blank name kind n body moment = record_of_body name kind n unknown body moment
 
--- The lists of a draft, behind a root.
+-- The lists of a draft of a root.
 module _ (r : Rooted) (b : Record) (given : IsAccepted r b.moment) where
   abbrev lists : Contents
   lists = lists_after_put r.contents b
@@ -65,7 +65,7 @@ module _ (r : Rooted) (b : Record) (given : IsAccepted r b.moment) where
   one_more : changes_of lists.history.pages ≡ changes_of r.contents.history.pages ++ change ∷ []
   one_more = given.law.appended change r.contents.history.pages
 
-  -- Its record and its last change stand in pages that are not stored, also once these have their places.
+  -- Its record and its last change are in pages that are not stored, also once these have their places.
   awaits : (used : List Bool) (bodies : List Extent) (told : Reply) (gone : List Extent) (p : Plan) → IsPlacedFrom used bodies lists told gone p → AwaitsBody b.name p
   awaits used bodies told gone p from =
       let placed = from.placed in
@@ -80,7 +80,7 @@ module _ (r : Rooted) (b : Record) (given : IsAccepted r b.moment) where
       → (bytes image : List ℕ) → told ≡ reply_to (state_in image r.contents) (Put b.name b.kind bytes) b.moment
   told_of told is bytes image = put_told image r.contents lists b.name b.kind bytes b.moment (facts_of_body b.kind b.length b.digests) told one_more is
 
--- Where as many bytes come as were counted, what was found for the draft is found for the put.
+-- Where the body has as many bytes as were counted, the blocks found for the draft are found for the put.
 module _ (r : Rooted) (name kind bytes : List ℕ) (body : Extent) (moment : ℕ) (given : IsAccepted r moment) (used : List Bool) (are_used : AreUsed r used)
     (may : MayPut r.contents name (length bytes) moment) (found : IsFoundRun used (blocks_of (length bytes)) body) where
   lacks : HasNoRoomFrom used (body ∷ []) (lists_after_put r.contents (blank name kind (length bytes) body moment)) → IsFullFor r (Put name kind bytes) moment

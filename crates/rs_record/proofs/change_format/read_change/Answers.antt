@@ -1,4 +1,4 @@
--- What the answer says of the bytes.
+-- The meaning of the answer for the bytes.
 use Rattle.std.proofs.Common.{arith}
 use Rattle.rs_record.specs.Format.{change_bytes}
 use Rattle.rs_record.specs.Lawful.{IsLawfulChange}

@@ -1,4 +1,4 @@
--- What was appended and what follows make the whole, and the rest has room.
+-- The appended pieces and the pieces that follow make the whole, and the rest has room.
 use Rattle.std.proofs.Common.{◌+◌, ◌++◌, length, map, drop}
 use Rattle.std.specs.List.{concat}
 use Rattle.std.specs.Vec.{vec_len, vec_capacity}

@@ -1,4 +1,4 @@
--- Each format is read, as one value.
+-- Every format is read, as one value.
 use Rattle.rs_record.specs.Format.{record_bytes, change_bytes}
 use Rattle.rs_record.specs.Lawful.{IsLawfulRecord, IsLawfulChange}
 use Rattle.rs_record.specs.Reading.{record_at, change_at}

@@ -1,4 +1,4 @@
--- Each clause is a lemma.
+-- The clauses are lemmas.
 use Rattle.rs_record.proofs.Grammars.{name_grammar, media_type_grammar}
 use Rattle.rs_record.proofs.laws.grammars_are_the_standards.Goals as goal
 

@@ -1,4 +1,4 @@
--- Each clause is a lemma.
+-- The clauses are lemmas.
 use Rattle.rs_record.proofs.Clean.{name_clean, base_clean, media_type_lacks}
 use Rattle.rs_record.proofs.laws.lawful_values_are_clean.Goals as goal
 

@@ -1,4 +1,4 @@
--- The pieces, joined, are the format, and each field is what its type keeps.
+-- The pieces, joined, are the format, and every field has the law of its type.
 use Rattle.std.proofs.Common.{refl, ◌++◌, ap, ◌∙◌, arith, rules}
 use Rattle.std.specs.Int.{w64, to_be_bytes}
 use Rattle.std.proofs.lemmas.Result.{on_ok_weaker}

@@ -15,7 +15,7 @@ entries_stay : (m : Names Entry) → map entry_of (map record_of m) ≡ m
 entries_stay [] = refl
 entries_stay (e ∷ m) = ap (λ rest. e ∷ rest) (entries_stay m)
 
--- the view of the stored lists shows the state, but for the blocks of the published records
+-- the view of the stored lists shows the state, except for the blocks of the published records
 shown_alike : (image : List ℕ) (c : Contents) → IsShownAlike (shown_in c) (shown_of (state_in image c))
 shown_alike image c = record {
   base = refl;

@@ -1,4 +1,4 @@
--- The damaged names, and how many are sound.
+-- The damaged names, and the number of sound bodies.
 use Rattle.std.proofs.Common.{◌++◌, codes, decimal, refl}
 use Rattle.std.specs.List.{flat_map}
 use Rattle.rs_script.proofs.FromBelow.{stops_first, writes_then}

@@ -1,4 +1,4 @@
--- Each exit, by the bytes that came before it.
+-- Every exit, by the bytes that came before it.
 use Rattle.std.proofs.Common.{rules, ℕ, [], ◌++◌, take, arith, inl, inr, refl, subst, ◌∙◌}
 use Rattle.std.proofs.KnownBytes.{Consumes-nil, Consumes-kept, Appends-kept, Keeps-refl}
 use Rattle.rs_io.specs.Watch.{watched, seen_by}

@@ -1,4 +1,4 @@
--- What came so far has been taken.
+-- The bytes that came so far have been taken.
 use Rattle.rs_script.specs.Progress.{stand}
 use Rattle.rs_script.proofs.Turns.{Turned}
 use Rattle.rs_script.proofs.engine.script.Given as goal

@@ -1,4 +1,4 @@
--- A line that asks for something, and one that asks for nothing.
+-- A line that is a request, and a line that is no request.
 use Rattle.rs_script.specs.Requests.{request_of}
 use Rattle.rs_script.specs.Room.{TakesRoom}
 use Rattle.rs_script.specs.Session.{script_state}

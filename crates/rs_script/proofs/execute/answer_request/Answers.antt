@@ -1,4 +1,4 @@
--- Each request, as its own function answers it.
+-- Every request, as its own function answers it.
 use Rattle.rs_script.proofs.FromBelow.{writes_either}
 use Rattle.rs_script.specs.Answers.{outcome_text}
 use Rattle.rs_script.specs.Session.{moment_set}

@@ -1,4 +1,4 @@
--- Which bodies are damaged, and how many are sound, unless the source is closed.
+-- The damaged bodies and the number of sound ones, unless the source is closed.
 use Rattle.std.proofs.Common.{Err, ◌-◌, ap, ◌∙◌}
 use Rattle.rs_script.proofs.AnswerLemmas.{damaged_told, verified_closed, was_verified, is_closed}
 use Rattle.rs_script.proofs.execute.show_verified.Goals as goal

@@ -1,4 +1,4 @@
--- A line that does not begin as an item is none.
+-- A line that does not begin as an item is no item.
 use Rattle.std.proofs.Common.{◌∙◌, codes, nat_eq, inl, sym, ap}
 use Rattle.std.specs.List.{starts_with}
 use Rattle.rs_script.specs.Statements.{or_refused}

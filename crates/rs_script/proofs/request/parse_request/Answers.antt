@@ -1,4 +1,4 @@
--- Each number of fields.
+-- Every number of fields.
 use Rattle.std.proofs.Common.{◌≡◌, ◌∷◌, [], ◌∙◌, ap, inl}
 use Rattle.rs_items.specs.Fields.{fields}
 use Rattle.rs_script.proofs.FromBelow.{fields-zero}

@@ -1,4 +1,4 @@
--- None of its lines has come.
+-- No line of the group has come.
 use Rattle.std.proofs.Common.{◌≡◌, ◌+◌, ◌-◌, ◌∙◌, ap, sym, arith, Ok, Some, refl, []}
 use Rattle.rs_script.specs.Statements.{items_of_group}
 use Rattle.rs_script.proofs.statement.begin_group.Goals as goal

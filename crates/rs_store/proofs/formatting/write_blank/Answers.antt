@@ -7,7 +7,7 @@ use Rattle.rs_commit.specs.Commit.{IsReady}
 use Rattle.rs_store.proofs.Started.{front_made, part_behind}
 use Rattle.rs_store.proofs.formatting.write_blank.Goals as goal
 
--- what follows from a clause of successes
+-- a consequence of a clause of successes
 if_ok : {T E : Type 0} {P : T → Type 0} {Q : Type 0} (r : Result T E) → ((x : T) → P x → Q) → IfOk r P → OnOk r Q
 if_ok (Ok x) from p = from x p
 if_ok (Err e) from p = tt

@@ -14,7 +14,7 @@ use Rattle.rs_store.proofs.Grouped.{kept_step, has_extent, others_left, sized_at
 use Rattle.rs_store.proofs.grouping.write_bodies.Goals.{in-Some+in_ok-write_body, in_default}
 use Rattle.rs_store.proofs.grouping.write_bodies.Goals as goal
 
--- the bodies that are left, by what the first item has
+-- the remaining bodies, by the body of the first item
 left_by : (items : List Item) (i n : ℕ) (o p : Option (Bor (List ℕ))) → drop n (bodies_kept items) ≡ bodies_kept (drop i items)
     → bodies_kept (drop i items) ≡ cons_option (option_copied o) (bodies_kept (drop (i + 1) items)) → o ≡ p
     → drop n (bodies_kept items) ≡ cons_option (option_copied p) (bodies_kept (drop (i + 1) items))
@@ -49,7 +49,7 @@ write_body-requires-clause-fits g c =
     fits_sized (get_or extents n no_body) (length bytes)
     (sized_at extents (bodies_kept items) c.requires.sized n bytes (bodies_kept (drop (i + 1) items)) next no_body (get_or extents n no_body) refl)
 
--- a body more, written to the extent at hand
+-- one more body, written to the extent at hand
 further : {B C : Type 0} (extents : List Extent) (e : Extent) (n : ℕ) (old mid new : DiskState) → IsSubset (in_some (e ∷ [])) (in_some extents)
     → (B → C) → (C → B) → WritesOnly extents ⊥ old mid → WritesPart e 0 n B mid new → WritesOnly extents C old new
 further extents e n old mid new among to from one two =

@@ -1,4 +1,4 @@
--- The first bodies stand, and the others are those of the items that are left.
+-- The first bodies are written, and the others are those of the remaining items.
 use Rattle.std.proofs.Common.{◌≡◌, take, drop}
 use Rattle.rs_body.specs.Outside.{WritesOnly}
 use Rattle.rs_plan.specs.Plans.{AreBodies}

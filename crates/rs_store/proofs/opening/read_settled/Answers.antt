@@ -10,7 +10,7 @@ use Rattle.rs_store.specs.Opening.{IsFound, IsNotOpened}
 use Rattle.rs_store.proofs.Opened.{not_opened_before}
 use Rattle.rs_store.proofs.opening.read_settled.Goals as goal
 
--- what is found on a disk that was settled before
+-- the result of opening a disk that was settled before
 found_settled : (r : Result (Standing × Loaded) OpenFault) (old mid new : DiskState) → AreSettled mid.now → mid.now.seen ≡ old.now.seen
     → IfOk r (λ x. IsTrue new.honest → AreSettled mid.now → IsFound mid.now.seen new.now x.0 x.1.contents)
     → IfOk r (λ x. IsTrue new.honest → IsFound old.now.seen new.now x.0 x.1.contents)

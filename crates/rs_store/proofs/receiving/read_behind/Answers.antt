@@ -1,4 +1,4 @@
--- One call at most, whether the reader had failed before or not.
+-- At most one call, whether the reader had failed before or not.
 use Rattle.rs_io.specs.Watch.{is_broken}
 use Rattle.rs_store.proofs.ReaderCounts.{one_read}
 use Rattle.rs_store.proofs.receiving.read_behind.Goals as goal

@@ -1,4 +1,4 @@
--- The front of the buffer is what was read so far.
+-- The front of the buffer holds the bytes that were read so far.
 use Rattle.std.proofs.Common.{◌≡◌, ◌+◌, ◌-◌, ◌≤◌, length, take}
 use Rattle.rs_io.specs.Watch.{calls, Took}
 use Rattle.rs_store.proofs.receiving.read_into.Given as goal

@@ -1,4 +1,4 @@
--- The front of the extent is what came so far.
+-- The front of the extent holds the bytes that came so far.
 use Rattle.std.proofs.Common.{◌≡◌, ◌+◌, ◌-◌, ◌≤◌, [], ◌∷◌, length}
 use Rattle.rs_body.specs.Blocks.{part}
 use Rattle.rs_body.specs.Outside.{WritesOnly}

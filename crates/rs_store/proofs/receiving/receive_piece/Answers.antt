@@ -6,7 +6,7 @@ use Rattle.rs_store.specs.declared.refusal.Refusal.TheVariants.{Device}
 use Rattle.rs_store.proofs.Received.{cut_stops, cut_not_device}
 use Rattle.rs_store.proofs.receiving.receive_piece.Goals as goal
 
--- what cuts the reading is no fault of the device
+-- a cut of the reading is no fault of the device
 pub returns-in_err-read_into-clause-writes : goal.returns-in_err-read_into-clause-writes
 returns-in_err-read_into-clause-writes g c =
     let given = err_from_is_err_and c.from_residual.result c.from_residual.ensures.1 in

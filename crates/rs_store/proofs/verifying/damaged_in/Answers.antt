@@ -13,7 +13,7 @@ use Rattle.rs_store.specs.Shows.{calls_for_held}
 use Rattle.rs_store.proofs.Damaged.{damaged_more, calls_for_records}
 use Rattle.rs_store.proofs.verifying.damaged_in.Goals as goal
 
--- the calls for the records are those for what is held
+-- the calls for the records are those for the held resources
 of_held : (image : List ℕ) (rs : List Record) (old new : DiskState) → CallsAtMost (calls_for rs) old new → CallsAtMost (calls_for_held (map (held_in image) rs)) old new
 of_held image rs old new once = let same : calls_for_held (map (held_in image) rs) ≡ calls_for rs = calls_for_records image rs in omega (arith, same, once)
 

@@ -1,4 +1,4 @@
--- What reads as a document is its path, and its path reads as it.
+-- A text that reads as a document is its path, and its path reads as it.
 use Rattle.std.proofs.Common.{◌≡◌, ℕ, List, Option, Some, None, IfSome, sym, ap, ◌∙◌}
 use Rattle.rs_lists.specs.declared.doc.Doc.{Doc}
 use Rattle.rs_caps.specs.Paths.{doc_of, path_of}

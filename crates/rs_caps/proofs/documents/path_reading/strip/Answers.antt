@@ -1,4 +1,4 @@
--- What is stripped, by what the library says of it.
+-- The stripped text, by the contract of the library.
 use Rattle.std.proofs.Common.{◌≡◌, sym, ap, ◌∙◌, ℕ, List, Option, Some, None, ◌≢◌, ◌++◌, Bor}
 use Rattle.std.specs.Prelude.{option_copied, MatchOption}
 use Rattle.std.proofs.lemmas.Bool.Decides.{Decides-eqb}

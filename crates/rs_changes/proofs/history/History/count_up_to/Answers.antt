@@ -9,7 +9,7 @@ use Rattle.rs_changes.proofs.history.History.count_up_to.Goals as goal
 pub loop-low-init : goal.loop-low-init
 loop-low-init c = begun c.len-high.result c.args.moment (changes_of c.args.self.now.pages) c.len-high.ensures.value
 
--- the change in the middle is not after the moment, so none before it is
+-- the change in the middle is not after the moment, so no change before it is
 pub loop-low-preserved-then-le : goal.loop-low-preserved-then-le
 loop-low-preserved-then-le c =
     let changes = changes_of c.args.self.now.pages in

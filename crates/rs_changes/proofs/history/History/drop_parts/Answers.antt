@@ -5,7 +5,7 @@ use Rattle.rs_changes.specs.History.{changes_of}
 use Rattle.rs_changes.proofs.Rising.{kept_drop}
 use Rattle.rs_changes.proofs.history.History.drop_parts.Goals as goal
 
--- the later ones of changes that are kept are kept
+-- the later changes of kept changes are kept
 pub invariant_of-result : goal.invariant_of-result
 invariant_of-result c =
     let pages : List (Page Change) = c.self.inside.pages in

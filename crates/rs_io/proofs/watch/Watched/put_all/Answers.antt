@@ -1,4 +1,4 @@
--- A piece failed after the ones before it.
+-- A piece failed after the pieces before it.
 use Rattle.std.proofs.Common.{[], Bor, List, ℕ, get_or}
 use Rattle.std.proofs.lemmas.List.{get_or_default}
 use Rattle.rs_io.proofs.Faults.{failed_each, on_fault}

@@ -1,5 +1,5 @@
--- The writer has taken the first pieces whole, and is unflushed after the first. Before it nothing has changed, and a
--- failed writer takes none.
+-- The writer has taken the first pieces whole, and is unflushed after the first piece. Before that piece it is
+-- unchanged. A failed writer takes no piece.
 use Rattle.std.proofs.Common.{◌≡◌, ◌<◌, ◌≤◌, take, false}
 use Rattle.std.specs.Prelude.{IsTrue}
 use Rattle.std.specs.List.{flat_map}

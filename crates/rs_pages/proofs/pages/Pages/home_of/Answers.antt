@@ -8,7 +8,7 @@ use Rattle.rs_pages.specs.Rule.{HaveItems, begins_by, home}
 use Rattle.rs_pages.proofs.AtHome.{home_is, parted}
 use Rattle.rs_pages.proofs.pages.Pages.home_of.Goals as goal
 
--- the closure tells whether a page begins by the name
+-- the closure decides whether a page begins by the name
 pub returns-clause-value : goal.returns-clause-value
 returns-clause-value g c =
     let pages : List (Page g.row.T.Denot) = c.deref.result.now in

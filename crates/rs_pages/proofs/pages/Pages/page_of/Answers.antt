@@ -11,7 +11,7 @@ use Rattle.rs_pages.proofs.pages.Pages.page_of.Given.{Over}
 use Rattle.rs_pages.proofs.pages.Pages.page_of.Goals as goal
 use Rattle.rs_pages.proofs.pages.Pages.page_of.Goals.{After-partition_point-begun}
 
--- how many pages begin at or before the place
+-- the number of pages that begin at or before the place
 begin : (g : Over) (c : After-partition_point-begun g) → Begin c.self.inside.pages.items c.args.i c.partition_point-begun.result
 begin g c =
     let pages : List (Page g.row.T.Denot) = c.self.inside.pages.items in

@@ -12,7 +12,7 @@ then_ok : {A E P Q : Type 0} (r : Result A E) → (P → Q) → OnOk r P → OnO
 then_ok (Ok a) f p = f p
 then_ok (Err e) f p = tt
 
--- what stays of the pages
+-- the parts of the pages that stay
 kept : (g : Over) (c : After-place_from g) → (items_by_page c.place_from.new.pages ≡ items_by_page c.self.inside.pages.items)
     × (map (λ page. stored_ref page.place) c.place_from.new.pages ≡ map (λ page. stored_ref page.place) c.self.inside.pages.items)
 kept g c =

@@ -22,11 +22,11 @@ use Rattle.rs_plan.proofs.Lacking.{full_of_bodies}
 use Rattle.rs_plan.proofs.planning.grouping.plan_group.Goals as goal
 use Rattle.rs_plan.proofs.planning.grouping.plan_group.Goals.{After-types_are_kept, After-drop-freed-4}
 
--- the lists behind the root and the bodies that were found
+-- the lists of the root and the bodies that were found
 same : {A : Type 0} (f : Contents → List Extent → A) (c old : Contents) (l bodies : List Extent) (x : A) → c ≡ old → l ≡ bodies → x ≡ f c l → x ≡ f old bodies
 same f c old l bodies x at is made = made ∙ ap₂ f at is
 
--- the directory, and what the items freed
+-- the directory, and the blocks that the items freed
 all_freed : (root root' : Root) → root ≡ root' → (a b e a' b' e' : List Extent) → a ≡ a' → b ≡ b' → e ≡ e' → root.directory ∷ a ++ b ++ e ≡ root'.directory ∷ a' ++ b' ++ e'
 all_freed root root' is a b e a' b' e' of_a of_b of_e =
     ap₂ (λ (x : Root) (l : List Extent). x.directory ∷ l ++ b ++ e) is of_a ∙ ap₂ (λ (l k : List Extent). root'.directory ∷ a' ++ l ++ k) of_b of_e

@@ -55,7 +55,7 @@ loop-item-preserved-in-Some-take_lowest c =
       full = full_more start used next all left needed n body bodies more_bodies cut takes pushed_is inv.full;
     }
 
--- nothing is left
+-- no body is left
 done_all : (start used : List Bool) (all : List ℕ) (rest : List Item) (bodies : List Extent) → length rest ≡ 0
     → ((more : List Extent) (after : List Bool) → TakesEach used (bodies_needed (bodies_kept rest)) more after → TakesEach start all (bodies ++ more) after)
     → TakesEach start all bodies used

@@ -1,4 +1,5 @@
--- What the bodies that are left take completes what was taken, and where they have no room, all have none.
+-- The blocks that the remaining bodies take complete the taken ones, and where they have no room, all bodies together
+-- have no room.
 use Rattle.std.proofs.Common.{◌≤◌, ◌+◌, ◌++◌, List, Bool, length, vec_len, vec_capacity}
 use Rattle.std.specs.List.{AllByRecursion}
 use Rattle.rs_extent.specs.declared.Extent.{Extent}

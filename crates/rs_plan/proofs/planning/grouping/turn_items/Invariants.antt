@@ -1,4 +1,5 @@
--- The lists after the items that are left are those after all, and so is what they free behind what was freed.
+-- The lists after the remaining items are those after all items. The blocks freed before, followed by those that the
+-- remaining items free, are the blocks that all items free.
 use Rattle.std.proofs.Common.{◌≡◌, ◌++◌, length}
 use Rattle.rs_plan.specs.Freed.{freed_page, freed_history_page, extent_of_body}
 use Rattle.rs_plan.specs.Turned.{MayDoEach, lists_after_items, of_each_item}

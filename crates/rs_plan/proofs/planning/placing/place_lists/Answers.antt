@@ -24,7 +24,7 @@ returns-clause-same c =
     given_back c.args.used.now c.take_each.new.self c.take_places-placed.new.used c.give_each.new.self c.deref-2.result.now taken.0 c.in_ok-taken.taken.items c.deref-3.result.now
     c.take_each.ensures taken.2 (c.in_ok-taken.ensures.items ∙ c.deref.ensures.value ∙ sym c.deref-2.ensures.value) (c.deref-3.ensures.value ∙ taken.1) c.give_each.ensures
 
--- the bodies and the places of the lists, one behind the other
+-- the bodies and the places of the lists, one after the other
 in_turn : (bodies a b e : List Extent) → bodies ++ ((a ++ b) ++ e) ≡ ((bodies ++ a) ++ b) ++ e
 in_turn bodies a b e = sym (append_assoc bodies (a ++ b) e) ∙ ap (λ (l : List Extent). l ++ e) (sym (append_assoc bodies a b))
 

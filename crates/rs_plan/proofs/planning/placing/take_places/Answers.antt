@@ -84,7 +84,7 @@ unwrap-requires c =
     let lent_changes = many _ _ c.as_pages-2.ensures.value in
     c.push.ensures.succeeds (omega (arith, c.requires.room, first.len, first.capacity, second.len, second.capacity, more, more_changes, lent, lent_changes))
 
--- the pages of both lists are taken, and behind them a directory
+-- the pages of both lists are taken, and after them a directory
 both : (before mid after : List Extent) (a b : List Extent) → mid ≡ before ++ a → after ≡ mid ++ b → after ≡ before ++ (a ++ b)
 both before mid after a b one other = other ∙ ap (λ (l : List Extent). l ++ b) one ∙ append_assoc before a b
 

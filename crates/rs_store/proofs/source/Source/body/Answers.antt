@@ -1,4 +1,4 @@
--- What a source answers when it is asked for a body, from the clauses of `read_held`.
+-- The answer of a source to a request for a body, from the clauses of `read_held`.
 use Rattle.rs_store.proofs.source.Source.body.Goals as goal
 
 pub returns : goal.returns

@@ -1,4 +1,4 @@
--- What a document has, by its kind.
+-- The content of a document, by its kind.
 use Rattle.std.proofs.Common.{◌≡◌, ◌∙◌, sym, ap, Some}
 use Rattle.rs_caps.specs.Contents.{content_text}
 use Rattle.rs_caps.specs.DocumentTexts.{description_text, capabilities_text}
