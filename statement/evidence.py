@@ -1,4 +1,4 @@
-"""What each definition was held against: the table evidence.txt, and whether what it points at is there.
+"""The evidence of definitions: the table evidence.txt, and whether its pointers lead somewhere.
 
 A line has the definitions of one file of specs, a kind, and where it is, as in
 `rs_model.Step: fold_of step | python | tests/reading/x.py: f`. Of a function of code its crate is enough, if one file
@@ -19,7 +19,7 @@ from statement.promises import Promise
 from statement.reach import closure
 from statement.world import Item, Unknown, World
 
-# The kinds, and where each may point.
+# The kinds, and the places to which they may point.
 KINDS = {
     "example": ("computed from the definition alone, and proved", r"crates/\w+/(proofs|specs|src/laws).*\.(antt|rt)$"),
     "law": ("a proved law: the definition in other words, what it is for, or that it leaves no other value",
@@ -42,12 +42,12 @@ class Evidence:
 
     @property
     def label(self) -> str:
-        """Its kind, its file and its name."""
+        """Return its kind, its file and its name."""
         return f"{self.kind}: {self.path}" + (f", {self.name}" if self.name else "")
 
 
 def file_of(world: World, place: str, name: str) -> str:
-    """The file of a place: that of a crate which has the function, or the place itself."""
+    """Return the file of a place: the file of a crate that has the function, or the place itself."""
     if place not in world.crates:
         return place
     found = {function.path for code in world.code.values() for function in code.functions
@@ -58,7 +58,7 @@ def file_of(world: World, place: str, name: str) -> str:
 
 
 def parsed(world: World, line: str) -> tuple[list[str], Evidence]:
-    """The definitions of a line, by their labels, and the evidence of each."""
+    """Return the definitions of a line, by their labels, with their evidence."""
     parts = [part.strip() for part in line.split(" | ")]
     if len(parts) != 3 or parts[1] not in KINDS:
         raise tables.Wrong(f"statement/evidence.txt: not a line of the table: {line}")
@@ -69,7 +69,7 @@ def parsed(world: World, line: str) -> tuple[list[str], Evidence]:
 
 
 def evidence(world: World, text: str | None = None) -> dict[str, list[Evidence]]:
-    """The evidence of each definition, by its label."""
+    """Return the evidence of definitions, by their labels."""
     found: dict[str, list[Evidence]] = {}
     for line in tables.rows("evidence.txt", text):
         labels, piece = parsed(world, line)
@@ -79,7 +79,7 @@ def evidence(world: World, text: str | None = None) -> dict[str, list[Evidence]]
 
 
 def names_in_python(text: str) -> set[str]:
-    """The functions and classes of a file of Python, its methods by `Class.method`, and what its left edge assigns."""
+    """Return the names in a file of Python: functions, classes, methods as `Class.method`, variables of the module."""
     found = set[str]()
     for node in ast.parse(text).body:
         if isinstance(node, (ast.FunctionDef, ast.ClassDef)):
@@ -92,7 +92,7 @@ def names_in_python(text: str) -> set[str]:
 
 
 def names_in(path: str, text: str) -> set[str]:
-    """The names that a file defines."""
+    """Return the names that a file defines."""
     if path.endswith(".py"):
         return names_in_python(text)
     if path.endswith(".rt"):
@@ -101,7 +101,7 @@ def names_in(path: str, text: str) -> set[str]:
 
 
 def fault_of(root: Path, piece: Evidence) -> str:
-    """What is wrong with a pointer, or nothing."""
+    """Return the fault of a pointer, or nothing."""
     if not re.match(KINDS[piece.kind][1], piece.path):
         return f"{piece.path} is no place for the kind '{piece.kind}'"
     if piece.kind == "row":
@@ -113,12 +113,12 @@ def fault_of(root: Path, piece: Evidence) -> str:
 
 
 def bare(definitions: Iterable[Definition], found: dict[str, list[Evidence]]) -> list[Definition]:
-    """The definitions without evidence. A statement that stands there with its proof needs none."""
+    """Return the definitions without evidence. A statement with its proof needs none."""
     return [definition for definition in definitions if definition.label not in found and definition.kind != "proof"]
 
 
 def labels_of(world: World, piece: Evidence) -> set[str]:
-    """The labels of all that a law or an example speaks of."""
+    """Return the labels of all definitions that a law or an example names."""
     if piece.path.endswith(".rt"):
         pairs = world.law(piece.path, piece.name)
         first: list[Item] = [used for pair in pairs for used in world.links_of_clause(*pair).values()]
@@ -128,7 +128,7 @@ def labels_of(world: World, piece: Evidence) -> set[str]:
 
 
 def silent(world: World, found: dict[str, list[Evidence]], pieces: list[Evidence]) -> list[str]:
-    """The laws and the examples that do not speak of a definition, though evidence.txt holds it against them."""
+    """Return the laws and examples that do not name a definition, although evidence.txt says so."""
     wrong = list[str]()
     for piece in pieces:
         if piece.kind in ("law", "example"):
@@ -139,7 +139,7 @@ def silent(world: World, found: dict[str, list[Evidence]], pieces: list[Evidence
 
 
 def faults(world: World, promises: Iterable[Promise], found: dict[str, list[Evidence]]) -> list[str]:
-    """The pointers that lead nowhere or to what says nothing of a definition; definitions that no promise reaches."""
+    """Return pointers to nothing or to text without the definition, and definitions that no promise reaches."""
     known = {definition.label for promise in promises for definition in promise.reach.definitions}
     pieces = list(dict.fromkeys(piece for each in found.values() for piece in each))
     wrong = list(filter(None, (fault_of(world.root, piece) for piece in pieces)))

@@ -1,4 +1,4 @@
-"""The lines of promises.txt that say what gives a premise.
+"""The lines of promises.txt that name the giver of a premise.
 
 A line is `premise: NAME from: CLAUSE, ..`, `premise: NAME law: CLAUSE, ..`, `premise: NAME trust: sentence` or
 `premise: NAME case: sentence`. NAME is a relation, a field of one (`AnswersCopy.holds`), or a condition as it is
@@ -20,6 +20,7 @@ from statement.tables import Wrong
 from statement.terms import Relation
 
 LINE = re.compile(r"(.+?) (from|law|trust|case): (.+)$")
+WITNESS = re.compile(r"(.+?) trust: (.+)$")
 # The kinds by which clauses conclude a premise.
 CONCLUDED = ("from", "law")
 FIELDS = re.compile(r"(.+?) \{(.*)\}$")
@@ -27,7 +28,7 @@ FIELDS = re.compile(r"(.+?) \{(.*)\}$")
 
 @dataclass(eq=False)
 class Line:
-    """A line of promises.txt: the premises that it names, how each is given, and by which clauses, or why."""
+    """A line of promises.txt: the premises that it names, their kind of giver, and the clauses or the reason."""
 
     names: dict[str, list[str] | None]
     kind: str
@@ -35,11 +36,11 @@ class Line:
 
     @property
     def clauses(self) -> list[str]:
-        """The clauses that conclude them."""
+        """Return the clauses that conclude them."""
         return [clause.strip() for clause in self.text.split(",")] if self.kind in CONCLUDED else []
 
     def name_for(self, node: Node, definition: Definition | None) -> str:
-        """The name by which the line speaks of a premise, or ''."""
+        """Return the name by which the line names a premise, or ''."""
         for name in (node.name, definition.name if definition else ""):
             if name and name in self.names:
                 return name
@@ -49,7 +50,7 @@ class Line:
 
 
 def parsed(text: str) -> Line:
-    """A line, behind `premise: `."""
+    """Return the line after `premise: `."""
     found = LINE.match(text)
     if not found:
         raise Wrong(f"statement/promises.txt: not a premise with from, law, trust or case: {text}")
@@ -60,16 +61,33 @@ def parsed(text: str) -> Line:
     return Line(names, found[2], found[3])
 
 
-# How each kind gives a premise, in words.
+@dataclass(eq=False)
+class Witness:
+    """A line `witness: NAME; NAME trust: sentence`: free variables of a conclusion, or words of the kit that say
+    nothing of some ends, and the reason why they are allowed."""
+
+    names: list[str]
+    text: str
+
+
+def witness(text: str) -> Witness:
+    """Return the line after `witness: `."""
+    found = WITNESS.match(text)
+    if not found:
+        raise Wrong(f"statement/promises.txt: not a witness with trust: {text}")
+    return Witness([name.strip() for name in found[1].split(";")], found[2])
+
+
+# The kinds of givers, in words.
 WORDS = {"from": "concluded by", "law": "concluded by the law", "trust": "trusted:", "case": "a case:"}
 
 
 def sentences(spoken: dict[Line, dict[str, Node]]) -> list[str]:
-    """What gives the premises that lines speak of: what a clause concludes, then what is trusted, then cases."""
+    """Return the givers of the premises that lines name: clauses first, then trust, then cases."""
     return [sentence(line, names) for kind in WORDS for line, names in spoken.items() if line.kind == kind]
 
 
 def sentence(line: Line, names: Iterable[str]) -> str:
-    """What gives these premises of a line."""
+    """Return the giver of these premises of a line."""
     fields = {name: f" {{{' '.join(listed)}}}" for name, listed in line.names.items() if listed}
     return f"{'; '.join(name + fields.get(name, '') for name in names)}: {WORDS[line.kind]} {line.text}"

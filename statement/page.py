@@ -1,4 +1,4 @@
-"""The statement as one page of HTML, self-contained, in which each word leads to what it means.
+"""The statement as one self-contained page of HTML, in which words lead to their meanings.
 
 A promise has its sentence, its clauses and the names of all that it reaches, in the order of reach.py; each definition
 stands once, in the chapter of its crate, behind the promises.
@@ -25,12 +25,12 @@ h2 { margin-top: 3rem; border-bottom: 1px solid #ccc; } h4 { margin: 1.4rem 0 .2
 .at, .evidence { color: #666; font-size: .85rem; } .bare { color: #a33; } .c { color: #6a6a6a; }
 :target { background: #fff6d0; }
 """
-# What may be a word in a line, or a part of one: a field after a dot is none. HTML has what stands between as it is.
+# A possible word in a line, or a part of one: a field after a dot is none. HTML has the text between as it is.
 PIECE = re.compile(r"[^\s(){}\[\];,]+|\[\]")
 
 
 def anchor(item: Item | Promise) -> str:
-    """The name of the place where an item stands."""
+    """Return the anchor of an item."""
     if isinstance(item, Promise):
         return "promise-" + re.sub(r"\W+", "-", item.title)
     front = "" if isinstance(item, (Definition, Type)) else "kit-"
@@ -40,22 +40,22 @@ def anchor(item: Item | Promise) -> str:
 
 
 def linked(word: str, item: Item | Promise) -> str:
-    """A word that leads to what it means."""
+    """Return a word that leads to its meaning."""
     return f'<a href="#{anchor(item)}">{html.escape(word)}</a>'
 
 
 def line_of(line: str, links: Links) -> str:
-    """A line in which each word leads to what it means; a field that is given its value does not."""
+    """Return a line in which words lead to their meanings, but for fields that get a value."""
     if line.lstrip().startswith(("--", "//")):
         return f'<span class="c">{html.escape(line)}</span>'
     return PIECE.sub(lambda piece: piece_of(line, piece, links), line)
 
 
 def piece_of(line: str, piece: re.Match[str], links: Links) -> str:
-    """A piece of a line, which leads to what it means."""
+    """Return a piece of a line, which leads to its meaning."""
     word, steps = piece[0], piece[0].split(".")
     before = line[: piece.start()].rstrip()
-    # At the left edge an equation of the definition itself begins.
+    # An equation of the definition itself begins at the left edge.
     if piece.start() and line[piece.end() :].startswith(" = ") and before[-1:] in ("", "{", ";"):
         return html.escape(word)
     for head in (".".join(steps[:2]), steps[0], steps[0].rstrip(":")):
@@ -70,16 +70,16 @@ class Page:
     def __init__(self, world: World, promises: list[Promise], evidence: dict[str, list[Evidence]],
                  meanings: Mapping[str, str]) -> None:
         self.world, self.evidence, self.meanings, self.pieces = world, evidence, meanings, list[str]()
-        # What no promise opens. Nothing leads there.
+        # The items that no promise opens: no word leads there.
         reached = {definition for promise in promises for definition in promise.reach.definitions}
         self.unopened = {definition for promise in promises for definition in promise.between} - reached
 
     def say(self, *pieces: str) -> None:
-        """Adds pieces of HTML."""
+        """Add pieces of HTML."""
         self.pieces += pieces
 
     def code(self, lines: Iterable[str], links: Links) -> None:
-        """Lines of a definition, or of code."""
+        """Add lines of a definition, or of code."""
         # An operator is known by its parts too.
         opened = {word: item for word, item in links.items() if item not in self.unopened}
         parts = {part: item for item in opened.values() for part in item.name.split("◌") if "◌" in item.name and part}
@@ -87,7 +87,7 @@ class Page:
         self.say("<pre>" + "\n".join(line_of(line, known) for line in lines) + "</pre>")
 
     def head(self, promises: list[Promise]) -> None:
-        """What the page is, and how to read it."""
+        """Add the head of the page: its content, and how to read it."""
         self.say("<h1>What has to be believed</h1><p>Of each promise: its sentence, the clauses that carry it, and all"
                  " that these reach, in a")
         self.say("reader's order: the highest crate first, and in a crate each definition behind the first one that"
@@ -98,7 +98,7 @@ class Page:
         self.say(*(f"<li>{kind}: {meaning}</li>" for kind, (meaning, _) in KINDS.items()), "</ul>")
 
     def promise(self, promise: Promise) -> None:
-        """A promise, and the names of all that it reaches."""
+        """Add a promise, and the names of all definitions that it reaches."""
         quoted = f"<blockquote>{html.escape(promise.sentence)}</blockquote>"
         self.say(f'<h2 id="{anchor(promise)}">{html.escape(promise.title)}</h2>{quoted}')
         self.say(f'<p class="at">{promise.fields["in"]}; in the table of docs/PROMISES.md: {promise.fields["row"]}</p>')
@@ -115,17 +115,17 @@ class Page:
         self.say(f"<p><b>the kit</b>: {', '.join(linked(each.name, each) for each in promise.reach.kit)}</p>")
 
     def premises(self, promise: Promise) -> None:
-        """The premises of a promise, with what gives each."""
+        """Add the premises of a promise with their givers."""
         grounds = promise.grounds
         self.say("<p>Its premises, and what gives each:</p><ul>" if grounds else "<p>It has no premise.</p><ul>")
         self.say(*(f"<li>{html.escape(sentence)}</li>" for sentence in grounds), "</ul>")
 
     def title(self, item: Item, title: str, place: str) -> None:
-        """The title of a definition or a type, and where that stands."""
+        """Add the title of a definition or a type, and its place."""
         self.say(f'<h4 id="{anchor(item)}">{html.escape(title)} <span class="at">{place}</span></h4>')
 
     def definition(self, definition: Definition) -> None:
-        """A definition, and what it was held against."""
+        """Add a definition and its evidence."""
         self.title(definition, definition.title, f"{definition.path}:{definition.line}")
         self.code([*definition.comment, *definition.lines], self.world.links(definition))
         pieces = [html.escape(each.label) for each in self.evidence.get(definition.label, [])]
@@ -133,13 +133,13 @@ class Page:
         self.say(f'<div class="evidence">{shown}</div>')
 
     def type(self, kind: Type) -> None:
-        """A type of the code."""
+        """Add a type of the code."""
         self.title(kind, kind.name, f"{kind.kind} of the code, {kind.path}:{kind.line}")
         self.say(f"<p>{html.escape(meaning(kind))}</p>")
         self.code(declared(kind), self.world.links(kind))
 
     def crates(self, promises: list[Promise]) -> None:
-        """Each definition and each type that a promise reaches, once, in the order of the first promise that has it."""
+        """Add every definition and type that a promise reaches, once, in the order of the first such promise."""
         chapters = [chapter for promise in promises for chapter in promise.reach.chapters]
         for crate in reversed(self.world.crates):
             mine = [chapter for chapter in chapters if chapter.crate == crate]
@@ -151,7 +151,7 @@ class Page:
                 self.type(kind)
 
     def words(self, promises: list[Promise]) -> None:
-        """The words of the kit and of the language."""
+        """Add the words of the kit and of the language."""
         self.say("<h2>The kit</h2><ul>")
         for kit_word in dict.fromkeys(each for promise in promises for each in promise.reach.kit):
             meaning = html.escape(self.meanings[kit_word.label])
@@ -166,7 +166,7 @@ class Page:
 
 def page(world: World, promises: list[Promise], evidence: dict[str, list[Evidence]],
          meanings: Mapping[str, str]) -> str:
-    """The page of all promises."""
+    """Return the page of all promises."""
     made = Page(world, promises, evidence, meanings)
     made.head(promises)
     for promise in promises:

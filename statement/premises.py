@@ -1,4 +1,4 @@
-"""What a promise takes for granted, and what gives it: a clause of the promise concludes a premise, or it is trusted.
+"""The premises of promises and their givers: a clause of the promise concludes a premise, or it is trusted.
 
 A premise stands left of an arrow in a clause of the promise, or in what it ends in (`Reader.left_of`). It is taken
 apart until a line of promises.txt speaks of it: a relation into the relations of its cases, a record into its fields.
@@ -23,31 +23,31 @@ from statement.world import World
 
 @dataclass
 class Printed:
-    """A printed clause: its name, `rs_store Source::run answered`, its types, and what they end in."""
+    """A printed clause: its name, `rs_store Source::run answered`, its types, and their conclusions."""
 
     name: str
     nodes: list[Node]
     ends: dict[Definition, None]
 
     def is_called(self, name: str) -> bool:
-        """Whether a line means this clause: a function's name alone means each of its printed clauses."""
+        """Return whether a line means this clause: a function's name alone means all its printed clauses."""
         return name in (self.name, self.name.rpartition(" ")[0])
 
 
 def name_of(function: Function, clause: Clause) -> str:
-    """The name of a clause, as promises.txt has it."""
+    """Return the name of a clause, as in promises.txt."""
     part = f"{clause.part.name}.{clause.part.part}" if clause.part else clause.name
     return f"{function.crate} {function.full_name} {part}".rstrip()
 
 
 def clauses_of(reader: Reader, promise: Promise) -> list[Printed]:
-    """The printed clauses of a promise that say what a function ensures."""
+    """Return the printed clauses of a promise that are postconditions."""
     pairs = [(carrier.function, clause) for carrier in promise.carriers for clause in carrier.clauses]
     return [printed(reader, *pair) for pair in pairs if pair[1].kind == "ensures"]
 
 
 def printed(reader: Reader, function: Function, clause: Clause) -> Printed:
-    """A clause as it is printed. Where a field of a record stands alone, the clause ends in the record all the same."""
+    """Return a clause as it is printed. One that prints only a field of a record still concludes the record."""
     nodes = reader.clause(function, clause)
     records = map(reader.definition, reader.clause(function, replace(clause, part=None)) if clause.part else [])
     ends = reader.ends(nodes) | {record: None for record in records if record}
@@ -55,22 +55,22 @@ def printed(reader: Reader, function: Function, clause: Clause) -> Printed:
 
 
 class Chain:
-    """The premises of a promise, with what gives each."""
+    """The premises of a promise, with their givers."""
 
     def __init__(self, reader: Reader, promise: Promise) -> None:
         self.reader, self.title, self.lines = reader, promise.title, promise.premises
         self.clauses, self.between, self.unopened = clauses_of(reader, promise), promise.between, promise.unopened
         self.faults: list[str] = []
-        # The premises that each line speaks of, by their names, in their order.
+        # The premises that lines name, in their order.
         self.spoken: dict[Line, dict[str, Node]] = {}
-        # The relations that stand left of an arrow, and that no clause is said to conclude there.
+        # The relations left of an arrow that no clause is said to conclude there.
         self.assumed: dict[Definition, None] = {}
-        # The lines that the premises of each clause have, and the relations of it that were taken apart.
+        # The lines of the premises of every clause, and its relations that were taken apart.
         self.needed: dict[str, dict[Line, None]] = {}
         self.opened: set[Definition] = set()
 
     def follow(self) -> None:
-        """Takes each premise apart until a line speaks of it."""
+        """Take premises apart until a line names them."""
         for clause in self.clauses:
             self.opened = set()
             needed = self.needed.setdefault(clause.name, {})
@@ -83,12 +83,12 @@ class Chain:
             self.fault(f"{name} takes what no other clause gives it first")
 
     def concluded(self) -> set[Definition]:
-        """The relations that stand left of an arrow, and that a clause concludes."""
+        """Return the relations left of an arrow that a clause concludes."""
         nodes = [node for line, by_name in self.spoken.items() if line.kind in CONCLUDED for node in by_name.values()]
         return {found for node in nodes if (found := self.reader.definition(node))}
 
     def ungrounded(self) -> list[str]:
-        """The clauses whose premises are given by one another alone, and by none that takes nothing from them."""
+        """Return the clauses whose premises only they themselves give."""
         grounded: list[Printed] = []
         waiting = self.clauses
         while more := [clause for clause in waiting if self.is_grounded(clause, grounded)]:
@@ -97,12 +97,12 @@ class Chain:
         return [clause.name for clause in waiting]
 
     def is_grounded(self, clause: Printed, grounded: list[Printed]) -> bool:
-        """Whether one of these clauses gives each premise that a clause has, or it is trusted."""
+        """Return whether these clauses or trust give all premises of a clause."""
         return all(line.kind not in CONCLUDED or any(each.is_called(name) for each in grounded for name in line.clauses)
                    for line in self.needed[clause.name])
 
     def give(self, node: Node, needed: dict[Line, None]) -> None:
-        """Finds what gives a premise, or what its parts are given by."""
+        """Find the giver of a premise, or those of its parts."""
         definition = self.reader.definition(node)
         line = next((line for line in self.lines if line.name_for(node, definition)), None)
         if line:
@@ -122,16 +122,16 @@ class Chain:
                 self.give(each, needed)
 
     def stand(self, definition: Definition) -> None:
-        """Notes a relation that stands only left of an arrow."""
+        """Note a relation that occurs only left of an arrow."""
         if not is_of_values(definition):
             self.assumed[definition] = None
 
     def fault(self, reason: str) -> None:
-        """Notes what is wrong with the premises of this promise."""
+        """Note a fault of the premises of this promise."""
         self.faults.append(f"{self.title}: {reason}")
 
     def speak(self, line: Line, node: Node, definition: Definition | None) -> None:
-        """A line speaks of a premise: looks whether it may."""
+        """Check a line that names a premise."""
         name = line.name_for(node, definition)
         self.spoken.setdefault(line, {}).setdefault(name, node)
         if line.kind in CONCLUDED:
@@ -150,7 +150,7 @@ class Chain:
             self.fault(f"{name} is trusted without the fields of what it is made of: {' '.join(records)}")
 
     def conclude(self, name: str, clause: str, node: Node) -> None:
-        """Looks whether a clause is printed, and has a premise on its right side."""
+        """Check that a clause is printed, and concludes a premise."""
         ends = {found for printed in self.clauses if printed.is_called(clause) for found in printed.ends}
         if not any(printed.is_called(clause) for printed in self.clauses):
             self.fault(f"{name} is said to come from {clause}, which the promise does not print")
@@ -163,12 +163,12 @@ class Chain:
 
 
 def text_of(node: Node) -> str:
-    """A premise as it is written."""
+    """Return a premise as it is written."""
     return node.term.text if isinstance(node.term, Relation) else node.place
 
 
 def follow(world: World, promises: list[Promise]) -> list[Chain]:
-    """Follows the premises of each promise to what gives them, and tells the promise."""
+    """Follow the premises of all promises to their givers; set the promises' premises."""
     reader = Reader(world)
     found = [Chain(reader, promise) for promise in promises]
     for promise, chain in zip(promises, found):
@@ -178,7 +178,7 @@ def follow(world: World, promises: list[Promise]) -> list[Chain]:
 
 
 def unspoken(found: list[Chain]) -> list[str]:
-    """The lines for premises that are not there any more."""
+    """Return the lines for premises that no longer exist."""
     spoken: dict[Line, set[str]] = {}
     titles: dict[Line, set[str]] = {}
     for chain in found:
@@ -191,7 +191,7 @@ def unspoken(found: list[Chain]) -> list[str]:
 
 
 def shown_by(reader: Reader, pieces: dict[str, list[Evidence]]) -> set[Definition]:
-    """The relations that a computed example has: it ends in them, and takes none of them."""
+    """Return the relations that a computed example concludes and does not assume."""
     found: set[Definition] = set()
     for piece in dict.fromkeys(piece for each in pieces.values() for piece in each if piece.kind == "example"):
         nodes = reader.statement(piece.path, piece.name)
@@ -201,7 +201,7 @@ def shown_by(reader: Reader, pieces: dict[str, list[Evidence]]) -> set[Definitio
 
 
 def there(reader: Reader, clauses: list[Printed], shown: set[Definition]) -> set[Definition]:
-    """The relations that examples have, and those that clauses conclude from what is there already."""
+    """Return the relations that examples have, and those that clauses conclude from these."""
     known, before = set(shown), -1
     while before < len(known):
         before = len(known)
@@ -211,14 +211,14 @@ def there(reader: Reader, clauses: list[Printed], shown: set[Definition]) -> set
 
 
 def uninhabited(reader: Reader, found: list[Chain], shown: set[Definition]) -> list[str]:
-    """The relations that stand left of an arrow, and that nothing shows to be there."""
+    """Return the relations left of an arrow without an example."""
     known = there(reader, [clause for chain in found for clause in chain.clauses], shown)
     assumed = {definition: None for chain in found for definition in chain.assumed}
     return [definition.label for definition in assumed if not known & {definition, *reader.same_as(definition)}]
 
 
 def faults(world: World, found: list[Chain], pieces: dict[str, list[Evidence]]) -> list[str]:
-    """The premises that nothing gives, the lines that speak of none, and the relations that no example has."""
+    """Return the premises without a giver, the lines without a premise, and the relations without an example."""
     reader = Reader(world)
     wrong = [f"statement/promises.txt: {fault}" for chain in found for fault in chain.faults]
     wrong += [f"statement/promises.txt: {fault}" for fault in unspoken(found)]

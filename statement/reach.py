@@ -1,4 +1,4 @@
-"""What a promise reaches, in the order in which it reads best.
+"""The reach of a promise, in the order in which it reads best.
 
 The order is that of a book: a chapter a crate, the highest crate first, and within a chapter each definition behind the
 first one that uses it, with what it uses itself right behind it (depth first, in the order of the text). So a sentence
@@ -15,7 +15,7 @@ from rattle.antt import Definition
 from statement.source import Type
 from statement.world import Item, KitWord, World
 
-# What an item reaches at once.
+# The direct reach of an item.
 Uses = Callable[[Item], list[Item]]
 
 
@@ -30,25 +30,25 @@ class Chapter:
 
 @dataclass
 class Reach:
-    """What a promise reaches."""
+    """The reach of a promise."""
 
     chapters: list[Chapter]
     kit: list[KitWord]
 
     @property
     def definitions(self) -> list[Definition]:
-        """All definitions."""
+        """Return all definitions."""
         return [definition for each in self.chapters for definition in each.definitions]
 
     @property
     def counts(self) -> tuple[int, int, int, int]:
-        """How many definitions, lines of them, types of the code and words of the kit there are."""
+        """Return the numbers of definitions, of their lines, of types of the code and of words of the kit."""
         lines = sum(len(definition.code) for definition in self.definitions)
         return len(self.definitions), lines, sum(len(each.types) for each in self.chapters), len(self.kit)
 
 
 def take(uses: Uses, crate: str, items: Iterable[Item], found: dict[Item, None]) -> None:
-    """Takes each of these items that is of a crate, and right behind it what it uses of the crate."""
+    """Take these items of a crate, every one followed by its uses of the crate."""
     for item in items:
         if item.crate == crate and item not in found and not isinstance(item, KitWord):
             found[item] = None
@@ -56,7 +56,7 @@ def take(uses: Uses, crate: str, items: Iterable[Item], found: dict[Item, None])
 
 
 def closure(world: World, first: Iterable[Item]) -> set[Item]:
-    """All items that are reached from these, in no order."""
+    """Return all items in reach of these, in no order."""
     found, due = set[Item](), list(first)
     while due:
         item = due.pop()
@@ -67,7 +67,7 @@ def closure(world: World, first: Iterable[Item]) -> set[Item]:
 
 
 def reach(world: World, first: list[Item], between: Collection[Item] = ()) -> Reach:
-    """What is reached from these items, but for what stands between a clause and a law, and what only that reaches."""
+    """Return the reach of these items, without the words between a clause and a law and their own reach."""
     def uses(item: Item) -> list[Item]:
         return [used for used in world.uses(item) if used not in between]
 

@@ -18,54 +18,54 @@ definition stands what it was held against:"""
 
 
 def folded(text: str) -> list[str]:
-    """A text in lines of at most this many letters."""
+    """Return a text in lines of at most this many letters."""
     words = " ".join(text.split())
     return textwrap.wrap(words, WIDTH, break_long_words=False, break_on_hyphens=False) or [""]
 
 
 def counted(number: int, word: str) -> str:
-    """A number of things."""
+    """Return a number of things in words."""
     return f"{number} {word}" if number == 1 else f"{number} {word}s"
 
 
 def summary(counts: tuple[int, int, int, int]) -> str:
-    """The counts of a promise in words."""
+    """Return the counts of a promise in words."""
     definitions, lines, types, words = counts
     of_ours = f"{counted(definitions, 'definition')} in {counted(lines, 'line')}"
     return f"{of_ours}, {counted(types, 'type')} of the code and {counted(words, 'word')} of the kit"
 
 
 def meaning(kind: Type) -> str:
-    """The first sentence of the comment above a type."""
+    """Return the first sentence of the comment above a type."""
     text = " ".join(" ".join(kind.comment).split(" # ")[0].split())
     first = re.match(r"(.*?[.;])(?: |$)", text)
     return first[1] if first else text
 
 
 def declared(kind: Type) -> list[str]:
-    """The text of a type without its comments; or the value by which contracts speak of it."""
+    """Return the text of a type without comments, or its value in contracts."""
     if kind.value:
         return [f"in contracts it is: {' '.join(kind.value.split())}"]
     return [line for line in kind.text.splitlines() if line.strip() and not line.lstrip().startswith(("///", "//"))]
 
 
 def indented(lines: Iterable[str], step: str = "    ") -> list[str]:
-    """Lines behind a step."""
+    """Return indented lines."""
     return [f"{step}{line}".rstrip() for line in lines]
 
 
 class Text:
-    """The statement as lines of text. `pieces` has what each definition was held against, by its label."""
+    """The statement as lines of text. `pieces` has the evidence of definitions, by their labels."""
 
     def __init__(self, pieces: dict[str, list[evidence.Evidence]], meanings: Mapping[str, str]) -> None:
         self.evidence, self.meanings, self.lines = pieces, meanings, list[str]()
 
     def say(self, *lines: str) -> None:
-        """Adds lines."""
+        """Add lines."""
         self.lines += lines
 
     def head(self, promises: list[Promise]) -> None:
-        """What the statement is, and how to read it."""
+        """Add the head: the content of the statement, and how to read it."""
         self.say("# What has to be believed", "")
         self.say(*folded(f"{counted(len(promises), 'promise')}. {HEAD}"))
         self.say(*(f"  {kind}: {meaning}" for kind, (meaning, _) in evidence.KINDS.items()), "")
@@ -75,7 +75,7 @@ class Text:
         self.say(*(f"  {word.removeprefix(tables.LANGUAGE)}  {meaning}" for word, meaning in words.items()), "")
 
     def promise(self, promise: Promise) -> None:
-        """A promise and all that it reaches."""
+        """Add a promise and its reach."""
         self.say(f"## {promise.title}", "", *indented(folded(promise.sentence), "> "), "")
         self.say(f"({promise.fields['in']}; in the table of docs/PROMISES.md: {promise.fields['row']})", "")
         for carrier in promise.carriers:
@@ -91,7 +91,7 @@ class Text:
         self.without(promise)
 
     def premises(self, promise: Promise) -> None:
-        """The premises of a promise, with what gives each."""
+        """Add the premises of a promise with their givers."""
         self.say("Its premises, and what gives each:" if promise.grounds else "It has no premise.", "")
         for sentence in promise.grounds:
             first, *more = folded(sentence)
@@ -99,7 +99,7 @@ class Text:
         self.say("")
 
     def chapter(self, chapter: Chapter) -> None:
-        """What a crate has of the statement."""
+        """Add a crate's part of the statement."""
         lines = sum(len(definition.code) for definition in chapter.definitions)
         count = f"{counted(len(chapter.definitions), 'definition')} in {counted(lines, 'line')}"
         self.say(f"### {chapter.crate}: {count}", "")
@@ -109,23 +109,23 @@ class Text:
             self.type(kind)
 
     def definition(self, definition: Definition) -> None:
-        """A definition, and what it was held against."""
+        """Add a definition and its evidence."""
         self.say(f"[{definition.title}] {definition.path}:{definition.line}")
         self.say(*indented([*definition.comment, *definition.lines]))
         self.say(*(f"    = {piece.label}" for piece in self.evidence.get(definition.label, [])), "")
 
     def type(self, kind: Type) -> None:
-        """A type of the code."""
+        """Add a type of the code."""
         self.say(f"[{kind.name}, {kind.kind} of the code] {kind.path}:{kind.line}")
         self.say(*indented(folded(meaning(kind))), *indented(declared(kind)), "")
 
     def kit(self, promise: Promise) -> None:
-        """The words of the kit."""
+        """Add the words of the kit."""
         self.say("### Words of the kit", "")
         self.say(*(f"{word.name} ({word.crate}): {self.meanings[word.label]}" for word in promise.reach.kit), "")
 
     def without(self, promise: Promise) -> None:
-        """The definitions that nothing in the table was held against."""
+        """Add the definitions without evidence in the table."""
         bare = evidence.bare(promise.reach.definitions, self.evidence)
         self.say(f"### Without evidence of their own: {len(bare)} of {len(promise.reach.definitions)}", "")
         self.say(*folded(", ".join(definition.label for definition in bare) or "none"), "")
@@ -133,7 +133,7 @@ class Text:
 
 def text(promises: list[Promise], chosen: list[Promise], pieces: dict[str, list[evidence.Evidence]],
          meanings: Mapping[str, str]) -> str:
-    """The statement of the chosen promises."""
+    """Return the statement of the chosen promises."""
     shown = Text(pieces, meanings)
     shown.head(promises)
     for promise in chosen:

@@ -1,4 +1,4 @@
-"""Reads a file of code (`*.rt`) as far as a statement needs it: its types, and what the clauses of functions may name.
+"""Read a file of code (`*.rt`) as far as a statement needs it: its types, and the names in reach of its clauses.
 
 It looks at types at the left edge, and at the signatures and the clauses of functions, never at their bodies.
 """
@@ -23,7 +23,7 @@ VARIANT = re.compile(r"^[ ]+[A-Z]\w*", re.M)
 
 @dataclass(eq=False)
 class Clause:
-    """A clause of a function: its kind (`ensures` or `requires`), its name, what its braces have, and its lines."""
+    """A clause of a function: its kind (`ensures` or `requires`), its name, the text in its braces, and its lines."""
 
     kind: str
     name: str
@@ -35,7 +35,7 @@ class Clause:
 
 @dataclass(eq=False)
 class Function:
-    """A function: what it belongs to ('' for none), where it stands, and what its clauses may name."""
+    """A function: its owner ('' for none), its place, and the names in reach of its clauses."""
 
     crate: str
     path: str
@@ -52,18 +52,18 @@ class Function:
 
     @property
     def full_name(self) -> str:
-        """What it belongs to, and its name."""
+        """Return its owner and its name."""
         return f"{self.owner}::{self.name}" if self.owner else self.name
 
     @property
     def label(self) -> str:
-        """Its crate, what it belongs to, and its name."""
+        """Return its crate, its owner and its name."""
         return f"{self.crate}::{self.full_name}"
 
 
 @dataclass(eq=False)
 class Type:
-    """A type of the code, or a trait: where it stands, the comment above it, its text, and what contracts see of it."""
+    """A type of the code, or a trait: its place, the comment above it, its text, and its part in contracts."""
 
     crate: str
     path: str
@@ -72,14 +72,14 @@ class Type:
     line: int
     comment: list[str]
     text: str
-    # The ghost members, and the value by which contracts speak of it, if it has one of its own.
+    # The ghost members, and its value in contracts, if it has one of its own.
     ghosts: list[tuple[str, str]] = field(default_factory=list)
     value: str = ""
     brought: dict[str, antt.Name] = field(default_factory=dict)
 
     @property
     def label(self) -> str:
-        """Its crate and its name."""
+        """Return its crate and its name."""
         return f"{self.crate}::{self.name}"
 
 
@@ -98,7 +98,7 @@ class Code:
 
 
 def item_end(text: str, at: int) -> int:
-    """Where an item at the left edge ends: with its brace, or with its line."""
+    """Return the end of an item at the left edge: its brace, or its line."""
     stop = re.compile(r"[{;]").search(text, at)
     if stop is None:
         raise ValueError("an item is not ended")
@@ -106,12 +106,12 @@ def item_end(text: str, at: int) -> int:
 
 
 def line_of(text: str, at: int) -> int:
-    """The number of the line of a place."""
+    """Return the number of the line of a place."""
     return text.count("\n", 0, at) + 1
 
 
 def ghost_uses(text: str) -> tuple[dict[str, antt.Name], dict[str, str]]:
-    """What the ghost uses of a text bring in, and the modules that go by another name."""
+    """Return the imports of the ghost uses of a text, and the modules under another name."""
     brought, aliases = dict[str, antt.Name](), dict[str, str]()
     for use in GHOST_USE.finditer(text):
         names, others, _ = antt.brought_by(" ".join(use[1].split()))
@@ -121,7 +121,7 @@ def ghost_uses(text: str) -> tuple[dict[str, antt.Name], dict[str, str]]:
 
 
 def rust_uses(crate: str, text: str) -> dict[str, tuple[str, str]]:
-    """The names that come from files of code: the crate and the name there."""
+    """Return the names that come from files of code: the crate and the name there."""
     used: dict[str, tuple[str, str]] = {}
     for use in RUST_USE.finditer(text):
         path, names = use[1].split("::"), use[2]
@@ -135,13 +135,13 @@ def rust_uses(crate: str, text: str) -> dict[str, tuple[str, str]]:
 
 
 def comment_above(lines: list[str], number: int) -> list[str]:
-    """The `///` lines above a line, past attributes."""
+    """Return the `///` lines above a line, past attributes."""
     above = itertools.takewhile(lambda line: line.startswith(("///", "#[")), reversed(lines[: number - 1]))
     return [line[3:].strip() for line in above if line.startswith("///")][::-1]
 
 
 def ghosts_of(text: str) -> list[tuple[str, str]]:
-    """What stands in the braces of the ghost members of a type or a trait."""
+    """Return the texts in the braces of the ghost members of a type or a trait."""
     found = []
     for ghost in GHOST.finditer(text):
         at = text.index("{", ghost.end())
@@ -150,7 +150,7 @@ def ghosts_of(text: str) -> list[tuple[str, str]]:
 
 
 def types_of(file: Code, text: str, quiet: str) -> None:
-    """The types of a file and its traits."""
+    """Return the types of a file and its traits."""
     lines = text.splitlines()
     for head in TYPE.finditer(quiet):
         end, line = item_end(quiet, head.end()), line_of(quiet, head.start())
@@ -161,7 +161,7 @@ def types_of(file: Code, text: str, quiet: str) -> None:
 
 
 def values_of(file: Code, quiet: str) -> None:
-    """The values that stand for types in contracts (`impl Model for`)."""
+    """Return the values of types in contracts (`impl Model for`)."""
     for block in code.blocks_of(quiet):
         model = re.search(r"\bModel for (\w+)", block.head)
         inner = quiet[block.start : block.end]
@@ -173,7 +173,7 @@ def values_of(file: Code, quiet: str) -> None:
 
 
 def clause_of(text: str, clause: code.Clause) -> Clause:
-    """A clause with its lines."""
+    """Return a clause with its lines."""
     first = line_of(text, clause.start)
     lines = text.splitlines()[first - 1 : line_of(text, clause.end - 1)]
     step = len(lines[0]) - len(lines[0].lstrip())
@@ -181,14 +181,14 @@ def clause_of(text: str, clause: code.Clause) -> Clause:
 
 
 def owner_of(block: str) -> str:
-    """The type that a block belongs to: `impl<D: Disk> Source<D>` belongs to Source, a module to none."""
+    """Return the type that a block belongs to: `impl<D: Disk> Source<D>` belongs to Source, a module to none."""
     plain = re.sub(r"<[^<>]*>", "", re.sub(r"<[^<>]*>", "", block))
     kind, *words = plain.split(" for ")[-1].replace(":", " :").split()
     return "" if kind == "mod" else (words[0] if kind in ("impl", "trait") else kind)
 
 
 def function_of(file: Code, text: str, quiet: str, found: code.Function) -> Function:
-    """A function of a file, with what its clauses may name."""
+    """Return a function of a file, with the names in reach of its clauses."""
     inner = quiet[found.around.start : found.around.end] if found.around else ""
     bounds = dict(BOUND.findall(found.block)) | dict(BOUND.findall(found.signature.split("(")[0]))
     names = {"result", "self"} | set(re.findall(r"\b(\w+):", found.signature)) | {name for name, _ in ghosts_of(inner)}

@@ -1,4 +1,4 @@
-"""Prints the statement of each promise: its sentence, the clauses that carry it, and all that these mean.
+"""Print the statement of every promise: its sentence, the clauses that carry it, and their full meaning.
 
     python3 -m statement.statement     prints the statements of all promises (promises.txt)
       --promise headline               that of the promises whose title has this word
@@ -7,9 +7,9 @@
 
 Whoever wants to believe a promise has to read its statement, and no more: the proofs are checked by the prover, and the
 code against the clauses. The order is that of reach.py. Before all else it looks at the tables beside it. A word of the
-kit without a line in kit_words.txt is an error; so is a pointer of evidence.txt whose file or function is not there; so
-is a premise of a promise that neither a clause concludes nor promises.txt trusts, and a relation that stands only left
-of an arrow and has no example. The status is then 1.
+kit without a line in kit_words.txt is an error; so is a pointer of evidence.txt whose file or function is missing; so
+is a premise of a promise that neither a clause concludes nor promises.txt trusts, a relation that occurs only left of
+an arrow and has no example, and a variable of a conclusion that nothing ties to the call. The status is then 1.
 """
 
 import argparse
@@ -18,7 +18,7 @@ import sys
 from collections.abc import Mapping
 from pathlib import Path
 
-from statement import evidence, givens, page, premises, shown, tables
+from statement import evidence, givens, page, premises, shown, tables, witnesses
 from statement.promises import Promise, promises
 from statement.world import Unknown, World
 
@@ -27,7 +27,7 @@ Pieces = dict[str, list[evidence.Evidence]]
 
 
 def arguments() -> argparse.Namespace:
-    """The words of the command line."""
+    """Return the words of the command line."""
     parser = argparse.ArgumentParser(description="Prints the statement of each promise.")
     parser.add_argument("--promise", default="", help="print those alone whose title has this word")
     parser.add_argument("--html", type=Path, help="write one page to this file")
@@ -36,14 +36,14 @@ def arguments() -> argparse.Namespace:
 
 
 def refused(found: list[str]) -> int:
-    """Tells what is wrong, and gives the status."""
+    """Print the faults; return the exit status."""
     for fault in found:
         print(f"statement: {fault}", file=sys.stderr)
     return 1 if found else 0
 
 
 def check(every: list[Promise], pieces: Pieces) -> int:
-    """The check of the gate."""
+    """Print the counts of the check; return the exit status."""
     reached = dict.fromkeys(definition for promise in every for definition in promise.reach.definitions)
     bare = evidence.bare(reached, pieces)
     lines = dict.fromkeys(line for promise in every for line in promise.spoken)
@@ -56,7 +56,7 @@ def check(every: list[Promise], pieces: Pieces) -> int:
 
 def run(words: argparse.Namespace, world: World, every: list[Promise], pieces: Pieces,
         meanings: Mapping[str, str]) -> int:
-    """Does what the words ask for, and gives the status."""
+    """Print or write the statement that the words choose; return the exit status."""
     if words.check:
         return check(every, pieces)
     if words.html:
@@ -72,18 +72,18 @@ def run(words: argparse.Namespace, world: World, every: list[Promise], pieces: P
 
 
 def main() -> int:
-    """Reads all, looks at the tables, and prints what is asked for."""
+    """Read everything, check the tables, and print the chosen statement; return the exit status."""
     words = arguments()
-    # Who reads no further ends it, as `head` does.
+    # A reader that stops early, as `head` does, ends the program.
     signal.signal(signal.SIGPIPE, signal.SIG_DFL)
     try:
         world = World(ROOT)
         every, pieces, meanings = promises(world), evidence.evidence(world), tables.kit_words()
-        chains = premises.follow(world, every)
+        chains, free = premises.follow(world, every), witnesses.follow(world, every)
     except (Unknown, tables.Wrong) as fault:
         return refused([str(fault)])
     found = tables.faults_of_kit(every, meanings) + evidence.faults(world, every, pieces)
-    found += premises.faults(world, chains, pieces)
+    found += premises.faults(world, chains, pieces) + free
     return refused(found) or run(words, world, every, pieces, meanings)
 
 

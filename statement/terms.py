@@ -1,10 +1,10 @@
-"""Reads the type of a clause or of a definition as a tree: what stands left of its arrows, and what it ends in."""
+"""Read the type of a clause or of a definition as a tree: the left sides of its arrows, and its conclusion."""
 
 from dataclasses import dataclass
 
 from statement import words
 
-# Signs between types, the weakest first: each of two gives the other; one is there; both are.
+# Signs between types, the weakest first: equivalence, sum, product.
 JOINED = ("↔", "⊎", "×")
 # Signs between two values.
 BETWEEN = ("≡", "≢", "≤", "<")
@@ -12,7 +12,7 @@ BETWEEN = ("≡", "≢", "≤", "<")
 
 @dataclass(frozen=True)
 class Relation:
-    """A relation of values: its head or the sign between two, its text, and its arguments that may be relations."""
+    """A relation of values: its head or its sign, its text, and its arguments that may be relations."""
 
     head: str
     text: str
@@ -29,19 +29,19 @@ class Joined:
 
 @dataclass(frozen=True)
 class Arrow:
-    """What stands left of arrows, one after another, and what stands at the end."""
+    """The left sides of arrows, in order, and the conclusion."""
 
     premises: tuple["Term", ...]
     end: "Term"
 
 
 Term = Relation | Joined | Arrow
-# The type that nothing has.
+# The empty type.
 NEVER = Relation("⊥", "⊥")
 
 
 def spelled(tokens: list[str]) -> str:
-    """The text of tokens, as a person writes it."""
+    """Return the text of tokens, as a person writes it."""
     text = " ".join(tokens)
     for wide, close in (("( ", "("), (" )", ")"), (") .", ")."), (" ,", ","), (" ;", ";"), (" . ", ". ")):
         text = text.replace(wide, close)
@@ -49,14 +49,14 @@ def spelled(tokens: list[str]) -> str:
 
 
 def unbound(tokens: list[str]) -> list[str]:
-    """The tokens behind `let x = e in` at the front."""
+    """Return the tokens after `let x = e in` at the front."""
     while tokens[:1] == ["let"]:
         tokens = tokens[tokens.index("in") + 1 :]
     return tokens
 
 
 def groups(tokens: list[str]) -> list[list[str]]:
-    """The brackets and the single tokens of an application."""
+    """Return the brackets and the single tokens of an application."""
     found, at = [], 0
     while at < len(tokens):
         end = words.closing(tokens, at) + 1 if tokens[at] in words.OPEN else at + 1
@@ -66,7 +66,7 @@ def groups(tokens: list[str]) -> list[list[str]]:
 
 
 def bound_types(tokens: list[str]) -> list[list[str]]:
-    """The types of binders, `(x : A) (y : B)`, or the one type that stands there."""
+    """Return the types of binders, `(x : A) (y : B)`, or the only type."""
     found, at = [], 0
     while at < len(tokens) and tokens[at] in "({" and words.binder(tokens, at)[0]:
         colon, end = words.binder(tokens, at)[1], words.closing(tokens, at)
@@ -76,7 +76,7 @@ def bound_types(tokens: list[str]) -> list[list[str]]:
 
 
 def term(tokens: list[str]) -> Term | None:
-    """The tree of a type, or nothing where there is no type."""
+    """Return the tree of a type, or nothing where there is no type."""
     tokens = unbound(tokens)
     if tokens[:1] == ["λ"]:
         return term(tokens[tokens.index(".") + 1 :])
@@ -85,12 +85,12 @@ def term(tokens: list[str]) -> Term | None:
         return joined(tokens)
     premises = tuple(premise for part in before for each in bound_types(part) if (premise := joined(each)))
     end = term(last)
-    # What leads to nothing is denied.
+    # An arrow to the empty type is a negation.
     return Relation("¬", spelled(tokens)) if end == NEVER else Arrow(premises, end) if end else None
 
 
 def joined(tokens: list[str]) -> Term | None:
-    """A type without an arrow of its own."""
+    """Return the tree of a type without an arrow of its own."""
     for sign in JOINED:
         parts = words.parted(tokens, sign)
         if len(parts) > 1:
@@ -99,7 +99,7 @@ def joined(tokens: list[str]) -> Term | None:
 
 
 def relation(tokens: list[str]) -> Term | None:
-    """A relation, or what stands in brackets."""
+    """Return a relation, or the tree of the text in brackets."""
     each = groups(tokens)
     sign = next((group[0] for group in each if group[0] in BETWEEN), None)
     if sign:
@@ -112,5 +112,5 @@ def relation(tokens: list[str]) -> Term | None:
 
 
 def argument(group: list[str]) -> Term | None:
-    """An argument that may be a relation."""
+    """Return an argument that may be a relation."""
     return term(group[1:-1]) if group[0] == "(" else Relation(group[0], group[0]) if words.is_name(group[0]) else None

@@ -1,4 +1,4 @@
-"""Tests of the premises: how a type is taken apart, what gives a premise, and what is planted in our own promises."""
+"""Test the premises: how a type is split, how a premise is given, and faults planted in our own promises."""
 
 import re
 import tempfile
@@ -145,7 +145,7 @@ premise: door ≤ * case: the door is one of these
 SHOWN = "doors.Doors: AreOpened WasOpened | example | crates/doors/proofs/Examples.antt: one"
 HEADLINE = "statement/promises.txt: The headline"
 NOTHING = "nothing gives the premise"
-# A definition of rs_recovery, a text in it, one in its place, and what is found wrong with the headline then.
+# A definition of rs_recovery, a text in it, its replacement, and the fault of the headline that results.
 PLANTED = [
     ("Sessions.Session", "  pub stop : ℕ", "  pub stop : ℕ\n  pub never : ⊥", f"{NOTHING} '⊥' of Session.never"),
     ("Sessions.IsSessionFrom", "  pub stopped :", "  pub never : ⊥\n  pub stopped :",
@@ -167,7 +167,7 @@ PLANTED = [
 
 
 def made(room: str, specs: str = SPECS) -> World:
-    """A repository of one crate below a folder."""
+    """Return a repository of one crate below a folder."""
     return repository(room, {
         "crates.txt": "doors:\n", "README.md": "Doors open.\n", "docs/PROMISES.md": "| doors | open |\n",
         "crates/doors/specs/Doors.antt": specs, "crates/doors/src/doors.rt": CODE,
@@ -175,7 +175,7 @@ def made(room: str, specs: str = SPECS) -> World:
 
 
 def repository(room: str, files: dict[str, str]) -> World:
-    """The repository of these files, which it writes below a folder."""
+    """Write these files below a folder, and return their repository."""
     for name, text in files.items():
         path = Path(room, name)
         path.parent.mkdir(parents=True, exist_ok=True)
@@ -184,24 +184,24 @@ def repository(room: str, files: dict[str, str]) -> World:
 
 
 def faults(world: World, table: str | None = None, shown: str | None = None, first: int | None = None) -> list[str]:
-    """What is wrong with the premises: of all promises, or of the first ones."""
+    """Return the faults of the premises of all promises, or of the first ones."""
     every = promises.promises(world, table)[:first]
     return premises.faults(world, premises.follow(world, every), evidence.evidence(world, shown))
 
 
 def ungrounded(*clauses: str) -> list[str]:
-    """What is wrong where clauses have no ground of their own."""
+    """Return the faults of clauses that have no ground of their own."""
     return [f"Doors: doors {clause} takes what no other clause gives it first" for clause in clauses]
 
 
 def without_example(*names: str) -> list[str]:
-    """What is wrong where these relations have no example."""
+    """Return the faults of relations that have no example."""
     return [f"doors.Doors.{name} stands only left of an arrow, and no example has it" for name in names]
 
 
 class Terms(unittest.TestCase):
     def term(self, text: str) -> terms.Term | None:
-        """The tree of a type."""
+        """Return the tree of a type."""
         return terms.term(words.tokens_of(text.splitlines()))
 
     def test_arrows_are_taken_apart(self) -> None:
@@ -234,7 +234,7 @@ class Given(unittest.TestCase):
         self.room = self.enterContext(tempfile.TemporaryDirectory())
 
     def faults_of(self, lines: str, specs: str = SPECS, shown: str = SHOWN) -> list[str]:
-        """What is wrong with these lines."""
+        """Return the faults of these lines."""
         return [fault.partition(": ")[2] for fault in faults(made(self.room, specs), SAYS + lines, shown)]
 
     def test_a_closed_chain_is_not_told(self) -> None:
@@ -279,7 +279,7 @@ class Given(unittest.TestCase):
         fault = "Doors: AreOpened is said to come from"
         self.assertEqual(self.faults_of(without)[0], f"{fault} doors one_opens, which the promise does not print")
         self.assertEqual(self.faults_of(other), [f"{fault} doors shut shut, which does not end in AreOpened"])
-        # One part more is told where a law gives the whole, and not where a clause of a call does.
+        # A further part is a fault if a law gives the whole, and not if a clause of a call does.
         more = SPECS.replace("WasOpened key door × AreOpened keys", "WasOpened key door × (door ≡ 1) × AreOpened keys")
         self.assertEqual(self.faults_of(lines, more), ["Doors: nothing gives the premise 'door ≡ 1' of AreOpened"])
         self.assertEqual(self.faults_of(lines.replace("AreOpened law:", "AreOpened from:"), more), [])
@@ -298,7 +298,7 @@ class Given(unittest.TestCase):
             self.faults_of(lines + "between: IsNowhere\n")
 
     def test_what_another_promise_prints_is_not_opened(self) -> None:
-        """Its own premises are told of the promise that prints it."""
+        """Its own premises are checked for the promise that prints it."""
         other = SAYS.replace("== Doors", "\n== Inside") + LINES
         elsewhere = LINES + "elsewhere: Inside: AreOpened\n"
         opened, unopened = (self.reached(lines + other) for lines in (LINES, elsewhere))
@@ -310,7 +310,7 @@ class Given(unittest.TestCase):
             self.faults_of(elsewhere + other + "elsewhere: Doors: AreOpened\n")
 
     def reached(self, lines: str) -> set[str]:
-        """The names of what a promise of these lines reaches."""
+        """Return the names that a promise of these lines reaches."""
         promise, *_ = promises.promises(made(self.room), SAYS + lines)
         return {definition.name for definition in promise.reach.definitions}
 
@@ -332,22 +332,22 @@ class Given(unittest.TestCase):
         both = without_example("AreOpened", "WasOpened")
         self.assertEqual(self.faults_of(LINES, shown=""), both)
         self.assertEqual(self.faults_of(LINES, shown=SHOWN.replace("AreOpened ", "")), both[:1])
-        # No door is opened where there is none.
+        # Without doors, no door is opened.
         self.assertEqual(self.faults_of(LINES, shown=SHOWN.replace("one", "none")), both[1:])
-        # Nothing is known to be there in one part of a sum, or where it is taken, or in what is no example.
+        # One part of a sum, a premise, or a piece that is no example shows nothing.
         for name, kind in (("either", "example"), ("same", "example"), ("one", "law")):
             shown = SHOWN.replace("Examples.antt: one", f"Examples.antt: {name}").replace("| example |", f"| {kind} |")
             self.assertEqual(self.faults_of(LINES, shown=shown), both)
-        # A law that takes what it speaks of is no example of it.
+        # A law with the relation as its premise is no example of it.
         for kind in ("law", "example"):
             law = SHOWN.replace("example", kind).replace("proofs/Examples.antt: one", "src/doors.rt: doors_open")
             self.assertEqual(self.faults_of(LINES, shown=law), both)
 
     def test_a_law_does_not_show_what_it_takes(self) -> None:
-        """It ends in a relation of which a field is the very one that it takes."""
+        """The law ends in a relation with a field that it takes as its premise."""
         lines = LINES + "by: doors one_opens\npremise: AreOpened law: doors one_opens\n"
         self.assertEqual(self.faults_of(lines, shown=""), without_example("AreOpened", "WasOpened"))
-        # Where an example has what it takes, the law shows what it concludes.
+        # If the premise of a law has an example, the law shows its conclusion.
         self.assertEqual(self.faults_of(lines, shown=SHOWN.replace("AreOpened ", "")), [])
 
     def test_two_laws_do_not_show_what_each_takes_from_the_other(self) -> None:
@@ -406,7 +406,7 @@ class Planted(unittest.TestCase):
         self.world = World(ROOT)
 
     def change(self, label: str, old: str, new: str) -> list[str]:
-        """What is wrong once a definition has this text in place of another."""
+        """Return the new faults after a text in a definition is replaced."""
         every = [definition for specs in self.world.specs.values() for definition in specs.definitions.values()]
         known = next(definition for definition in every if definition.label == label)
         lines = "\n".join(known.lines)
@@ -416,19 +416,19 @@ class Planted(unittest.TestCase):
         return self.found(self.headline)
 
     def without(self, line: str) -> list[str]:
-        """What is wrong once the headline, or what stands before it, lacks this line."""
+        """Return the new faults if the headline, or the lines before it, lack this line."""
         self.assertIn(line, self.headline)
         return self.found(self.headline.replace(line, "", 1))
 
     def found(self, table: str) -> list[str]:
-        """What is wrong with the promises of this table, and was not before."""
+        """Return the faults of the promises of this table that were not there before."""
         return [fault for fault in faults(self.world, table, first=1) if fault not in self.before]
 
     def test_the_promises_close(self) -> None:
         self.assertEqual([fault for fault in faults(self.world) if fault.startswith("statement/promises.txt")], [])
 
     def test_what_is_planted_is_noticed(self) -> None:
-        """A type that nothing has, a field more of a stop, and premises more, which fail proofs of laws, too."""
+        """An empty type, a further field of a stop, and further premises, which also fail proofs of laws."""
         for label, old, new, wanted in PLANTED:
             with self.subTest(label, new=new):
                 self.world = World(ROOT)
@@ -436,13 +436,13 @@ class Planted(unittest.TestCase):
                 self.assertTrue(any(re.fullmatch(f"{HEADLINE}: {wanted}", fault) for fault in found), found)
 
     def test_sessions_with_a_premise_that_another_session_gives(self) -> None:
-        """The proof of the law `sessions_follow` fails then, and nothing here tells it: the premise has a line."""
+        """The proof of the law `sessions_follow` fails then; no fault is found here, as a line grounds the premise."""
         stands = "× StandsFor y.image s"
         found = self.change("rs_recovery.Sessions.AreSessions", stands, f"{stands} × StandsFor x.image s")
         self.assertEqual(found, [])
 
     def test_a_stop_without_its_example(self) -> None:
-        """The law that ends in a stop takes one."""
+        """The law that ends in a stop has a stop as its premise."""
         lines = (ROOT / "statement" / "evidence.txt").read_text().splitlines()
         shown = "\n".join(line for line in lines if not line.endswith(": are_stops"))
         found = faults(self.world, self.headline, shown, first=1)
@@ -451,7 +451,7 @@ class Planted(unittest.TestCase):
         self.assertNotIn(f"statement/evidence.txt: {fault}", self.before)
 
     def test_a_headline_without_what_gives_a_premise(self) -> None:
-        """Without its formatting, its run, the law of its sessions, or a command."""
+        """The headline lacks its formatting, its run, the law of its sessions, or a command."""
         for line, name, clause in (
             ("rs_store Source::format holds runs", "Holds", "rs_store Source::format holds"),
             ("rs_store Source::run in_turn untouched", "InTurn", "rs_store Source::run in_turn"),

@@ -1,6 +1,8 @@
-"""Tests of the statement: what its readers take from specs and code, what a promise reaches, what the check refuses."""
+"""Test the statement: how its readers read specs and code, the reach of a promise, and the refusals of the check."""
 
 import re
+import subprocess
+import sys
 import tempfile
 import unittest
 from pathlib import Path
@@ -8,13 +10,11 @@ from pathlib import Path
 from rattle import antt
 from statement import evidence, page, promises, shown, source, tables, words
 from statement.reach import reach
-from statement.test_premises import Given, Planted, Terms, repository
+from statement.test_premises import repository
 from statement.world import Unknown, World
 
 ROOT = Path(__file__).resolve().parent.parent
 
-
-__all__ = ["Fields", "Given", "Planted", "Reached", "Readers", "Repository", "Terms"]
 
 LOW = """-- Numbers.
 use Rattle.std.specs.Prelude.{ℕ, ◌+◌, suc, zero, List, [], ◌∷◌, length}
@@ -107,7 +107,7 @@ impl Boxed {
 }
 '''
 
-# The same, with a clause that is a record.
+# The same code, with a clause that is a record.
 PAIRED = CODE.replace("ensures value {", "ensures { IsPair 1 shape }\n        ensures value {")
 PAIRED = PAIRED.replace("{next, Shape}", "{next, Shape, IsPair}")
 
@@ -131,11 +131,15 @@ PROMISES = "== Opening\nrow: opening\nin: README.md\nsays: It is *lawful*\n  at 
 
 
 def made(room: str, **other: str) -> World:
-    """A repository of two crates below a folder."""
+    """Return a repository of two crates below a folder."""
     return repository(room, {
         "crates.txt": "# the lowest first\nlow:\nhigh: low\n", "README.md": README, "docs/PROMISES.md": README,
         "crates/low/src/item.rt": ITEM, "crates/low/specs/Numbers.antt": LOW, "crates/high/specs/Lawful.antt": HIGH,
         "crates/high/src/open.rt": CODE, **other})
+
+
+def test_the_tables_of_the_statement_have_no_fault() -> None:
+    subprocess.run([sys.executable, "-m", "statement.statement", "--check"], cwd=ROOT, check=True)
 
 
 class Readers(unittest.TestCase):
@@ -162,7 +166,7 @@ class Readers(unittest.TestCase):
         self.assertEqual(self.words_of(read, "one"), ["N"])
 
     def words_of(self, specs: antt.Specs, name: str) -> list[str]:
-        """The words of a definition."""
+        """Return the words of a definition."""
         found = words.words_of(specs.definitions[name], lambda token: token in {"zero", "suc", "point"} or "." in token)
         return [head for head, _ in found]
 
@@ -195,14 +199,14 @@ class Readers(unittest.TestCase):
 
 
 def look_at_links(test: unittest.TestCase, text: str) -> None:
-    """Each place of a page stands once, and each link leads to one."""
+    """Check that every place of a page has its own id, and that every link leads to one."""
     places = re.findall(r' id="([^"]+)"', text)
     test.assertEqual(len(places), len(set(places)))
     test.assertLessEqual(set(re.findall(r'href="#([^"]+)"', text)), set(places))
 
 
 class Fields(unittest.TestCase):
-    """A field of a record that stands alone."""
+    """A single field of a record."""
 
     def test_its_comment_is_that_of_the_record_and_of_the_field(self) -> None:
         head = ["-- a pair of numbers,", "-- the first below the second"]
@@ -310,6 +314,3 @@ class Repository(unittest.TestCase):
         world = World(ROOT)
         look_at_links(self, page.page(world, promises.promises(world), evidence.evidence(world), tables.kit_words()))
 
-
-if __name__ == "__main__":
-    unittest.main(verbosity=2)

@@ -1,4 +1,4 @@
-"""The words that a definition uses, in the order in which they stand in it.
+"""The words that a definition uses, in the order of its text.
 
 A name that is bound within is no such word: the variables of a pattern, of `λ`, of `let`, of `(x : A) →` and of the
 head of a record stand for themselves, and hide what goes by the same name outside. Neither is a field after a dot, nor
@@ -12,21 +12,21 @@ from dataclasses import replace
 from rattle.antt import Definition
 
 TOKEN = re.compile(r'"(?:[^"\\]|\\.)*"|\[\]|[(){}\[\];,]|[^\s(){}\[\];,"]+')
-# What a type has by a trait of Rust, `⟦<PageRef as Ord>⟧`.
+# A type's part by a trait of Rust, `⟦<PageRef as Ord>⟧`.
 IMPLEMENTED = re.compile(r"⟦[^⟧]*⟧")
 OPEN, CLOSE = "({[", ")}]"
-# Tokens, and a word with what follows it behind dots.
+# Tokens, and a word with its fields after dots.
 Tokens = list[str]
 Word = tuple[str, list[str]]
 # Signs and words of the language that name nothing.
 SIGNS = set("→ : = λ let in record where pub abbrev unfoldable opaque data Type _ . , ; | ↦ elim as do ←".split())
 NUMBER = re.compile(r"[\d_]+$")
-# What a pattern of the kit's own types is made of.
+# The parts of a pattern of the kit's own types.
 KIT_CONSTRUCTORS = {"zero", "suc", "true", "false", "[]", "∷", "Some", "None", "Ok", "Err", "tt", "pos", "negsuc"}
 
 
 def tokens_of(lines: Iterable[str]) -> Tokens:
-    """The tokens of these lines. The dot behind the names of a `λ` is one of its own."""
+    """Return the tokens of these lines. The dot after the names of a `λ` is a token of its own."""
     found: Tokens = []
     for line in lines:
         for token in TOKEN.findall(IMPLEMENTED.sub("", line)):
@@ -38,12 +38,12 @@ def tokens_of(lines: Iterable[str]) -> Tokens:
 
 
 def is_name(token: str) -> bool:
-    """Whether a token may name something."""
+    """Return whether a token may name something."""
     return token not in SIGNS and token[0] not in "(){}[];,\"." and not NUMBER.match(token)
 
 
 def closing(tokens: Tokens, at: int) -> int:
-    """Where the bracket at this place is closed."""
+    """Return the place where the bracket at this place is closed."""
     depth = 0
     for place in range(at, len(tokens)):
         depth += (tokens[place] in OPEN) - (tokens[place] in CLOSE)
@@ -53,7 +53,7 @@ def closing(tokens: Tokens, at: int) -> int:
 
 
 def binder(tokens: Tokens, at: int) -> tuple[Tokens, int]:
-    """The names that a bracket at this place binds, `(x y : A)`, or none; and where the `:` stands."""
+    """Return the names that a bracket at this place binds, `(x y : A)`, or none; and the place of the `:`."""
     end = at + 1
     while end < len(tokens) and (is_name(tokens[end]) or tokens[end] == "_"):
         end += 1
@@ -61,21 +61,56 @@ def binder(tokens: Tokens, at: int) -> tuple[Tokens, int]:
     return (tokens[at + 1 : end], end) if is_binder else ([], at)
 
 
+def bare(tokens: Tokens) -> Tokens:
+    """Return tokens without the brackets around all of them."""
+    while tokens[:1] == ["("] and closing(tokens, 0) == len(tokens) - 1 and not binder(tokens, 0)[0]:
+        tokens = tokens[1:-1]
+    return tokens
+
+
+def binders(tokens: Tokens) -> list[tuple[str, Tokens]]:
+    """Return the names that brackets bind, with their types; none for other tokens."""
+    found, at = list[tuple[str, Tokens]](), 0
+    while at < len(tokens) and tokens[at] in "({" and binder(tokens, at)[0]:
+        names, colon = binder(tokens, at)
+        end = closing(tokens, at)
+        found += [(name, tokens[colon + 1 : end]) for name in names]
+        at = end + 1
+    return found if at == len(tokens) else []
+
+
+def bound_names(tokens: Tokens) -> list[str]:
+    """Return the names that brackets bind."""
+    return [name for name, _ in binders(tokens)]
+
+
+def lambda_names(group: Tokens) -> list[str]:
+    """Return the names of the `λ` at the front of a bracket."""
+    tokens = bare(group)
+    return [token for token in tokens[1 : tokens.index(".")] if is_name(token)] if tokens[:1] == ["λ"] else []
+
+
+def behind_names(group: Tokens) -> Tokens:
+    """Return the tokens after the `λ` at the front of a bracket."""
+    tokens = bare(group)
+    return tokens[tokens.index(".") + 1 :] if tokens[:1] == ["λ"] else tokens
+
+
 class Walk:
-    """A walk over the tokens of a definition. `words` gets each that is not bound within, with what dots add to it."""
+    """A walk over the tokens of a definition. `words` gets the free ones, with their fields after dots."""
 
     def __init__(self, bound: Iterable[str] = ()) -> None:
         self.scopes: list[set[str]] = [set(bound)]
         self.words: list[Word] = []
 
     def expression(self, tokens: Tokens) -> None:
-        """Walks over an expression."""
+        """Walk over an expression."""
         at, lets = 0, list[str]()
         while at < len(tokens):
             at = self.step(tokens, at, lets)
 
     def step(self, tokens: Tokens, at: int, lets: list[str]) -> int:
-        """Walks over what begins at a place, and gives where the next begins."""
+        """Walk over the item at a place; return the place of the next one."""
         token = tokens[at]
         if token in "({" and binder(tokens, at)[0]:
             return self.bind(tokens, at)
@@ -89,7 +124,7 @@ class Walk:
         if tokens[at + 1 : at + 2] == ["←"]:
             self.scopes[-1].add(token)
         elif token == "do":
-            # Its steps are joined by the operator of this name.
+            # The operator of this name joins its steps.
             self.tell(">>=")
         elif token == "in" and lets:
             self.scopes[-1].add(lets.pop())
@@ -98,7 +133,7 @@ class Walk:
         return at + 1
 
     def nested(self, tokens: Tokens, at: int) -> int:
-        """What stands in brackets has a scope of its own."""
+        """Walk over the text in brackets, which has a scope of its own."""
         end = closing(tokens, at)
         inner = tokens[at + 1 : end]
         # A bracket may have fields with their values: `record { at = t }`, `f {x = e}`.
@@ -111,13 +146,13 @@ class Walk:
         return end + 1
 
     def within(self, tokens: Tokens) -> None:
-        """Walks over an expression that has a scope of its own."""
+        """Walk over an expression that has a scope of its own."""
         self.scopes.append(set())
         self.expression(tokens)
         self.scopes.pop()
 
     def bind(self, tokens: Tokens, at: int) -> int:
-        """A bracket that binds names: its type comes first, and then the names are bound."""
+        """Walk over a bracket that binds names: its type first, then the names are bound."""
         names, colon = binder(tokens, at)
         end = closing(tokens, at)
         self.within(tokens[colon + 1 : end])
@@ -125,7 +160,7 @@ class Walk:
         return end + 1
 
     def function(self, tokens: Tokens, at: int) -> int:
-        """The names of a `λ`, up to its dot."""
+        """Bind the names of a `λ`, up to its dot."""
         while at < len(tokens) and tokens[at] != ".":
             if tokens[at] in "({":
                 at = self.bind(tokens, at)
@@ -135,14 +170,14 @@ class Walk:
         return at + 1
 
     def tell(self, token: str) -> None:
-        """Notes a word that is not bound within."""
+        """Note a free word."""
         # A reserved word may be a name, `«in»`.
         head, *path = token.replace("«", "").replace("»", "").split(".")
         if head and not any(head in scope for scope in self.scopes):
             self.words.append((head, path))
 
     def patterns(self, tokens: Tokens, is_constructor: Callable[[str], bool]) -> None:
-        """Walks over the left side of an equation: it notes constructors, and binds variables."""
+        """Walk over the left side of an equation: note constructors, and bind variables."""
         for token in filter(is_name, tokens):
             if is_constructor(token):
                 self.tell(token)
@@ -151,7 +186,7 @@ class Walk:
 
 
 def parted(tokens: Tokens, mark: str) -> list[Tokens]:
-    """The tokens between marks, where no bracket is open."""
+    """Return the tokens between marks outside brackets."""
     parts: list[Tokens] = [[]]
     depth = 0
     for token in tokens:
@@ -164,18 +199,18 @@ def parted(tokens: Tokens, mark: str) -> list[Tokens]:
 
 
 def equation(tokens: Tokens) -> tuple[Tokens, Tokens]:
-    """The two sides of an equation."""
+    """Return the two sides of an equation."""
     first, *rest = parted(tokens, "=")
     return first, [token for each in rest for token in ["=", *each]][1:]
 
 
 def pieces(lines: Iterable[str]) -> list[list[str]]:
-    """The head of a definition and its equations: each begins at the left edge."""
+    """Return the head of a definition and its equations, which begin at the left edge."""
     return grouped(lines, lambda line: not line.startswith(" "))
 
 
 def grouped(lines: Iterable[str], begins: Callable[[str], bool]) -> list[list[str]]:
-    """Lines in groups, each from a line that begins one to the next such line."""
+    """Return groups of lines, which begin with a first line and end before the next one."""
     found: list[list[str]] = []
     for line in lines:
         if begins(line) or not found:
@@ -185,7 +220,7 @@ def grouped(lines: Iterable[str], begins: Callable[[str], bool]) -> list[list[st
 
 
 def head_words(definition: Definition, head: list[str]) -> list[Word]:
-    """The words of a definition's head: its type, or the parameters and fields of a record or the cases of a data."""
+    """Return the words of a definition's head: its type, or the parameters with the fields or the cases."""
     tokens = tokens_of(head)
     walk = Walk()
     if definition.section:
@@ -206,13 +241,13 @@ def head_words(definition: Definition, head: list[str]) -> list[Word]:
 
 
 def fields(head: list[str]) -> list[list[str]]:
-    """The lines of each field of a record, or of each case of a data."""
+    """Return the lines of the fields of a record, or of the cases of a data."""
     begin = next(place for place, line in enumerate(head) if line.rstrip().endswith("where")) + 1
     return grouped(head[begin:], lambda line: not line.startswith("   "))
 
 
 def with_field(definition: Definition, name: str) -> Definition | None:
-    """A record of which this field alone stands, or nothing where it has no such field."""
+    """Return a record with only this field, or nothing where it has no such field."""
     head, *_ = pieces(definition.code)
     begin = len(head) - sum(len(lines) for lines in fields(head))
     chosen = [lines for lines in fields(head) if name in tokens_of(lines[:1])[: tokens_of(lines[:1]).index(":")]]
@@ -222,15 +257,15 @@ def with_field(definition: Definition, name: str) -> Definition | None:
 
 
 def paragraphs(comment: list[str]) -> list[list[str]]:
-    """A comment in parts: its head, and what it says of fields, each of which begins with a field's name."""
+    """Return the parts of a comment: its head, and its texts on fields, which begin with a field's name."""
     return grouped(comment, lambda line: line.startswith("-- `"))
 
 
 def words_of(definition: Definition, is_constructor: Callable[[str], bool]) -> list[tuple[str, tuple[str, ...]]]:
-    """The words of a definition in their order, each once: the name, and what follows it behind dots."""
+    """Return the words of a definition in their order, once: the name, and its fields after dots."""
     head, *equations = pieces(definition.code)
     used = head_words(definition, head)
-    # An operator stands between its sides by the parts of its name.
+    # An operator occurs between its sides by the parts of its name.
     own = {definition.name, *definition.name.split("◌")}
     for lines in [] if definition.kind == "proof" else equations:
         first, right = equation(tokens_of(lines))

@@ -1,4 +1,4 @@
-"""All specs and all code of the repository, and what a word in them means.
+"""All specs and all code of the repository, and the meanings of their words.
 
 A word means a definition of ours, a type of our code, or a word of the kit. What is reached from a clause is each
 definition and each type that its words mean, and so on from these. A type leads on by its fields and its ghost members;
@@ -18,9 +18,9 @@ from statement import source as rust, words
 
 # Words of the language itself: they are explained at the head of the statement.
 LANGUAGE = {"Unit", "tt", "⊥", "absurd", "×", "¬"}
-# What finds a proof.
+# The words that find a proof.
 TACTICS = {"omega", "cc", "grind", "search", "simp", "rw", "assumption", "hlevel"}
-# What each file of code has without bringing it in.
+# The names that every file of code has without an import.
 ALWAYS = {"Some", "None", "Ok", "Err", "Option", "Result"}
 
 
@@ -33,17 +33,17 @@ class KitWord:
 
     @property
     def label(self) -> str:
-        """Its crate and its name."""
+        """Return its crate and its name."""
         return f"{self.crate}.{self.name}"
 
 
-# What a word may mean, and words with what each means.
+# A possible meaning of a word, and words with their meanings.
 Item = antt.Definition | rust.Type | KitWord
 Links = dict[str, Item]
 
 
 class Unknown(Exception):
-    """A word that nothing brings in."""
+    """A word without an import."""
 
 
 class World:
@@ -61,7 +61,7 @@ class World:
             self.load(crate)
 
     def load(self, crate: str) -> None:
-        """Reads the files of a crate."""
+        """Read the files of a crate."""
         for path in sorted((self.root / "crates" / crate / "specs").rglob("*.antt")):
             steps = path.relative_to(self.root / "crates").with_suffix("").parts
             module = "Rattle." + ".".join(steps)
@@ -71,7 +71,7 @@ class World:
             self.code[name] = rust.read(crate, name, path.read_text())
 
     def type_of(self, crate: str, name: str, path: Sequence[str] = ()) -> rust.Type:
-        """The type of this name that a crate has, or passes on: that of the named file, where there are several."""
+        """Return the type of this name that a crate has or passes on: that of the named file, if there are several."""
         files = [code for code in self.code.values() if code.crate == crate]
         found = [code.types[name] for code in files if name in code.types]
         exact = [kind for kind in found if Path(kind.path).with_suffix("").parts[3:] == tuple(path)]
@@ -83,17 +83,17 @@ class World:
         return self.type_of(*passed[0])
 
     def law(self, path: str, name: str) -> list[tuple[rust.Function, rust.Clause]]:
-        """The clauses of the functions of this name in a file of code, each with its function."""
+        """Return the clauses of the functions of this name in a file of code, with their functions."""
         laws = [function for function in self.code[path].functions if function.name == name]
         return [(law, clause) for law in laws for clause in law.clauses]
 
     def stated(self, path: str, name: str) -> Item:
-        """What a name of a file of specs or proofs is."""
+        """Return the meaning of a name of a file of specs or proofs."""
         module = path.removeprefix("crates/").removesuffix(".antt").replace("/", ".")
         return self.target(f"Rattle.{module}", name)
 
     def target(self, module: str, name: str) -> Item:
-        """What a name of a module is."""
+        """Return the meaning of a name of a module."""
         _, crate, *rest = module.split(".")
         if crate not in self.crates:
             return KitWord(crate, name)
@@ -102,7 +102,7 @@ class World:
             return self.type_of(crate, steps[-1], steps[:-1])
         specs = self.specs.get(module) or self.proofs(module)
         if specs is None:
-            # The constructors of a `data` stand in a module of its name.
+            # The constructors of a `data` are in a module of its name.
             above, _, last = module.rpartition(".")
             return self.target(above, last)
         if name in specs.definitions:
@@ -114,7 +114,7 @@ class World:
         raise Unknown(f"{module} has no definition {name}")
 
     def proofs(self, module: str) -> antt.Specs | None:
-        """A file of proofs, if this is one: those alone are read that evidence points at, and what they bring in."""
+        """Return a file of proofs, if this is one: only those of evidence and their imports are read."""
         path = Path(self.root, "crates", *module.split(".")[1:]).with_suffix(".antt")
         if ".proofs." in module and path.is_file():
             self.specs[module] = antt.read(module, str(path.relative_to(self.root)), path.read_text())
@@ -122,7 +122,7 @@ class World:
 
     def item_of(self, brought: Mapping[str, antt.Name], aliases: Mapping[str, str],
                 own: Mapping[str, antt.Definition], head: str, path: Sequence[str]) -> Item | None:
-        """What a word means where these names are brought in, or nothing."""
+        """Return the meaning of a word with these imports, or nothing."""
         if head in own:
             return own[head]
         if head in brought:
@@ -135,7 +135,7 @@ class World:
         return None
 
     def is_constructor(self, specs: antt.Specs, token: str) -> bool:
-        """Whether a name in a pattern is a constructor; else it is a variable."""
+        """Return whether a name in a pattern is a constructor; otherwise it is a variable."""
         head = token.split(".")[0]
         brought = specs.brought.get(head)
         if head in specs.constructors or token in words.KIT_CONSTRUCTORS or ("." in token and head in specs.aliases):
@@ -148,7 +148,7 @@ class World:
         return brought.module.startswith("Rattle.rs_") and (owner is None or brought.name in owner.constructors)
 
     def links(self, item: Item) -> Links:
-        """What each word of a definition or a type means, by the word, in the order of its text."""
+        """Return the meanings of the words of a definition or a type, by the word, in the order of its text."""
         if item not in self.known:
             found: list[tuple[str, Item]] = []
             if isinstance(item, rust.Type):
@@ -159,11 +159,11 @@ class World:
         return self.known[item]
 
     def uses(self, item: Item) -> list[Item]:
-        """What a definition or a type reaches at once."""
+        """Return the direct reach of a definition or a type."""
         return [*dict.fromkeys(self.links(item).values())]
 
     def links_of_definition(self, item: antt.Definition) -> list[tuple[str, Item]]:
-        """What the words of a definition mean, each with its word."""
+        """Return the meanings of the words of a definition, with the words."""
         specs, found = self.specs[item.module], list[tuple[str, Item]]()
         own = {**specs.constructors, **specs.definitions}
         for head, path in words.words_of(item, lambda token: self.is_constructor(specs, token)):
@@ -176,7 +176,7 @@ class World:
         return found
 
     def links_of_type(self, item: rust.Type) -> list[tuple[str, Item]]:
-        """What the words of a type mean that contracts see, each with its word."""
+        """Return the meanings of the words of a type that contracts see, with the words."""
         local = {*re.findall(r"\b([a-z_]\w*):", item.text), "self", "Self", item.name}
         found = [] if item.value else self.rust_types(item.path, blanked(item.text))
         for text in [item.value] if item.value else [ghost for _, ghost in item.ghosts]:
@@ -188,14 +188,14 @@ class World:
         return found
 
     def rust_types(self, path: str, text: str) -> list[tuple[str, Item]]:
-        """The types of our code that a text of code names."""
+        """Return the types of our code that a text of code names."""
         names = rust.WORD.findall(rust.VARIANT.sub("", text))
         found = [(name, self.rust_word(self.code[path], {}, name, [])) for name in names]
         return [(name, item) for name, item in found if isinstance(item, rust.Type)]
 
     def ghost_words(self, path: str, brought: Mapping[str, antt.Name], bounds: Mapping[str, str], local: set[str],
                     text: str) -> list[tuple[str, Item]]:
-        """What the words of a clause, or of a ghost member, mean."""
+        """Return the meanings of the words of a clause, or of a ghost member."""
         code, found = self.code[path], list[tuple[str, Item]]()
         walk = words.Walk(local)
         walk.expression(words.tokens_of(text.splitlines()))
@@ -209,7 +209,7 @@ class World:
         return found
 
     def rust_word(self, code: rust.Code, bounds: Mapping[str, str], head: str, steps: list[str]) -> Item | None:
-        """A type of the code by its name, or the trait of a type parameter, whose ghost members a clause names."""
+        """Return a type of the code by its name, or the trait of a type parameter whose members a clause names."""
         name = bounds.get(head, head)
         crate, other = (code.crate, name) if name in code.types else code.used.get(name, ("", ""))
         if crate in self.crates:
@@ -219,13 +219,13 @@ class World:
         return KitWord(crate, other if head == name else ".".join([other, *steps[:1]])) if crate else None
 
     def links_of_clause(self, function: rust.Function, clause: rust.Clause) -> Links:
-        """What the words of a clause mean, and those of the signature that it belongs to."""
+        """Return the meanings of the words of a clause and of its signature."""
         found = self.ghost_words(function.path, function.brought, function.bounds, function.local, clause.inner)
         links = dict([*found, *self.rust_types(function.path, function.signature)])
         return links | ({clause.part.name: clause.part} if clause.part else {})
 
     def part_of(self, function: rust.Function, clause: rust.Clause, name: str) -> rust.Clause | None:
-        """The clause as one that says a field of its record alone, `IsMade.ready`; nothing where that has none."""
+        """Return the clause with only a field of its record, `IsMade.ready`; nothing where it has none."""
         record, _, field = name.partition(".")
         definition = self.links_of_clause(function, clause).get(record)
         is_said = clause.inner.split()[:1] == [record]
@@ -235,7 +235,7 @@ class World:
         return replace(clause, part=part) if part else None
 
     def function(self, crate: str, label: str) -> rust.Function:
-        """The function of a crate by its name, `Type::name` or `name`."""
+        """Return the function of a crate by its name, `Type::name` or `name`."""
         owner, _, name = label.rpartition("::")
         functions = [function for code in self.code.values() if code.crate == crate for function in code.functions]
         found = [function for function in functions if (function.owner, function.name) == (owner, name)]

@@ -1,8 +1,8 @@
-"""Copies of a function, each beside it under its own name: on them edits of the function are tried, many in one check.
+"""Copies of a function under names of their own, so that one check tries many edits of the function.
 
-A copy has the function's contract and proof files, and an edit's body. What the prover refuses of it, it would of the
-function, since names alone differ: a function that any other text of the crate's contracts, specs or proofs names is
-not copied.
+A copy has the function's contract and proof files, and an edit's body. The prover refuses a copy if it would refuse the
+edited function, since only names differ: a function that another text of the crate's contracts, specs or proofs names
+is not copied.
 """
 
 import re
@@ -14,32 +14,34 @@ from rattle.code import functions_of, item_of
 
 
 def proof_folder(symbol: str) -> Path:
-    """Where a function's proof files stand in its crate."""
+    """Return the folder of a function's proof files in its crate."""
     return Path("proofs", *symbol.split("::")[1:])
 
 
 def has_proof_of_its_own(folder: str | Path, symbol: str) -> bool:
-    """Whether a function of a crate is proved by hand, or calls itself, which gives its proof's folder a +."""
+    """Return whether a function is proved by hand, or calls itself, which gives its proof's folder a +."""
     place = Path(folder, proof_folder(symbol))
     return (place / "Proof.antt").is_file() or (place.parent / f"+{place.name}").is_dir()
 
 
 def proof_module(symbol: str) -> str:
-    """By what name proof files speak of a function's proof."""
+    """Return the name of a function's proof in proof files."""
     crate, *names = symbol.split("::")
     return ".".join(["Rattle", crate, "proofs", *names])
 
 
 @cache
 def texts_of(folder: str | Path) -> list[tuple[Path, str]]:
-    """The texts of a crate's code, specs and proofs, by their files."""
+    """Return the texts of a crate's code, specs and proofs, by their files."""
     return [(file, file.read_text()) for part in ("src", "specs", "proofs") for file in Path(folder, part).rglob("*")
             if file.is_file()]
 
 
 def can_be_copied(edit: Edit, folder: str | Path) -> bool:
-    """Whether an edit changes one function alone, whose copy can stand beside it.
-    It is no method of a trait, does not call itself, has no proof by hand, and only its own proof files name it."""
+    """Return whether an edit changes only one function, and that can be copied.
+
+    It is no method of a trait, does not call itself, has no proof by hand, and only its own proof files name it.
+    """
     if edit.function is None or len(edit.symbols) != 1 or len({path for path, _, _ in edit.pairs}) != 1:
         return False
     symbol = next(iter(edit.symbols))
@@ -52,7 +54,7 @@ def can_be_copied(edit: Edit, folder: str | Path) -> bool:
 
 
 def with_copy(texts: Texts, folder: str | Path, edit: Edit, edited: Texts, number: int) -> tuple[Texts, set[str]]:
-    """These texts, with a copy of the function that the edit changes, as `edited` has it, and the copy's proof files;
+    """Return these texts with a copy of the function that the edit changes, as in `edited`, and the copy's proof files;
     and the copy's symbol, in a set."""
     symbol, path = next(iter(edit.symbols)), edit.pairs[0][0]
     text, new_text = texts.get(path) or Path(folder, path).read_text(), edited[path]

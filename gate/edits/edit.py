@@ -1,4 +1,4 @@
-"""Must-fail edits: what each changes, and what came of it."""
+"""Must-fail edits: their changes, and their outcomes."""
 
 import os
 import re
@@ -15,7 +15,7 @@ Texts = dict[str, str]
 
 
 class Outcome(Enum):
-    """What came of an edit. All but the first are errors of the gate."""
+    """The outcome of an edit. All but the first are errors of the gate."""
 
     REFUSED = "refused"
     PROVED = "NOT REFUSED"
@@ -47,7 +47,7 @@ class Edit:
 
 def of_crate(root: str | Path, name: str, known: Mapping[str, str]) -> list[Edit]:
     """The edits of a crate, with the goals that are known.
-    A file has lines 'file: PATH', each before pairs of lines 'old: TEXT' and 'new: TEXT'."""
+    A file has lines 'file: PATH', followed by pairs of lines 'old: TEXT' and 'new: TEXT'."""
     found: list[Edit] = []
     for file in sorted(Path(root, "crates", name, "must-fail").glob("*.edit")):
         pairs: list[tuple[str, str, str]] = []
@@ -90,7 +90,7 @@ def look(edit: Edit, folder: str | Path, symbols: Iterable[str]) -> None:
         end = max(start, text.index(old) + len(old) - len(os.path.commonprefix([old[::-1], new[::-1]])))
         every = functions_of(text) if path.startswith("src/") else []
         inside = [one for one in every if one.start < start and end < one.end]
-        # Of a function inside another one it could not be told which of them fails.
+        # In a function inside another one, an error may be of either.
         symbol = symbol_of(path, inside[0], symbols) if len(inside) == 1 else None
         found.setdefault(symbol, inside[0] if inside else None)
     edit.symbols = {symbol for symbol in found if symbol} if all(found) else set()

@@ -1,10 +1,10 @@
-"""Tries must-fail edits: wrong bodies, each of which the prover has to refuse by a goal of the function it changes.
+"""Try must-fail edits: wrong bodies that the prover has to refuse by a goal of the changed function.
 
-Many edits of bodies are tried in one check, each on a copy of its function where that can be copied, and each is
-refused by an error or an open goal of that very copy. One that has none there is tried once more alone, as is one that
-changes more.
+One check tries many edits of bodies, on copies of their functions where these can be copied, and an edit is refused by
+an error or an open goal of its own copy. An edit without one there is tried again alone, and so is one that changes
+more.
 
-Prints a line for each edit, and names those that may be refused for their form alone (forms.py). The last line is
+It prints a line for every edit, and names those that may be refused only for their form (forms.py). The last line is
 'N refused, M not refused', and the status is 1 where M is not 0. With --record the file goals.txt is written, and
 record.txt for the crates of which every edit was refused.
 """
@@ -52,12 +52,12 @@ class Trial:
         return report
 
     def check_each(self, room: str, every: Sequence[tuple[Texts, list[str]]]) -> list[kit.Report]:
-        """Checks each of these, texts with the functions that are looked at, side by side as turns come free."""
+        """Check these texts with the functions to look at, in parallel as turns come free."""
         with ThreadPoolExecutor(max(1, len(every))) as pool:
             return list(pool.map(lambda one: self.check(room, *one), every))
 
     def can_be_tried(self, one: Edit, room: str, symbols: list[str] | None) -> bool:
-        """Whether an edit fits a crate that is proved, with these symbols of its functions; finds what it changes."""
+        """Return whether an edit fits a proved crate with these symbols; find the functions that it changes."""
         if symbols is None:
             one.why = "the crate itself is not proved"
         elif edit.applied(one, self.folder) is None:
@@ -85,7 +85,7 @@ class Trial:
                 self.judge_alone(one, report)
 
     def try_together(self, room: str, edits: list[Edit]) -> None:
-        """Tries edits of bodies, many in one check, with all but the known goal of each left out."""
+        """Try edits of bodies, many in one check, with only the known goal of an edit."""
         groups = grouped(edits, self.folder)
         for group in groups:
             for symbol, one in group.tried.items():
@@ -101,7 +101,7 @@ class Trial:
         if not found.is_read:
             count = len(group.tried)
             print(f"-- {self.name}: {count} edits are tried alone, since one is not read: {found.first}", flush=True)
-        # An error of a function that none of them changes could come from any: then each is tried alone.
+        # An error of a function that none of them changes could come from any: then they are tried one by one.
         if found.is_read and {*found.own} <= {*group.tried}:
             for symbol, one in group.tried.items():
                 if symbol in found.own and (not one.goal or one.goal in found.refused(symbol)):
@@ -131,7 +131,7 @@ class Trial:
 def try_crates(root: str, names: Iterable[str], jobs: int,
                when_done: Callable[[str, list[Edit]], None] = lambda name, edits: None) -> dict[str, list[Edit]]:
     """Tries the edits of these crates, `jobs` checks side by side, and gives the edits by crate.
-    It prints what came of each, and calls `when_done` as each crate is done."""
+    It prints their outcomes, and calls `when_done` after every crate."""
     built, known = Libraries(root, jobs), goals.known(root)
     trials = [Trial(name, found, built) for name in names if (found := edit.of_crate(root, name, known))]
     # A crate's own checks go side by side too, so that the last leaves no processor idle. Crates of most edits begin.
@@ -148,7 +148,7 @@ def try_crates(root: str, names: Iterable[str], jobs: int,
 
 
 def note(root: str, name: str, edits: list[Edit]) -> None:
-    """Writes by which goal each of a crate's edits was refused, and its line of the record where every one was."""
+    """Write the goals that refused a crate's edits, and its line of the record if all were refused."""
     goals.write(root, name, edits)
     if all(one.is_refused for one in edits):
         record.write(root, [name])

@@ -19,9 +19,9 @@ from rattle.code import Function, blanked, functions_of
 from rattle.crates import crates_of
 
 ROOT = Path(__file__).resolve().parents[2]
-# What adds a way out, or a branch.
+# The words that add a way out, or a branch.
 WAYS = re.compile(r"\breturn\b|\bbreak\b|\bif\b|\belse\b|\bmatch\b|\bwhile\b|\bfor\b|\bloop\b|\?|&&|\|\||=>")
-# What a text binds, or calls: an answer by hand cites it by this name.
+# The names that a text binds or calls: an answer by hand cites them.
 NAMED = re.compile(r"\blet (?:mut )?(\w+)|\bfor (\w+) in\b|\b(\w+)\(")
 
 
@@ -47,13 +47,13 @@ def hand_files(crate: Path, path: str, function: Function) -> list[Path]:
 
 
 def why_of_form(crate: Path, one: edit.Edit) -> str:
-    """What of form an edit breaks, or nothing."""
+    """Return the part of the form that an edit breaks, or nothing."""
     texts = edit.applied(one, crate)
     if texts is None or not one.goal:
         return ""
     for path, old, _ in one.pairs:
         before, after = (crate / path).read_text(), texts[path]
-        # (a later pair may change what an earlier one made)
+        # (a later pair may change the text of an earlier one)
         at = before.find(old)
         function = next((one for one in functions_of(before) if one.start < at < one.end), None)
         if function is None:
@@ -74,7 +74,7 @@ def why_of_form(crate: Path, one: edit.Edit) -> str:
 
 
 def told(root: Path, crates: Iterable[str]) -> list[str]:
-    """A line for each edit of these crates that is named, and one that tells how many there are."""
+    """Return a line for every edit of these crates that is named, and one with their number."""
     known = goals.known(root)
     every = [(root / "crates" / crate, one) for crate in crates for one in edit.of_crate(root, crate, known)]
     lines = [f"{one.label}: {one.goal}: {why}" for crate, one in every if (why := why_of_form(crate, one))]

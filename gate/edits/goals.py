@@ -1,4 +1,4 @@
-"""The goal by which each must-fail edit was last seen refused (goals.txt), and how a trial leaves out the others.
+"""The goals that last refused must-fail edits (goals.txt), and how a trial leaves out the other goals.
 
 One open goal refuses an edit, and the prover searches long for all others. So that of an edit's line alone is tried,
 and refuses it: the others get an answer that no check takes. Where it has an answer by hand, all these stay, since one
@@ -12,13 +12,13 @@ from pathlib import Path
 
 from gate.edits import copies
 from gate.edits.edit import Edit, Outcome, Texts
-from tests.table import lines
+from rattle.tables import lines
 
 FILE = "gate/edits/goals.txt"
 HEAD = "# The goal by which each must-fail edit was last seen refused. Written by `make edits`.\n"
-# An answer by hand: what a file of them makes public.
+# An answer by hand: the public words of its file.
 ANSWERED = re.compile(r"(?m)^pub (\S+) :")
-# Where the prover's kept work names what a module declares.
+# The place in the prover's kept work that names a module's declarations.
 DECLARED = re.compile(rb"(?m)^--@ interface (\{.*\})$")
 # No name that is in scope, so an answer that is no answer; and no goal of any function.
 NO_ANSWER = "left_out_of_this_trial"
@@ -26,13 +26,13 @@ NO_GOAL = "no_goal_of_any_function"
 
 
 def known(root: str | Path) -> dict[str, str]:
-    """The goal of each edit that has a line, by its label."""
+    """Return the goals of edits with a line, by label."""
     text = Path(root, FILE).read_text() if Path(root, FILE).is_file() else ""
     return dict(line.split(": ") for line in lines(text))
 
 
 def write(root: str | Path, crate: str, edits: Iterable[Edit]) -> None:
-    """Writes the lines of a crate's edits anew. One that was not tried keeps its line, as its crate is not proved."""
+    """Rewrite the lines of a crate's edits. One that was not tried keeps its line, as its crate is not proved."""
     found = {label: goal for label, goal in known(root).items() if not label.startswith(f"{crate}/")}
     found |= {edit.label: edit.goal for edit in edits
               if edit.goal and edit.outcome in (Outcome.REFUSED, Outcome.NOT_TRIED)}
@@ -40,7 +40,7 @@ def write(root: str | Path, crate: str, edits: Iterable[Edit]) -> None:
 
 
 def of_function(work: str | Path, symbol: str) -> list[str]:
-    """The goals of a function as it is, by what kept work says that its proof declares: none where that is kept in
+    """Return the goals of a function as it is, by the declarations of its proof in kept work: none where that has
     another way, which costs only time."""
     crate, *names = symbol.split("::")
     file = next(Path(work).glob(f"*/Rattle-{crate}-proofs.{'.'.join(names)}.Proof.oantt"), None)
@@ -66,7 +66,7 @@ def beside(edit: Edit, folder: str | Path) -> list[str]:
 
 def left_out(texts: Texts, folder: str | Path, symbol: str, edit: Edit) -> Texts:
     """These texts, with the answers of a function or its copy that leave out all but the known goal of an edit.
-    Over an answer to no goal, the prover does not run once more to print what it would offer for the open ones."""
+    Over an answer to no goal, the prover does not run again to print its offers for the open ones."""
     place, goals = copies.proof_folder(symbol), beside(edit, folder)
     if copies.has_proof_of_its_own(folder, symbol):
         return texts

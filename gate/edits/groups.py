@@ -1,4 +1,4 @@
-"""Groups of must-fail edits, each of which is tried in one check."""
+"""Groups of must-fail edits that one check tries."""
 
 from collections.abc import Iterable
 from dataclasses import dataclass, field
@@ -10,7 +10,7 @@ from gate.edits.edit import Edit, Texts, applied
 
 @dataclass
 class Group:
-    """Edits that are tried in one check: the edit of each function or copy by its symbol, and the texts of all."""
+    """Edits that one check tries: by the symbols of functions or copies, and the texts of all."""
 
     tried: dict[str, Edit] = field(default_factory=dict)
     texts: Texts = field(default_factory=dict)
@@ -30,7 +30,7 @@ class Group:
 
 
 def grouped(edits: Iterable[Edit], folder: str | Path) -> list[Group]:
-    """Groups of edits, each tried in one check. Those that no copy serves come first, while each text stands once."""
+    """Return groups of edits for one check each. Edits without a copy come first, while their texts occur once."""
     groups: list[Group] = []
     for edit in sorted(edits, key=lambda one: copies.can_be_copied(one, folder)):
         if not any(group.takes(edit, folder) for group in groups):

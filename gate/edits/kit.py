@@ -49,7 +49,7 @@ def identity() -> tuple[str, str]:
 
 
 def lanes() -> int:
-    """How many checks go side by side: one a processor, with 4 GB of free memory each. None took more than 3.1 GB."""
+    """Return the number of parallel checks: one a processor and 4 GB of free memory. None took more than 3.1 GB."""
     free = int(re.findall(r"MemAvailable:\s+(\d+)", Path("/proc/meminfo").read_text())[0])
     return max(1, min(len(os.sched_getaffinity(0)), free // 4_000_000))
 

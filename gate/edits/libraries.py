@@ -1,4 +1,4 @@
-"""Builds crates, and the libraries that they stand on, where they are not built from what stands there now."""
+"""Build crates and the libraries below them, where their files changed since the last build."""
 
 import os
 import runpy
@@ -13,12 +13,12 @@ from typing import Any
 from gate.edits import kit, verdict
 from rattle.crates import below, crates_of
 
-# What is called as a crate is built, with its name and the report of its check.
+# The function to call after a build of a crate, with its name and the report of its check.
 WhenDone = Callable[[str, kit.Report], None]
 
 
 class Libraries:
-    """The crates of a repository, each built once the libraries below it are. Of a program only the proofs are kept."""
+    """The crates of a repository, built after the libraries below them. Of a program only the proofs are kept."""
 
     def __init__(self, root: str | Path, jobs: int) -> None:
         self.root, self.uses, self.jobs, self.turns = root, crates_of(root), jobs, Semaphore(jobs)
@@ -39,7 +39,7 @@ class Libraries:
                 *self.crates[name].words(["--jobs", str(jobs), "--incremental", str(work), *more])]
 
     def is_built(self, name: str) -> bool:
-        """Whether a crate is built from what stands there now, here or by `rt`, which leaves the same stamp."""
+        """Return whether a crate is built from its files, here or by `rt`, which leaves the same stamp."""
         stamp = Path(self.root, "crates", name, "out", "rlib", "stamp")
         return stamp.is_file() and stamp.read_text() == self.stamps[name]
 
@@ -49,7 +49,7 @@ class Libraries:
         return listed.read_text().split() if self.is_built(name) and listed.is_file() else None
 
     def build(self, name: str, jobs: int, when_done: WhenDone) -> str:
-        """Builds a crate over the work of its last check, hands the report on, and gives what was wrong, or ''."""
+        """Build a crate over the work of its last check, pass the report on, and return the fault, or ''."""
         folder = Path(self.root, "crates", name)
         work, built = folder / "out" / "incremental", folder / "out" / "rlib"
         shutil.rmtree(built, ignore_errors=True)
@@ -64,8 +64,10 @@ class Libraries:
         return ""
 
     def build_each(self, names: Iterable[str], when_done: WhenDone = lambda name, report: None) -> str:
-        """Builds these crates and all that they stand on, side by side, and gives what was wrong, or nothing.
-        Each crate gets the jobs that no other one waits for."""
+        """Build these crates and all below them in parallel; return the fault, or nothing.
+
+        A crate gets the jobs that no other one waits for.
+        """
         wanted = {needed for name in names for needed in (*below(self.uses, name), name)}
         waiting, wrong = [name for name in self.uses if name in wanted and not self.is_built(name)], ""
         running: dict[Future[str], tuple[str, int]] = {}

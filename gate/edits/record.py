@@ -12,19 +12,18 @@ from functools import cache
 from pathlib import Path
 
 from gate.edits import kit
-from rattle import antt, code
+from rattle import antt, code, tables
 from rattle.crates import below, crates_of
-from tests import table
 
 FILE = "gate/edits/record.txt"
 HEAD = ("# Crates all of whose must-fail edits were seen refused: name, number of edits, day, kit, hash. "
         "Written by `make edits`.\n")
-# What a text says is read once, however many crates stand above it.
+# The outline of a text is read once for all crates above it.
 outline = cache(code.outline)
 
 
 def said(path: Path) -> str:
-    """What a file of a crate says beside its comments and empty lines."""
+    """Return the text of a file of a crate without comments and empty lines."""
     text = path.read_text()
     text = {".rt": code.without_comments, ".antt": antt.without_comments}.get(path.suffix, str)(text)
     return "\n".join(line.rstrip() for line in text.splitlines() if line.strip())
@@ -59,12 +58,12 @@ def hash_of(root: str | Path, uses: Mapping[str, list[str]], name: str, logic: s
 def lines(root: str | Path) -> dict[str, tuple[str, ...]]:
     """The record's lines by crate: number of edits, day, kit and hash."""
     text = Path(root, FILE).read_text() if Path(root, FILE).is_file() else ""
-    rows = [line.split() for line in table.lines(text)]
+    rows = [line.split() for line in tables.lines(text)]
     return {row[0]: tuple(row[1:]) for row in rows if len(row) == 5}
 
 
 def uncovered(root: str | Path) -> list[str]:
-    """The crates with edits that the record does not cover as they stand."""
+    """Return the crates with edits that the record does not cover."""
     uses, known, (_, logic) = crates_of(root), lines(root), kit.identity()
     return [name for name in uses
             if edits_of(root, name) and known.get(name, ("",))[-1] != hash_of(root, uses, name, logic)]
@@ -88,7 +87,7 @@ def drawn(root: str | Path, name: str, commit: str, limit: int = 24) -> list[str
 
 
 def write(root: str | Path, names: Iterable[str]) -> None:
-    """Writes the lines of these crates anew, and drops those of crates that are gone."""
+    """Rewrite the lines of these crates, and drop those of crates that are gone."""
     uses, known, (kit_name, logic) = crates_of(root), lines(root), kit.identity()
     today = datetime.date.today().isoformat()
     for name in names:

@@ -1,4 +1,4 @@
-"""By what symbol the lines of a check name a function."""
+"""The symbols by which the lines of a check name functions."""
 
 import re
 from collections.abc import Iterable
@@ -23,7 +23,7 @@ def symbol_of(path: str, function: Function, symbols: Iterable[str]) -> str | No
     head = re.sub(r"\A(impl|trait)\s*(<([^<>]|<[^<>]*>)*>)?", "", function.block.split("where")[0]).strip()
     trait, _, owner = head.rpartition(" for ")
     owner = (words_of(owner) or [""])[0]
-    # A method of a plain impl has its type's module, wherever the impl stands.
+    # A method of a plain impl has its type's module, wherever the impl is.
     is_plain = function.block and not trait
     parts = [*([] if is_plain else module), *([owner + "".join(words_of(trait))] if function.block else []),
              function.name]

@@ -12,12 +12,12 @@ ERROR = re.compile(r"(?:\./)?((?:src|specs|proofs)/\S+?):\d+:\d+: error:? ?(.*)"
 OPEN = re.compile(r"note: src/\S+:\d+:\d+: (it is not proved that .*|`search` found no proof .*)")
 NAME = re.compile(r"\(`([^`\s]+)`\)")
 ANSWERED = re.compile(r"\A`([^`\s]+)`")
-# What the prover prints of a goal that fails at values that it found.
+# The prover's line for a goal that fails at values that it found.
 IS_FALSE = "allow values at which this goal is false"
 ITEM = re.compile(r"(?:fn|impl|struct|enum|trait) (\S+): (?:(proved)|not proved|no proof)")
 # The last line of a check that is not proved, of a whole crate or of some functions alone.
 ENDED = re.compile(r"(?m)^(?:logic=not-proved|only=\d+ proved=)")
-# Errors of a proof that names what is gone or rests on what was refused: they say nothing of its function's own goals.
+# Errors of a proof that names a removed word or relies on a refused goal: they say nothing of its function's own goals.
 SECOND_HAND = re.compile(r"has no field|is not in scope|has no `|was not admitted|that depends? on|\(nearest:")
 # Where the line of such an error is cut in two.
 CUT = re.compile(rf"\n +(?={SECOND_HAND.pattern})")
@@ -25,8 +25,10 @@ CUT = re.compile(rf"\n +(?={SECOND_HAND.pattern})")
 
 @dataclass(frozen=True)
 class Verdict:
-    """What a check says: whether all was read and some of it refused; and the first error of all.
-    Of each function it has the first error, the open goals, and the goals of which an answer by hand is refused."""
+    """The verdict of a check: whether all was read and some of it refused, and the first error.
+
+    Of every function it has the first error, the open goals, and the goals whose answer by hand is refused.
+    """
 
     is_read: bool
     own: dict[str, str]
@@ -45,7 +47,7 @@ def owner(symbol: str) -> str:
 
 
 def names_of(goals: list[str]) -> list[str]:
-    """The names of open goals: first those that the prover found to be false, then those of what a function ensures."""
+    """Return the names of open goals: first those that the prover found to be false, then those of postconditions."""
     names = [(IS_FALSE not in goal, not name[1].startswith("returns"), name[1]) for goal in goals
              if (name := NAME.search(goal))]
     return [name[-1] for name in sorted(names, key=lambda name: name[:-1])]

@@ -15,13 +15,13 @@ pub enum Call {
 #[derive(Drop)]
 pub struct FailsOnce<T> {
     inner: T,
-    /// How many calls come before the one that fails. `None` after it.
+    /// The number of calls before the one that fails. `None` after it.
     calls_before: Option<u32>,
     failed: Option<Call>,
 }
 
 impl<T> FailsOnce<T> {
-    /// Fails at this call, counted from 0.
+    /// Makes an end that fails at this call, counted from 0.
     pub fn new(inner: T, fails_at: u32) -> FailsOnce<T> {
         FailsOnce {
             inner,
@@ -30,12 +30,12 @@ impl<T> FailsOnce<T> {
         }
     }
 
-    /// The kind of the call that failed, if one has.
+    /// Returns the kind of the call that failed, if one has.
     pub fn failed(&self) -> Option<Call> {
         self.failed
     }
 
-    /// Counts a call, and fails if it is the one.
+    /// Counts a call, and fails if it is the call to fail.
     fn answer(&mut self, call: Call) -> io::Result<()> {
         self.calls_before = match self.calls_before {
             Some(0) => {
@@ -53,7 +53,7 @@ impl<T> FailsOnce<T> {
 }
 
 impl FailsOnce<Vec<u8>> {
-    /// What was written.
+    /// Returns the bytes that were written.
     pub fn bytes(&self) -> &[u8] {
         &self.inner
     }

@@ -25,7 +25,8 @@ const PUT: &[u8] =
 /// The word to go on.
 const WORD: &[u8] = b"HTTP/1.1 100 Continue\r\n\r\n";
 
-/// The result of the put where the reader and the writer fail from these calls on, and how many bytes were written.
+/// Returns the result of the put if the reader and the writer fail from these calls on, and the number of bytes
+/// written.
 fn put_between(
     alloc: Global,
     source: &mut Source<MemoryDisk>,
@@ -38,7 +39,7 @@ fn put_between(
     (served, writer.get_ref().bytes().len())
 }
 
-/// Lets each read fail in turn. The source does nothing, and at most the word to go on is written.
+/// Lets every read fail in turn. The source is unchanged, and at most the word to go on is written.
 fn fails_at_each_read(
     rt: &(impl Abort + AllocGlobal),
     source: &mut Source<MemoryDisk>,
@@ -59,7 +60,7 @@ fn fails_at_each_read(
     Ok(())
 }
 
-/// Lets each write fail in turn. The put is done only where the word to go on was written.
+/// Lets every write fail in turn. The put is done only if the word to go on was written.
 fn fails_at_each_write(
     rt: &(impl Abort + AllocGlobal),
     source: &mut Source<MemoryDisk>,
@@ -76,7 +77,7 @@ fn fails_at_each_write(
     Err("a hundred writes".into())
 }
 
-/// Lets one call of the writer fail, and the ones after it work. The put is done where the word to go on was flushed
+/// Lets one call of the writer fail, and the ones after it work. The put is done if the word to go on was flushed
 /// before.
 fn fails_once_writing(
     rt: &(impl Abort + AllocGlobal),

@@ -12,7 +12,7 @@ use std::test::Fail;
 /// Three commands. The last line ends with the input.
 const PUBLISHED: &[u8] = b"publish\npublish\npublish";
 
-/// How many lines end in these bytes.
+/// Returns the number of lines that end in these bytes.
 fn lines_in(bytes: &[u8]) -> usize {
     bytes.iter().filter(|b| **b == b'\n').count()
 }
@@ -49,7 +49,7 @@ fn fails_reading(
     Ok(())
 }
 
-/// Lets each read fail in turn, for pieces of several lengths.
+/// Lets every read fail in turn, for pieces of several lengths.
 fn fails_at_each_read(
     rt: &(impl Abort + AllocGlobal),
     source: &mut Source<MemoryDisk>,
@@ -68,7 +68,7 @@ fn a_reader_fails_at_each_read(rt: HostRuntime) -> Result<(), Fail> {
     fails_at_each_read(&rt, &mut source)
 }
 
-/// A line, its answer, and how many commands have been accepted then.
+/// A line, its answer, and the number of commands that have been accepted then.
 type Row<'a> = (&'a [u8], &'a [u8], u64);
 
 /// A script with one line for most statements.
@@ -138,7 +138,7 @@ fn fails_writing(
     Ok(ended.is_err())
 }
 
-/// The same on a new source.
+/// Does the same on a new source.
 fn fails_writing_new(
     rt: &(impl Abort + AllocGlobal),
     input: &[u8],
@@ -148,7 +148,7 @@ fn fails_writing_new(
     fails_writing(rt, &mut source, input, fail_at)
 }
 
-/// Lets each write of a script fail in turn, and counts them.
+/// Lets every write of a script fail in turn, and counts them.
 fn fails_at_each_write(rt: &(impl Abort + AllocGlobal), input: &[u8]) -> Result<u64, Fail> {
     for fail_at in 0..200 {
         if !fails_writing_new(rt, input, fail_at)? {
@@ -164,13 +164,13 @@ fn a_writer_fails_at_each_call(rt: HostRuntime) -> Result<(), Fail> {
     for (line, _, _) in &TALK {
         input.extend_from_slice(line)?;
     }
-    // Each answer is at least one write.
+    // Every answer is at least one write.
     let writes = fails_at_each_write(&rt, &input)?;
     assert!(rt; writes >= TALK.len() as u64, "{writes}");
     Ok(())
 }
 
-/// How many commands were accepted for these answers, or `None` where the bytes end within an answer.
+/// Returns the number of commands accepted for these answers, or `None` if the bytes end within an answer.
 fn commands_answered(written: &[u8]) -> Option<u64> {
     let mut rest = written;
     let mut accepted = 0;
@@ -192,7 +192,7 @@ fn commands_answered(written: &[u8]) -> Option<u64> {
 }
 
 /// Runs the script of the table, one byte a read, over a writer that fails at one call, and answers the kind of that
-/// call. No line begins after the fault. Where a write failed, its own line is done.
+/// call. No line begins after the fault. If a write failed, its own line is done.
 fn fails_once_writing(
     rt: &(impl Abort + AllocGlobal),
     source: &mut Source<MemoryDisk>,
@@ -223,7 +223,7 @@ fn fails_once_writing(
     Ok(failed)
 }
 
-/// The same on a new source.
+/// Does the same on a new source.
 fn fails_once_writing_new(
     rt: &(impl Abort + AllocGlobal),
     input: &[u8],
@@ -245,7 +245,7 @@ fn a_writer_fails_once_at_each_call(rt: HostRuntime) -> Result<(), Fail> {
             Some(Call::Flush) => flushes = flushes.saturating_add(1),
             Some(_) => {}
             None => {
-                // One before each read, and one at the end.
+                // One flush before every read, and one at the end.
                 assert!(rt; flushes as usize == input.len() + 2);
                 return Ok(());
             }
@@ -254,7 +254,7 @@ fn a_writer_fails_once_at_each_call(rt: HostRuntime) -> Result<(), Fail> {
     Err("two hundred calls".into())
 }
 
-/// Runs the three commands, one byte a read, over a reader that fails at one read. Nothing after it is done.
+/// Runs the three commands, one byte a read, over a reader that fails at one read. No command after it is done.
 fn fails_once_reading(
     rt: &(impl Abort + AllocGlobal),
     source: &mut Source<MemoryDisk>,
@@ -285,7 +285,7 @@ fn a_reader_fails_once_at_each_read(rt: HostRuntime) -> Result<(), Fail> {
     Ok(())
 }
 
-/// Runs a script from memory.
+/// Runs a script from memory, and checks its answers.
 fn is_answered(
     rt: &(impl Abort + AllocGlobal),
     source: &mut Source<MemoryDisk>,
@@ -320,7 +320,7 @@ show /resource/b
 publish
 ";
 
-/// Runs that script over a device that fails in the first `verify`. Nothing changes, and the source stays open.
+/// Runs that script over a device that fails in the first `verify`. The source is unchanged and stays open.
 fn goes_on_after_a_fault(
     rt: &(impl Abort + AllocGlobal),
     source: &mut Source<MemoryDisk>,

@@ -16,7 +16,7 @@ true_or_not : (b : Bool) → (b ≡ false → ⊥) → IsTrue b
 true_or_not true not_false = refl
 true_or_not false not_false = absurd (not_false refl)
 
--- a number that cannot fail to be a limit is one
+-- a number is a limit if it is impossible that it is no limit
 limit_or_not : (limit : ℕ) → (¬ ¬ IsLimit limit) → IsLimit limit
 limit_or_not limit may = elim (cases_lt limit 2) [
   | inl few ↦ absurd (may (λ is. absurd (omega (arith, few, is.low))))

@@ -21,18 +21,18 @@ use Rattle.rs_store.specs.declared.copying.CopyRefusal.TheVariants.{Closed, Faul
 use Rattle.rs_io.specs.declared.fault.StreamFault.{StreamFault}
 use Rattle.rs_io.specs.declared.fault.StreamFault.TheVariants as fault
 
--- how to make a source: the bytes of its disk, its base, and its item limit
+-- the parameters of a new source: the bytes of its disk, its base, and its item limit
 pub record Made : Type 0 where
   pub size : ℕ
   pub base : List ℕ
   pub limit : ℕ
 
--- which connections to serve: the port, and how many
+-- the connections to serve: the port, and their number
 pub record Serving : Type 0 where
   pub port : ℕ
   pub count : ℕ
 
--- what the arguments ask for
+-- a task of the program, by its arguments
 pub data Task : Type 0 where
   -- run a script on a new source in memory
   mem : Made → Task
@@ -45,7 +45,7 @@ pub data Task : Type 0 where
   -- copy the source on the file of the first name to a new file of the second name, of this many bytes
   copy : List ℕ → List ℕ → ℕ → Task
 
--- where both numbers are valid: a limit past 65,535 is cut to it
+-- the parameters, if both numbers are valid; a limit past 65,535 is cut to it
 abbrev pub with_numbers : Option ℕ → List ℕ → Option ℕ → Option Made
 with_numbers None base limit = None
 with_numbers (Some size) base None = None
@@ -55,7 +55,7 @@ with_numbers (Some size) base (Some limit) = Some (record { size = size; base = 
 abbrev pub made_of : List ℕ → List ℕ → List ℕ → Option Made
 made_of size base limit = with_numbers (number_in 18 size) base (number_in 18 limit)
 
--- `mem SIZE BASE LIMIT`, by what follows the word `mem`; and so on
+-- the task of `mem SIZE BASE LIMIT`, by the arguments after the word `mem`; the same for the other commands
 abbrev pub mem_of : List (List ℕ) → Option Task
 mem_of (size ∷ base ∷ limit ∷ []) = option_map mem (made_of size base limit)
 mem_of _ = None
@@ -70,7 +70,7 @@ abbrev pub run_of : List (List ℕ) → Option Task
 run_of (file ∷ []) = Some (run file)
 run_of _ = None
 
--- where both numbers are valid and in range
+-- the connections to serve, if both numbers are valid and in range
 abbrev pub served_if : Option ℕ → Option ℕ → Option Serving
 served_if (Some port) (Some count) =
     if nat_le port 65535 && nat_le 1 count && nat_le count 1000000000 then Some (record { port = port; count = count }) else None
@@ -90,7 +90,7 @@ abbrev pub copy_of : List (List ℕ) → Option Task
 copy_of (old ∷ new ∷ size ∷ []) = option_map (copy old new) (number_in 18 size)
 copy_of _ = None
 
--- what a command and its arguments ask for
+-- the task of a command and its arguments
 abbrev pub task_of : List ℕ → List (List ℕ) → Option Task
 task_of command arguments =
     if bytes_eq command (codes "mem") then mem_of arguments
@@ -100,12 +100,12 @@ task_of command arguments =
     else if bytes_eq command (codes "copy") then copy_of arguments
     else None
 
--- what the arguments of the program ask for, its name first
+-- the task of the arguments of the program; the first argument is the name of the program
 abbrev pub asked_of : List (List ℕ) → Option Task
 asked_of (program ∷ command ∷ arguments) = task_of command arguments
 asked_of _ = None
 
--- what the program makes of its arguments
+-- the arguments as the program reads them
 abbrev pub made_by : SourceArguments → Made
 made_by made = record { size = made.size; base = made.base.now; limit = made.limit }
 
@@ -119,7 +119,7 @@ asked_by (Run file) = run file.now
 asked_by (Serve file serving) = serve file.now (served_by serving)
 asked_by (Copy old new size) = copy old.now new.now size
 
--- the exit status: 2 for wrong arguments, 1 for each other error
+-- the exit status: 2 for wrong arguments, 1 for all other errors
 abbrev pub exit_status : ProgramError → ℕ
 exit_status Usage = 2
 exit_status Exists = 1
@@ -134,17 +134,17 @@ exit_status NoMemory = 1
 exit_status Read = 1
 exit_status Write = 1
 
--- arguments that cannot be read are wrong, except for want of memory
+-- arguments that cannot be read are wrong, unless memory ran out
 abbrev pub unread_of : ErrorKind → ProgramError
 unread_of OutOfMemory = NoMemory
 unread_of _ = Usage
 
--- the error of the program by the fault of a script
+-- the error of the program, by the fault of a script
 abbrev pub error_of : StreamFault → ProgramError
 error_of fault.Read = Read
 error_of fault.Write = Write
 
--- by the fault of a formatting
+-- the same, by the fault of a formatting
 abbrev pub error_of_format : FormatFault → ProgramError
 error_of_format formatting.BadBase = BadBase
 error_of_format formatting.BadLimit = BadLimit
@@ -152,19 +152,19 @@ error_of_format formatting.TooSmall = TooSmall
 error_of_format formatting.Device = Device
 error_of_format formatting.NoMemory = NoMemory
 
--- by the fault of opening or making a file
+-- the same, by the fault of opening or making a file
 abbrev pub error_of_file : FileFault → ProgramError
 error_of_file file.Exists = Exists
 error_of_file file.Device = Device
 
--- by the fault of opening a source
+-- the same, by the fault of opening a source
 abbrev pub error_of_opening : OpenFault → ProgramError
 error_of_opening opening.NotASource = NotASource
 error_of_opening opening.Damaged = Damaged
 error_of_opening opening.Device = Device
 error_of_opening opening.NoMemory = NoMemory
 
--- And of a copy. A source is closed after a fault of its device.
+-- The same, by the refusal of a copy. A source is closed after a fault of its device.
 abbrev pub error_of_copy : CopyRefusal → ProgramError
 error_of_copy Closed = Device
 error_of_copy (Fault copying.TooSmall) = TooSmall

@@ -1,3 +1,4 @@
 pub mod Arguments
+pub mod Connections
 pub mod Files
 pub mod Serving

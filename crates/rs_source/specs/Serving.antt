@@ -1,7 +1,7 @@
--- What connections do to a source.
-use Rattle.std.specs.Prelude.{◌≡◌, ◌⊎◌, ℕ, Bool, zero, suc, true, false, nat_le, List, [], ◌++◌, Option, None, Some, Result, Ok, Err}
+-- The effect of the accepted connections of a listener on a source.
+use Rattle.std.specs.Prelude.{◌≡◌, ◌≤◌, ℕ, Bool, false, nat_le, List, [], ◌∷◌, length, map, flat_map, Option, Result, Ok, Err}
 use Rattle.rs_disk.specs.Medium.{DiskState}
-use Rattle.rs_io.specs.Watch.{calls, failures, is_flushed, Ends}
+use Rattle.rs_io.specs.Watch.{calls, Ends}
 use Rattle.rs_model.specs.declared.command.Command.{Command}
 use Rattle.rs_store.specs.declared.running.Ack.{Ack}
 use Rattle.rs_store.specs.Source.{Stored}
@@ -16,8 +16,10 @@ use Rattle.rs_http.specs.Turn.{Turn, turn}
 use Rattle.rs_http.specs.Serving.{Serves, Breaks, Halts}
 use Rattle.rs_http.specs.Told.{TellsRequest}
 use Rattle.rs_http.specs.Statuses.{code_of}
+use Rattle.rs_source.specs.Connections.{Connection, AreNew}
 
--- what one request does between these two ends, by its result: it was answered, or the reader failed in it, or the writer failed
+-- the calls of one request on these two ends, by its result: it was answered, or its reader failed, or its writer
+-- failed
 abbrev pub Requests : {D : Type 0} {device : D → DiskState} → Turn device → Ends → Result Served StreamFault → Type 0
 Requests turn ends (Ok served) = Serves turn ends served
 Requests turn ends (Err Read) = Breaks turn ends
@@ -28,71 +30,68 @@ abbrev pub was_refused : Result Served StreamFault → Bool
 was_refused (Ok (Answered status)) = nat_le 400 (code_of status)
 was_refused result = false
 
--- The ends of a connection are new: no call of them was made, none failed, and nothing waits to be flushed.
-pub record AreNew (ends : Ends) : Type 0 where
-  pub unread : calls ends.left ≡ 0
-  pub unwritten : calls ends.before ≡ 0
-  pub reader : (failures ends.left).all ≡ 0
-  pub writer : (failures ends.before).all ≡ 0
-  pub flushed : is_flushed ends.before ≡ true
-
--- One request was served at this moment, between two new ends.
--- `request`: what these ends gave and took is one request, with this result.
--- `answered`: the source got one command at most, the one that the request asks for, and the response tells its answer.
--- `once`, `run`: that is at most one command of the model, and a run.
-pub record Connects {D : Type 0} (device : D → DiskState) (old : Stored D) (now : ℕ) (new : Stored D) : Type 0 where
-  pub ends : Ends
+-- The one request of a connection was served, at the moment of the connection and between its ends.
+-- `request`: the bytes that these ends gave and took are one request, with this result.
+-- `answered`: the source got at most one command, the one that the request asks for, and the response reports its
+-- answer.
+-- `once`, `run`: the connection is at most one command of the model, and a run.
+pub record IsServed {D : Type 0} (device : D → DiskState) (old : Stored D) (connection : Connection) (new : Stored D) : Type 0 where
   pub result : Result Served StreamFault
-  pub request : Requests (turn device old now new) ends result
-  pub begun : AreNew ends
-  pub answered : TellsRequest (turn device old now new) ends
-  pub once : GoesOnOnce device old now new
+  pub request : Requests (turn device old connection.now new) connection.ends result
+  pub answered : TellsRequest (turn device old connection.now new) connection.ends
+  pub once : GoesOnOnce device old connection.now new
   pub run : RunsAtMost device old 1 new
 
--- What one connection does. Where it could not be accepted, or there was no memory for its buffers, the source stays as
--- it was. Otherwise its one request is served, at some moment. The kit's sockets and clocks have no contract. So no clause says which of
--- the two it is, that the ends are those of the connection, or that the moment is that of the clock.
-abbrev pub MayConnect : {D : Type 0} → (D → DiskState) → Stored D → Stored D → Type 0
-MayConnect device old new = (new ≡ old) ⊎ ((now : ℕ) × Connects device old now new)
+-- the same, and whether the request was refused
+abbrev pub IsServedAs : {D : Type 0} → (D → DiskState) → Stored D → Connection → Bool → Stored D → Type 0
+IsServedAs device old connection refused new = (one : IsServed device old connection new) × (refused ≡ was_refused one.result)
 
--- What one connection does that is accepted at this moment, and whether its request was refused. Without memory for its buffers there is no request.
-abbrev pub TellsRefused : {D : Type 0} → (D → DiskState) → Stored D → ℕ → Stored D → Bool → Type 0
-TellsRefused device old now new refused =
-    ((new ≡ old) × (refused ≡ false)) ⊎ ((one : Connects device old now new) × (refused ≡ was_refused one.result))
+-- These connections were served in sequence, all between new ends. The source after a connection serves the next one.
+abbrev pub AreServed : {D : Type 0} → (D → DiskState) → Stored D → List Connection → Stored D → Type 0
+AreServed device old [] new = new ≡ old
+AreServed {D} device old (connection ∷ connections) new =
+    (mid : Stored D) × AreNew connection.ends × IsServed device old connection mid × AreServed device mid connections new
 
--- what this many connections do, one after another
-abbrev pub Connections : {D : Type 0} → (D → DiskState) → Stored D → ℕ → Stored D → Type 0
-Connections device old zero new = new ≡ old
-Connections {D} device old (suc count) new = (mid : Stored D) × Connections device old count mid × MayConnect device mid new
+-- A connection, and the command that the source got from it with its answer, if any.
+pub record Told : Type 0 where
+  pub connection : Connection
+  pub got : Option AnsweredCommand
 
--- One connection was told what its source did.
--- `ends`: its reader and its writer, before and behind it. `is_new`: no call of this writer was made before, so it took nothing else.
--- `tells`, `got_is`: the source got this command at most, which the bytes of the reader ask for, and the writer took its answer, or a
--- beginning of it.
-pub record IsTold {D : Type 0} (device : D → DiskState) (old : Stored D) (got : Option AnsweredCommand) (new : Stored D) : Type 0 where
-  pub now : ℕ
-  pub ends : Ends
-  pub is_new : calls ends.before ≡ 0
-  pub tells : TellsRequest (turn device old now new) ends
-  pub got_is : tells.got ≡ got
+-- The source got at most this command from the connection, at the moment of the connection. The bytes of its reader ask
+-- for the command, and its writer took the answer, or a beginning of it. The writer had no earlier calls, so it took no
+-- other bytes.
+pub record IsTold {D : Type 0} (device : D → DiskState) (old : Stored D) (told : Told) (new : Stored D) : Type 0 where
+  pub is_new : calls told.connection.ends.before ≡ 0
+  pub tells : TellsRequest (turn device old told.connection.now new) told.connection.ends
+  pub got_is : tells.got ≡ told.got
 
--- One connection was told, or it was not served and left the source as it was.
-abbrev pub MayBeTold : {D : Type 0} → (D → DiskState) → Stored D → Option AnsweredCommand → Stored D → Type 0
-MayBeTold device old None new = (new ≡ old) ⊎ IsTold device old None new
-MayBeTold device old (Some got) new = IsTold device old (Some got) new
+-- Connections were answered in sequence, all from the source as the previous one left it.
+abbrev pub AreTold : {D : Type 0} → (D → DiskState) → Stored D → List Told → Stored D → Type 0
+AreTold device old [] new = new ≡ old
+AreTold {D} device old (told ∷ later) new = (mid : Stored D) × IsTold device old told mid × AreTold device mid later new
 
--- So many connections were told, one after another, and these are all commands that the source got from them, with its answers. `mid`
--- is the source when the last connection begins. So each is told of what the source did in its own turn.
-abbrev pub AreTold : {D : Type 0} → (D → DiskState) → Stored D → ℕ → List (Command × ℕ) → List Ack → Stored D → Type 0
-AreTold device old zero commands acks new = (commands ≡ []) × (acks ≡ []) × (new ≡ old)
-AreTold {D} device old (suc count) commands acks new =
-    (mid : Stored D) × (before : List (Command × ℕ)) × (early : List Ack) × (last : Option AnsweredCommand)
-    × (commands ≡ before ++ command_of last) × (acks ≡ early ++ ack_of last)
-    × AreTold device old count before early mid × MayBeTold device mid last new
+-- the commands that the source got from connections, in their order
+abbrev pub commands_of : List Told → List (Command × ℕ)
+commands_of told = flat_map (λ t. command_of t.got) told
 
--- So many connections were told, and the source did what they were told.
-pub record AnswersConnections {D : Type 0} (device : D → DiskState) (old : Stored D) (count : ℕ) (new : Stored D) : Type 0 where
-  pub commands : List (Command × ℕ)
-  pub acks : List Ack
-  pub told : AreTold device old count commands acks new
-  pub answered : HasAnswered device old commands acks new
+-- the answers to them
+abbrev pub acks_of : List Told → List Ack
+acks_of told = flat_map (λ t. ack_of t.got) told
+
+-- All of these connections were answered, and the source did their commands alone.
+pub record AnswersConnections {D : Type 0} (device : D → DiskState) (old : Stored D) (connections : List Connection) (new : Stored D) : Type 0 where
+  pub told : List Told
+  pub connections_are : map (λ t. t.connection) told ≡ connections
+  pub each : AreTold device old told new
+  pub answered : HasAnswered device old (commands_of told) (acks_of told) new
+
+-- A listener accepted at most `count` connections, and the source served them.
+-- `came`: the listener accepted these connections; `from` is the listener before, `to` the listener after.
+-- `served`, `answers`: the effects of the connections, and their answers.
+pub record ServesAccepted {D L : Type 0} (device : D → DiskState) (accepted : L → List Connection → L → Type 0)
+    (from : L) (old : Stored D) (count : ℕ) (to : L) (new : Stored D) : Type 0 where
+  pub connections : List Connection
+  pub came : accepted from connections to
+  pub few : length connections ≤ count
+  pub served : AreServed device old connections new
+  pub answers : AnswersConnections device old connections new

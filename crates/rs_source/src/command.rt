@@ -1,4 +1,4 @@
-//! What the program is asked to do.
+//! The command line of the program.
 
 ghost use Rattle.std.specs.Prelude.{◌≡◌, map, option_map};
 ghost use Rattle.std.specs.String.{string_bytes};
@@ -6,7 +6,7 @@ ghost use Rattle.rs_source.specs.Arguments.{asked_by, asked_of, copy_of, format_
 
 use rs_record::number;
 
-/// SIZE, BASE and LIMIT: how to make a source.
+/// SIZE, BASE and LIMIT: the parameters of a new source.
 #[derive(Clone, Copy, Debug, PartialEq, Eq)]
 pub struct SourceArguments<'a> {
     /// SIZE: the number of bytes of its disk.
@@ -17,7 +17,7 @@ pub struct SourceArguments<'a> {
     pub limit: u16,
 }
 
-/// PORT and COUNT: which connections to serve.
+/// PORT and COUNT: the connections to serve.
 #[derive(Clone, Copy, Debug, PartialEq, Eq)]
 pub struct ServingArguments {
     /// PORT, or 0 for a free one.
@@ -26,7 +26,7 @@ pub struct ServingArguments {
     pub count: u64,
 }
 
-/// What the program is asked to do.
+/// A task that the command line requests.
 #[derive(Clone, Copy, Debug, PartialEq, Eq)]
 pub enum Invocation<'a> {
     /// `mem SIZE BASE LIMIT`: runs a script on a new source in memory.
@@ -41,7 +41,7 @@ pub enum Invocation<'a> {
     Copy(&'a str, &'a str, u64),
 }
 
-/// SIZE, BASE and LIMIT, or `None` where SIZE or LIMIT is no number of 1 to 18 digits.
+/// Reads SIZE, BASE and LIMIT. Returns `None` where SIZE or LIMIT is not a number of 1 to 18 digits.
 fn source_arguments<'a>(size: &str, base: &'a str, limit: &str) -> Option<SourceArguments<'a>>
     ensures { option_map made_by result ≡ made_of size.now base.now limit.now }
 {
@@ -54,11 +54,11 @@ fn source_arguments<'a>(size: &str, base: &'a str, limit: &str) -> Option<Source
     })
 }
 
-/// The greatest COUNT.
+/// The maximum COUNT.
 const MOST_CONNECTIONS: u64 = 1_000_000_000;
 
-/// PORT and COUNT, or `None` where one of them is no number of 1 to 18 digits, PORT is past 65,535, or COUNT is not
-/// from 1 to 1,000,000,000.
+/// Reads PORT and COUNT. Returns `None` where one of them is not a number of 1 to 18 digits, PORT is past 65,535, or
+/// COUNT is not from 1 to 1,000,000,000.
 fn serving_arguments(port: &str, count: &str) -> Option<ServingArguments>
     ensures { option_map served_by result ≡ served_of port.now count.now }
 {
@@ -73,7 +73,7 @@ fn serving_arguments(port: &str, count: &str) -> Option<ServingArguments>
     })
 }
 
-/// What `mem SIZE BASE LIMIT` asks for.
+/// Returns the task of `mem SIZE BASE LIMIT`.
 fn mem_asked(arguments: &[String]) -> Option<Invocation<'_>>
     ensures { option_map asked_by result ≡ mem_of (map string_bytes arguments.now) }
 {
@@ -84,7 +84,7 @@ fn mem_asked(arguments: &[String]) -> Option<Invocation<'_>>
     Some(Invocation::Mem(made))
 }
 
-/// What `format FILE SIZE BASE LIMIT` asks for.
+/// Returns the task of `format FILE SIZE BASE LIMIT`.
 fn format_asked(arguments: &[String]) -> Option<Invocation<'_>>
     ensures { option_map asked_by result ≡ format_of (map string_bytes arguments.now) }
 {
@@ -95,7 +95,7 @@ fn format_asked(arguments: &[String]) -> Option<Invocation<'_>>
     Some(Invocation::Format(file, made))
 }
 
-/// What `run FILE` asks for.
+/// Returns the task of `run FILE`.
 fn run_asked(arguments: &[String]) -> Option<Invocation<'_>>
     ensures { option_map asked_by result ≡ run_of (map string_bytes arguments.now) }
 {
@@ -105,7 +105,7 @@ fn run_asked(arguments: &[String]) -> Option<Invocation<'_>>
     Some(Invocation::Run(file))
 }
 
-/// What `serve FILE PORT COUNT` asks for.
+/// Returns the task of `serve FILE PORT COUNT`.
 fn serve_asked(arguments: &[String]) -> Option<Invocation<'_>>
     ensures { option_map asked_by result ≡ serve_of (map string_bytes arguments.now) }
 {
@@ -116,7 +116,7 @@ fn serve_asked(arguments: &[String]) -> Option<Invocation<'_>>
     Some(Invocation::Serve(file, serving))
 }
 
-/// What `copy OLD NEW SIZE` asks for.
+/// Returns the task of `copy OLD NEW SIZE`.
 fn copy_asked(arguments: &[String]) -> Option<Invocation<'_>>
     ensures { option_map asked_by result ≡ copy_of (map string_bytes arguments.now) }
 {
@@ -127,7 +127,8 @@ fn copy_asked(arguments: &[String]) -> Option<Invocation<'_>>
     Some(Invocation::Copy(old, new, size))
 }
 
-/// What the arguments of the program ask for, its name first, or `None` where they are wrong.
+/// Returns the task that the arguments of the program request, or `None` where they are wrong. The first argument is
+/// the name of the program.
 pub fn asked(words: &[String]) -> Option<Invocation<'_>>
     ensures { option_map asked_by result ≡ asked_of (map string_bytes words.now) }
 {

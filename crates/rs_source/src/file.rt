@@ -5,12 +5,13 @@ ghost use Rattle.rs_file.specs.Replay.{opened};
 ghost use Rattle.rs_model.specs.State.{start_of, Source as State};
 ghost use Rattle.rs_record.specs.Base.{is_base};
 ghost use Rattle.rs_directory.specs.Limit.{IsLimit};
+ghost use Rattle.rs_disk.specs.Runs.{RunsWriting};
 ghost use Rattle.rs_image.specs.StateOfImage.{StandsFor};
 ghost use Rattle.rs_file.specs.File.{state_of as device_of};
 ghost use Rattle.rs_store.specs.OnlyReads.{OnlyReads};
 ghost use Rattle.rs_store.specs.Source.{Holds, state_of};
 ghost use Rattle.rs_source.specs.Arguments.{error_of_file, IsOfCopy, IsOfFormat, IsOfOpen};
-ghost use Rattle.rs_source.specs.Files.{MayBegin, IsUncopied, IsUnformatted, IsUnmade, IsUnopened};
+ghost use Rattle.rs_source.specs.Files.{MayBegin, IsCopiedTo, IsUncopied, IsUnformatted, IsUnmade, IsUnopened, HeadlineOfFile};
 
 use crate::command::SourceArguments;
 use crate::program::ProgramError;
@@ -23,7 +24,7 @@ use std::alloc::Global;
 use std::fs::File;
 use std::rt::Files;
 
-/// Why a file gave no source.
+/// The reason why a file gave no source.
 #[derive(Drop)]
 pub struct NoSource<D> {
     /// The file as a disk, where it could be opened or made.
@@ -33,7 +34,7 @@ pub struct NoSource<D> {
 }
 
 impl<D> NoSource<D> {
-    /// The file could be opened or made, and it gave no source.
+    /// Returns the reason where the file could be opened or made but gave no source.
     fn on(disk: D, error: ProgramError) -> NoSource<D>
         ensures disk { result.disk ≡ Some disk }
         ensures error { result.error ≡ error }
@@ -68,10 +69,10 @@ impl<D: Drop> From<NoSource<D>> for ProgramError {
 ///
 /// # Errors
 ///
-/// [`ProgramError::Exists`] where the name is taken, and [`ProgramError::Device`] where the file cannot
-/// be made. Then [`ProgramError::BadBase`], [`ProgramError::BadLimit`] and [`ProgramError::TooSmall`],
-/// in this order, exactly where their cause is there; [`ProgramError::Device`] where a call on the file
-/// fails; and [`ProgramError::NoMemory`]. After each of these the file stays.
+/// [`ProgramError::Exists`] where the name is taken, and [`ProgramError::Device`] where the file cannot be made. Then
+/// [`ProgramError::BadBase`], [`ProgramError::BadLimit`] and [`ProgramError::TooSmall`], in this order, exactly where
+/// their cause is there; [`ProgramError::Device`] where a call on the file fails; and [`ProgramError::NoMemory`]. After
+/// all of these errors the file stays.
 pub fn format_file<R: Files<File = File>, S: Start>(
     rt: &R,
     alloc: Global,
@@ -82,6 +83,11 @@ pub fn format_file<R: Files<File = File>, S: Start>(
     ensures holds { IfOk result (λ source.
         Holds (device_of S.Start) source (start_of made.now.base.now made.now.limit 0)) }
     ensures size { IfOk result (λ source. (device_of S.Start source.disk).size ≡ made.now.size) }
+
+    // The calls from the new file on, of which none failed.
+    ensures runs { IfOk result (λ source. RunsWriting ⊥ (opened S.Start.first made.now.size)
+        (device_of S.Start source.disk)) }
+
     ensures bad_base { IsErrAnd result (λ lack. lack.error ≡ ProgramError.BadBase)
         → is_base made.now.base.now ≡ false }
     ensures bad_limit { IsErrAnd result (λ lack. lack.error ≡ ProgramError.BadLimit)
@@ -128,6 +134,9 @@ pub fn open_file<R: Files<File = File>, S: Start>(
     ensures held { IfOk result (λ source. IsTrue (device_of S.Start source.disk).honest
         → StandsFor S.Start.first (state_of (device_of S.Start) source)) }
 
+    // After a stop of any number of sessions.
+    ensures headline { HeadlineOfFile (device_of S.Start) S.Start.first result }
+
     ensures err { IfErr result (λ lack. IsOfOpen lack.error) }
     ensures unopened { IfErr result (IsUnopened (device_of S.Start) S.Start.first) }
 {
@@ -145,8 +154,8 @@ pub fn open_file<R: Files<File = File>, S: Start>(
 ///
 /// [`ProgramError::Exists`] where the name is taken, and [`ProgramError::Device`] where the file cannot
 /// be made. Then [`ProgramError::TooSmall`] and [`ProgramError::Full`], in this order;
-/// [`ProgramError::Device`] where a call on either disk fails; [`ProgramError::Damaged`] where a body
-/// does not have its recorded SHA-256; and [`ProgramError::NoMemory`]. After each of these the file stays.
+/// [`ProgramError::Device`] where a call on either disk fails; [`ProgramError::Damaged`] where a body does not have its
+/// recorded SHA-256; and [`ProgramError::NoMemory`]. After all of these errors the file stays.
 pub fn copy_to_file<R: Files<File = File>, D: Disk, S: Start>(
     rt: &R,
     source: &mut Source<D>,
@@ -159,6 +168,11 @@ pub fn copy_to_file<R: Files<File = File>, D: Disk, S: Start>(
         → IsTrue (D.state source.new.disk).honest
         → IfOk result (λ copy. Holds (device_of S.Start) copy s) }
     ensures size { IfOk result (λ copy. (device_of S.Start copy.disk).size ≡ size) }
+
+    // The content of the new file at every moment, from its first call on.
+    ensures copied { IfOk result (IsCopiedTo D.state (device_of S.Start) source.old source.new
+        (opened S.Start.first size)) }
+
     ensures too_small { IsErrAnd result (λ lack. lack.error ≡ ProgramError.TooSmall) → size < 8192 }
     ensures in_range { OnOk result (8192 ≤ size) }
     ensures err { IfErr result (λ lack. IsOfCopy lack.error) }

@@ -8,6 +8,7 @@
 
 mod command;
 mod file;
+mod listener;
 mod program;
 mod serving;
 
@@ -106,7 +107,7 @@ fn run_copy<R: Files<File = File> + Print + AllocGlobal>(
     println!(rt; "copied {size}").map_err(|_| ProgramError::Write)
 }
 
-/// Does what the arguments of the program ask for.
+/// Performs the task that the arguments of the program request.
 fn run<
     R: Files<File = File>
         + Net<Listener = TcpListener, Stream = TcpStream>

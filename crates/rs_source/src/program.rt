@@ -18,7 +18,7 @@ use std::alloc::{AllocError, Global};
 use std::io::ErrorKind;
 use thiserror::Error;
 
-/// Why the program ends with a status other than 0. It prints the text on standard error.
+/// The cause of an exit status other than 0. The program prints its text on standard error.
 #[derive(Clone, Copy, Debug, PartialEq, Eq, Error)]
 pub enum ProgramError {
     /// The arguments are wrong: status 2.
@@ -27,7 +27,7 @@ pub enum ProgramError {
     /// The name of a new file is taken.
     #[error("rs_source: Exists")]
     Exists,
-    /// BASE is no lawful base.
+    /// BASE is not a lawful base.
     #[error("rs_source: BadBase")]
     BadBase,
     /// LIMIT is not from 2 to 4,000.
@@ -60,7 +60,7 @@ pub enum ProgramError {
 }
 
 impl ProgramError {
-    /// The exit status.
+    /// Returns the exit status.
     pub fn status(self) -> u8
         ensures { result ≡ exit_status self }
     {
@@ -158,7 +158,7 @@ impl From<CopyRefusal> for ProgramError {
     }
 }
 
-/// The error where the arguments cannot be read: there was not enough memory, or one of them is no text.
+/// Returns the error where the arguments cannot be read: there was not enough memory, or an argument is not text.
 pub fn unread(kind: ErrorKind) -> ProgramError
     ensures { result ≡ unread_of kind }
 {

@@ -8,15 +8,10 @@ ghost use Rattle.rs_store.specs.Advancing.{GoesOnBy, GoesOnOnce};
 ghost use Rattle.rs_http.specs.Counted.{RunsAtMost};
 ghost use Rattle.rs_http.specs.Told.{TellsRequest};
 ghost use Rattle.rs_http.specs.Turn.{turn};
-ghost use Rattle.rs_source.specs.Serving.{
-  Requests,
-  was_refused,
-  MayConnect,
-  TellsRefused,
-  Connections,
-  AnswersConnections,
-};
+ghost use Rattle.rs_source.specs.Connections.{Connection, ServesAt};
+ghost use Rattle.rs_source.specs.Serving.{Requests, was_refused, AreServed, AnswersConnections, ServesAccepted};
 
+use crate::listener::{Listener, Service};
 use rs_disk::Disk;
 use rs_http::{Served, serve_one};
 use rs_io::{StreamFault, Watched};
@@ -30,17 +25,16 @@ use std::net::{Shutdown, TcpListener, TcpStream};
 use std::rt::Clock;
 use std::time::Duration;
 
-/// The most bytes that one read of a socket takes.
+/// The maximum number of bytes of one read of a socket.
 const READ_AHEAD: usize = 32_768;
 
-/// How long the rest of a refused request is read, in seconds, about.
+/// The approximate time for which the program reads the rest of a refused request, in seconds.
 const LONGEST_REST: u64 = 2;
 
-/// How many reads of the rest of a refused request are made: at most 64 MiB.
+/// The maximum number of reads of the rest of a refused request: at most 64 MiB.
 const MOST_READS: usize = 8192;
 
-/// The moment this long after the beginning of 1970, cut to its millisecond, but no later than the last
-/// moment.
+/// Returns the moment this long after the beginning of 1970, cut to its millisecond, but no later than the last moment.
 fn moment_after(since_1970: Duration) -> Moment
     ensures { result ≡ min (as_nanos since_1970 / 1_000_000) 253_402_300_799_999 }
 {
@@ -51,7 +45,7 @@ fn moment_after(since_1970: Duration) -> Moment
     }
 }
 
-/// The moment that a clock shows. It is the moment 0 where the clock shows a time before 1970 or cannot be read, and
+/// Returns the moment that a clock shows: the moment 0 where the clock shows a time before 1970 or cannot be read, and
 /// the last moment where the clock shows a later time.
 pub fn moment_of(since_1970: io::Result<Duration>) -> Moment
     ensures shown { IfOk since_1970 (λ t.
@@ -64,8 +58,8 @@ pub fn moment_of(since_1970: io::Result<Duration>) -> Moment
     }
 }
 
-/// Serves one request at the moment `now`, between any two ends. It is [`serve_one`] with fewer words: its answers' three
-/// clauses are one relation here, which is what a connection's clause has of them.
+/// Serves one request at the moment `now`, between any two ends, by [`serve_one`]. One relation here replaces three
+/// clauses of its answers; the clause of a connection needs only this relation.
 fn serve_request<D: Disk, R: Read, W: Write>(
     alloc: Global,
     source: &mut Source<D>,
@@ -73,12 +67,12 @@ fn serve_request<D: Disk, R: Read, W: Write>(
     writer: &mut Watched<W>,
     now: Moment,
 ) -> Result<Served, StreamFault>
-    // What these two ends gave and took is one request, with this result.
+    // The bytes that these two ends gave and took are one request, with this result.
     ensures request { Requests (turn D.state source.old now source.new)
         (ends_of R.remaining reader.old reader.new W.contents writer.old writer.new) result }
 
-    // The source got one command at most, the one that the request asks for, and what the writer took tells
-    // its answer. Only to a GET or a HEAD is a 200 anything else.
+    // The source got at most one command, the one that the request asks for, and the bytes that the writer took report
+    // its answer. A 200 to any other request than a GET or a HEAD reports the reply.
     ensures answered { TellsRequest (turn D.state source.old now source.new)
         (ends_of R.remaining reader.old reader.new W.contents writer.old writer.new) }
 
@@ -88,21 +82,37 @@ fn serve_request<D: Disk, R: Read, W: Write>(
     serve_one(alloc, source, reader, writer, now)
 }
 
-/// Whether a request was answered with a refusal.
+/// Returns whether a request was answered with a refusal.
 fn is_refused(served: Result<Served, StreamFault>) -> bool
     ensures { result ≡ was_refused served }
 {
     matches!(served, Ok(Served::Answered(status)) if status.code() >= 400)
 }
 
-/// Serves one request of a connection at the moment `now`, and answers whether it was refused.
-fn answer_stream<D: Disk>(
+impl<D: Disk> Service for Source<D> {
+    ghost use Rattle.rs_source.specs.Serving.{IsServedAs};
+
+    ghost serves = { λ old connection refused new. IsServedAs D.state old connection refused new };
+
+    fn serve<R: Read, W: Write>(
+        &mut self,
+        alloc: Global,
+        reader: &mut Watched<R>,
+        writer: &mut Watched<W>,
+        now: Moment,
+    ) -> bool {
+        is_refused(serve_request(alloc, self, reader, writer, now))
+    }
+}
+
+/// Passes the request of a connection to a service, at the moment `now`, and returns whether it was refused.
+fn answer_stream<S: Service>(
     alloc: Global,
-    source: &mut Source<D>,
+    service: &mut S,
     stream: &TcpStream,
     now: Moment,
 ) -> bool
-    ensures { TellsRefused D.state source.old now source.new result }
+    ensures { ServesAt S.serves service.old now result service.new }
 {
     let Ok(input) = BufReader::with_capacity(alloc, READ_AHEAD, stream) else {
         return false;
@@ -112,7 +122,7 @@ fn answer_stream<D: Disk>(
     };
     let mut reader = Watched::new(input);
     let mut writer = Watched::new(output);
-    is_refused(serve_request(alloc, source, &mut reader, &mut writer, now))
+    service.serve(alloc, &mut reader, &mut writer, now)
 }
 
 /// Shuts down the sending side of a connection, then reads and drops the bytes that the client still sends. A
@@ -141,7 +151,7 @@ fn read_rest<C: Clock>(stream: &TcpStream, clock: &C) {
     }
 }
 
-/// Whether the time for the rest has passed since `begun`, or the clock cannot be read.
+/// Returns whether the time for the rest has passed since `begun`, or the clock cannot be read.
 fn has_passed<C: Clock>(begun: Duration, clock: &C) -> bool {
     match clock.monotonic() {
         Ok(now) => now.saturating_sub(begun).as_secs() >= LONGEST_REST,
@@ -149,35 +159,88 @@ fn has_passed<C: Clock>(begun: Duration, clock: &C) -> bool {
     }
 }
 
-/// Accepts the next connection and serves it at the moment that the clock shows then. Does nothing where it cannot
-/// accept it.
-fn accept_one<D: Disk, C: Clock>(
+/// The connections of a socket, each at the moment that a clock shows.
+///
+/// The kit has no contract of sockets and clocks, so no clause determines the connections (`accepted`). It is trusted
+/// and tested that the ends are those of the connection, and that the moment is that of the clock.
+#[derive(Drop)]
+pub struct Sockets<'a, C: Clock> {
+    listener: &'a TcpListener,
+    clock: &'a C,
+}
+
+impl<'a, C: Clock> Listener for Sockets<'a, C> {
+    ghost use Rattle.std.specs.Prelude.{List};
+    ghost use Rattle.rs_source.specs.Connections.{Connection};
+
+    ghost accepted = { λ from connections to. Unit {0} };
+
+    fn next<S: Service>(&mut self, alloc: Global, service: &mut S) {
+        let Ok((stream, _)) = self.listener.accept() else {
+            return;
+        };
+        let now = moment_of(self.clock.since_1970());
+        if answer_stream(alloc, service, &stream, now) {
+            read_rest(&stream, self.clock);
+        }
+    }
+
+    ghost rests = { λ listener. tt };
+
+    ghost joins = { λ from at to early late came then. tt };
+}
+
+/// Serves the next connection that a listener accepts, with one request. A connection that it cannot accept leaves the
+/// source unchanged.
+pub fn serve_next<D: Disk, L: Listener>(alloc: Global, source: &mut Source<D>, listener: &mut L)
+    // From the accepted connection the source got at most one command, which is the request of its reader, at the
+    // moment of the connection; its writer took the answer. Data that the source shows was requested too. If the source
+    // held a state, its disk saw exactly this command answered from that state on. So a stop while the listener waits
+    // for the next connection finds the source in this state.
+    ensures accepted { ServesAccepted D.state L.accepted listener.old source.old 1 listener.new
+        source.new }
+{
+    held_sources_rest::<D>();
+    runs_go_on::<D>();
+    turns_are_seen::<D>();
+    listener.next(alloc, source);
+}
+
+/// Serves at most `count` connections that a listener accepts, in sequence, with one request per connection. A
+/// connection that the listener cannot accept counts too, and leaves the source unchanged.
+///
+/// A fault of a connection ends only that connection. Then the source holds the state after at most one command per
+/// connection, unless the device failed in a command and closed the source.
+pub fn serve_accepted<D: Disk, L: Listener>(
     alloc: Global,
     source: &mut Source<D>,
-    listener: &TcpListener,
-    clock: &C,
+    listener: &mut L,
+    count: u64,
 )
-    ensures { MayConnect D.state source.old source.new }
+    // The same for all of them. The next connection begins with the source that this one left.
+    ensures accepted { ServesAccepted D.state L.accepted listener.old source.old count listener.new
+        source.new }
+
+    ensures goes_on { (commands : List (Command × ℕ)) × (length commands ≤ count)
+        × GoesOnBy D.state source.old source.new commands }
+
+    // The connections together are a run of at most one counted command per connection. So whenever the disk stops, it
+    // holds the state after a prefix of these commands.
+    ensures run { RunsAtMost D.state source.old count source.new }
 {
-    let Ok((stream, _)) = listener.accept() else {
-        return;
-    };
-    let now = moment_of(clock.since_1970());
-    if answer_stream(alloc, source, &stream, now) {
-        read_rest(&stream, clock);
+    held_sources_rest::<D>();
+    runs_go_on::<D>();
+    runs_recover::<D>();
+    turns_are_seen::<D>();
+    for _ in 0..count {
+        serve_next(alloc, source, listener);
     }
 }
 
-/// Serves `count` connections, one after another, with one request each. The request comes at the moment that the clock
-/// shows when the connection is accepted.
+/// Serves `count` connections of a socket, in sequence, with one request per connection. The request comes at the
+/// moment that the clock shows when the connection is accepted.
 ///
-/// A fault of a connection ends only that connection. A connection that cannot be accepted, or for which there is no
-/// memory, counts too, and leaves the source as it was. At most one command a connection makes the state that the source
-/// holds then, unless the device failed in a command and closed the source.
-///
-/// Whether a connection is accepted, what its client sends and gets, and that a response leaves behind the calls of its
-/// command, no clause says, since sockets have no contract: that is tested. The clauses say what the source did
-/// meanwhile, and with which response (`Connects`).
+/// It is [`serve_accepted`] on the connections of the socket. The clauses of that function determine the answers.
 pub fn serve_connections<D: Disk, C: Clock>(
     alloc: Global,
     source: &mut Source<D>,
@@ -185,25 +248,13 @@ pub fn serve_connections<D: Disk, C: Clock>(
     count: u64,
     clock: &C,
 )
-    ensures connections { Connections D.state source.old count source.new }
+    ensures connections { (connections : List Connection) × (length connections ≤ count)
+        × AreServed D.state source.old connections source.new
+        × AnswersConnections D.state source.old connections source.new }
     ensures goes_on { (commands : List (Command × ℕ)) × (length commands ≤ count)
         × GoesOnBy D.state source.old source.new commands }
-
-    // The connections together are a run of at most one counted command each. So whenever the disk
-    // stops, it holds the state after the first of these commands.
     ensures run { RunsAtMost D.state source.old count source.new }
-
-    // From each connection the source got one command at most, the one that its reader asked for, and its
-    // writer took the answer. What is shown was asked for too. The next connection begins with the source
-    // as this one left it. Where the source held a state at first, its disk saw all these commands answered
-    // from that state on.
-    ensures answered { AnswersConnections D.state source.old count source.new }
 {
-    held_sources_rest::<D>();
-    runs_go_on::<D>();
-    runs_recover::<D>();
-    turns_are_seen::<D>();
-    for _ in 0..count {
-        accept_one(alloc, source, listener, clock);
-    }
+    let mut sockets = Sockets { listener, clock };
+    serve_accepted(alloc, source, &mut sockets, count);
 }

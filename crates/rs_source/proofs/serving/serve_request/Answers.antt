@@ -1,4 +1,4 @@
--- Each outcome of the request.
+-- All outcomes of the request.
 use Rattle.rs_source.proofs.Connecting.{request_is}
 use Rattle.rs_source.proofs.serving.serve_request.Goals as goal
 
