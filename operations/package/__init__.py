@@ -1,1 +1,1 @@
-"""What is installed, and the Debian packages of it."""
+"""The installed files, and their Debian packages."""

@@ -21,7 +21,7 @@ NEEDED = {"dpkg-buildpackage": "dpkg-dev", "dh": "debhelper", "pybuild": "dh-pyt
 
 
 def main() -> str | int:
-    """Builds the packages; gives the exit status, or what is in the way."""
+    """Build the packages; return the exit status or an error text."""
     parser = argparse.ArgumentParser(prog="package", description=(__doc__ or "").partition("\n")[0],
                                      allow_abbrev=False)
     parser.add_argument("program", nargs="?", type=Path, default=BUILT, help="a program with its stamp")

@@ -1,8 +1,8 @@
-"""Builds the Debian packages of a program and of its tools, the source package, SHA256SUMS and PROVED, by
+"""Build the Debian packages of a program and of its tools, the source package, SHA256SUMS and PROVED, by
 dpkg-buildpackage.
 
-One commit gives the same bytes wherever it is built: every date is that of debian/changelog, which is that of
-the commit, or SOURCE_DATE_EPOCH of the environment.
+The same commit gives the same bytes on any machine: all dates are the date of debian/changelog, which is that of the
+commit, or SOURCE_DATE_EPOCH of the environment.
 """
 from __future__ import annotations
 
@@ -19,15 +19,15 @@ from operations.package.program_facts import Unfit
 from operations.package.rules import FOLDER
 from operations.package.stamp import Stamp, git, read
 
-# What is not of the sources where no git tells them.
+# Files that are no sources, for a tree without git.
 LEFT_OUT = shutil.ignore_patterns(".git", "out", "build", "made", "proved", "plain", "__pycache__", ".mypy_cache",
                                   ".hypothesis", "*.egg-info")
-# A build that takes longer hangs, in seconds.
+# The timeout of a build, in seconds.
 SECONDS = 600
 
 
 def moment() -> int:
-    """The moment of all that is packed, in seconds since 1970."""
+    """Return the moment of all packed files, in seconds since 1970."""
     text = os.environ.get("SOURCE_DATE_EPOCH") or git("log", "-1", "--format=%ct")
     if not text:
         raise Unfit("there is no git repository here: set SOURCE_DATE_EPOCH")
@@ -35,7 +35,7 @@ def moment() -> int:
 
 
 def sources(to: Path) -> None:
-    """Writes the sources into a folder: what git has, or all that lies here."""
+    """Copy the sources into a folder: the files that git lists, or without git all files of the tree."""
     listed = git("ls-files", "-z")
     if not listed:
         shutil.copytree(ROOT, to, ignore=LEFT_OUT, symlinks=True)
@@ -47,7 +47,7 @@ def sources(to: Path) -> None:
 
 
 def dated(folder: Path, version: str, when: int) -> None:
-    """Gives the changelog of Debian a version and a moment, and each file the modes of a clone."""
+    """Give Debian's changelog a version and a moment, and all files the modes of a clone."""
     path = folder / "debian/changelog"
     head, _, rest = path.read_text().partition("\n")
     body, _, tail = rest.rpartition("  ")
@@ -60,7 +60,7 @@ def dated(folder: Path, version: str, when: int) -> None:
 
 
 def run_build(folder: Path, when: int, *options: str) -> None:
-    """Runs dpkg-buildpackage."""
+    """Run dpkg-buildpackage."""
     settings = os.environ | {FOLDER: str(ROOT), "SOURCE_DATE_EPOCH": str(when), "LC_ALL": "C.UTF-8",
                              "DEB_BUILD_OPTIONS": "nocheck parallel=1"}
     build = subprocess.run(["dpkg-buildpackage", "-us", "-uc", *options], cwd=folder, env=settings, capture_output=True,
@@ -73,7 +73,7 @@ def run_build(folder: Path, when: int, *options: str) -> None:
 
 
 def prepared(room: str, program: Path, place: str, stamp: Stamp, version: str, when: int) -> Path:
-    """The sources in a new folder, with a program and its stamp in their place."""
+    """Return a new folder with the sources, a program and its stamp."""
     folder = Path(room, f"{SOURCE}-{version}")
     sources(folder)
     (folder / place).mkdir()
@@ -84,19 +84,19 @@ def prepared(room: str, program: Path, place: str, stamp: Stamp, version: str, w
 
 
 def build_plain(program: Path, stamp: Stamp, machine: str, version: str, to: Path) -> Path:
-    """Builds the package of the plain program for another machine, and gives its path. Its stamp names the compiler."""
+    """Build the package of the plain program for another machine, and return its path. Its stamp names the compiler."""
     when, to = moment(), Path(to)
     to.mkdir(parents=True, exist_ok=True)
     with tempfile.TemporaryDirectory() as room:
         folder = prepared(room, program, "plain", stamp, version, when)
-        # (what it is built with is this machine's, so what Debian wants of the other machine's is not looked for)
+        # The build tools are this machine's, so the other machine's build dependencies are not checked.
         run_build(folder, when, f"--host-arch={machine}", "--build=any", "--no-check-builddeps")
         name = f"{PLAIN_SOURCE}_{version}_{machine}.deb"
         return Path(shutil.copyfile(Path(room, name), to / name))
 
 
 def build(program: Path, version: str, to: Path, stamp: Stamp | None = None) -> list[Path]:
-    """Builds all, and gives the paths of the packages. Without a stamp, the program has to have its own."""
+    """Build all packages and return their paths. Without a stamp, the program must have its own."""
     program, when, to = Path(program), moment(), Path(to)
     stamp = stamp or read(program)
     to.mkdir(parents=True, exist_ok=True)

@@ -1,4 +1,4 @@
-"""What is installed, and where: `make install`, `make uninstall` and the packages go by this table.
+"""The installed files and their places: `make install`, `make uninstall` and the packages use this table.
 
 usage: python3 -m operations.package.places install|uninstall PROGRAM PREFIX [DESTDIR]
 (operations/docs/OPERATING.md)
@@ -13,41 +13,37 @@ from dataclasses import dataclass
 from pathlib import Path
 
 ROOT = Path(__file__).resolve().parents[2]
-# The two packages; a file of neither comes by `make install` only. For other machines PLAIN_SOURCE takes the place of
-# the first: its program is the plain one, which is not proved.
+# The two packages; only `make install` installs a file of neither. On other machines PLAIN_SOURCE, whose program is the
+# plain, unproved one, replaces SOURCE.
 SOURCE, TOOLS, PLAIN_SOURCE = "ropepeach", "ropepeach-tools", "ropepeach-plain"
-# Units that need the tools, by the word behind the dash; those of mirrors stand for no source.
+# Units that need the tools, by the word after the dash; a mirror's unit belongs to no source.
 WITH_TOOLS = ("health", "heal", "publish", "mirror", "fill", "collection")
-# The files in operations/install/ have this prefix, and names of instances.
+# The prefix and the instance name in the files of operations/install/, and the replacement for the instance name.
 WRITTEN_PREFIX, INSTANCE, PLAIN = "/usr/local/", "%i", "source"
-# What `make uninstall` takes away with all that is in it.
+# Folders that `make uninstall` removes with everything in them.
 FOLDERS = ("lib/ropepeach", "share/ropepeach", "share/doc/ropepeach")
 
 
 @dataclass(frozen=True)
 class Place:
-    """A file: its bytes, or where it leads; where it goes, below the prefix or from the root on; its mode;
-    its package.
-    """
+    """A file or link: its path, below the prefix or absolute; its bytes or its target; its mode; and its package."""
 
     path: str
     content: bytes
     mode: int = 0o644
     package: str | None = SOURCE
     leads_to: str = ""
-    # What a person changes there; it is neither written over nor taken away where it has other bytes.
+    # The administrator edits the file; a changed one is neither overwritten nor removed.
     is_settings: bool = False
 
 
 def plain(text: str) -> str:
-    """The text of a unit without an instance: that of `ropepeach.service`, which serves the source of
-    source.env.
-    """
+    """Return the text of a unit without an instance: `ropepeach.service` serves the source of source.env."""
     return text.replace(f"@{INSTANCE}", "").replace(INSTANCE, PLAIN)
 
 
 def units(folder: Path) -> Iterator[tuple[str, str]]:
-    """The units of a folder by their names, those without an instance too."""
+    """Yield the units of a folder with their names, including those without an instance."""
     for file in sorted(folder.glob("ropepeach*@.*")):
         text = file.read_text()
         yield file.name, text
@@ -56,17 +52,17 @@ def units(folder: Path) -> Iterator[tuple[str, str]]:
 
 
 def package_of(unit: str) -> str:
-    """The package that a unit is in."""
+    """Return the package of a unit."""
     word = unit.partition(".")[0].partition("@")[0].partition("-")[2]
     return TOOLS if word in WITH_TOOLS else SOURCE
 
 
 def places(program: Path, prefix: str, install: Path = ROOT / "operations/install") -> Iterator[Place]:
-    """Every place, in the order of paths within a kind."""
+    """Yield all places, sorted by path within a kind."""
 
     def of(file: Path, path: str, mode: int = 0o644, package: str = SOURCE,
            is_settings: bool = False) -> Place:
-        """The place of a file as it is here, with the prefix in its text."""
+        """Return the place of a file of the repository, with the prefix in its text."""
         content = file.read_bytes().replace(WRITTEN_PREFIX.encode(), f"{prefix}/".encode())
         return Place(path, content, mode, package, is_settings=is_settings)
 
@@ -92,32 +88,33 @@ def places(program: Path, prefix: str, install: Path = ROOT / "operations/instal
     for pages in (ROOT / "docs", ROOT / "operations/docs"):
         for file in [*sorted(pages.glob("*.md")), *sorted(pages.glob("pictures/*.*g"))]:
             yield Place(f"share/doc/ropepeach/{file.relative_to(pages)}", file.read_bytes())
-    # (packages say the licence in their file `copyright`)
+    # Packages have the licence in their file `copyright`.
     for name in ("LICENSE-MIT", "LICENSE-APACHE"):
         yield Place(f"share/doc/ropepeach/{name}", (ROOT / name).read_bytes(), package=None)
     yield of(install / "ropepeach.bash", "share/bash-completion/completions/ropepeach", package=TOOLS)
     yield of(install / "_ropepeach", "share/zsh/vendor-completions/_ropepeach", package=TOOLS)
-    yield of(ROOT / "operations/ropepeach/site.nginx", "lib/ropepeach/ropepeach/site.nginx", package=TOOLS)
+    yield of(ROOT / "operations/ropepeach/admin/site.nginx", "lib/ropepeach/ropepeach/admin/site.nginx", package=TOOLS)
     yield from command()
 
 
 def command() -> Iterator[Place]:
-    """The command `ropepeach`."""
-    for file in sorted(ROOT.glob("operations/ropepeach/*.py")):
-        yield Place(f"lib/ropepeach/ropepeach/{file.name}", file.read_bytes(), package=TOOLS)
+    """Yield the files of the command `ropepeach`."""
+    for file in sorted(ROOT.glob("operations/ropepeach/**/*.py")):
+        path = file.relative_to(ROOT / "operations")
+        yield Place(f"lib/ropepeach/{path}", file.read_bytes(), package=TOOLS)
     yield Place("lib/ropepeach/ropepeach-command", (ROOT / "operations/ropepeach-command").read_bytes(), 0o755,
                 TOOLS)
     yield Place("bin/ropepeach", b"", package=TOOLS, leads_to="../lib/ropepeach/ropepeach-command")
 
 
 def at(place: Place, prefix: str, root: str) -> Path:
-    """Where a file goes."""
+    """Return the path of a file."""
     path = place.path if place.path.startswith("/") else f"{prefix}/{place.path}"
     return Path(f"{root}{path}")
 
 
 def put(place: Place, path: Path) -> None:
-    """Writes one file, or a link, in the place of what was there."""
+    """Write a file or a link, replacing the old one."""
     path.parent.mkdir(parents=True, exist_ok=True)
     if place.is_settings and path.exists():
         return
@@ -130,20 +127,20 @@ def put(place: Place, path: Path) -> None:
 
 
 def take_away(place: Place, path: Path) -> None:
-    """Removes one file, but not what somebody has changed."""
+    """Remove a file unless it was changed."""
     if not place.is_settings or path.is_file() and path.read_bytes() == place.content:
         path.unlink(missing_ok=True)
 
 
 def main(what: str, program: str, prefix: str, root: str = "") -> None:
-    """Installs, or takes away, all files below a root."""
+    """Install or remove all files below a root."""
     prefix = prefix.rstrip("/")
     if what == "install":
         os.umask(0o022)
         for place in places(Path(program), prefix):
             put(place, at(place, prefix, root))
         return
-    # (there may be no program by now)
+    # The program may no longer exist.
     for place in places(Path(program) if os.path.exists(program) else Path(os.devnull), prefix):
         take_away(place, at(place, prefix, root))
     for folder in FOLDERS:

@@ -1,4 +1,4 @@
-"""What a program needs of the machine that it runs on, by readelf, and whether it may go into a package."""
+"""The dependencies of a program on its machine, found by readelf, and whether a package may contain it."""
 from __future__ import annotations
 
 import re
@@ -6,22 +6,22 @@ import subprocess
 from dataclasses import dataclass
 from pathlib import Path
 
-# What Debian's libc6 brings, with libgcc-s1, on which it depends; and the version that Debian 12 has of it.
+# The libraries of Debian's libc6 and of libgcc-s1, on which it depends; and the version of libc6 in Debian 12.
 LIBRARIES = {"libc.so.6", "libm.so.6", "libpthread.so.0", "libdl.so.2", "librt.so.1", "libgcc_s.so.1"}
 NEWEST = (2, 36)
-# Where programs are built: a path below one of these is one of the building machine.
+# Folders in which programs are built: a path below one of them belongs to the building machine.
 BUILT_BELOW = re.compile(rb"/(?:home|root|tmp|var/tmp|work|build|usr/src|srv)/[\w.+-]+[\w./+-]*")
-# Where Debian builds its library of Rust: the same in each program of its compiler.
+# The folder in which Debian builds its Rust library: the same in every program of its compiler.
 DEBIANS_OWN = b"/usr/src/rustc-"
 
 
 class Unfit(Exception):
-    """Why something may not go into a package."""
+    """The reason why a package may not contain something."""
 
 
 @dataclass(frozen=True)
 class Machine:
-    """A kind of machine by Debian's name for it: readelf's name, what starts a program there, and the strip for it."""
+    """A kind of machine by Debian's name: readelf's name, the program loader there, and its strip."""
 
     name: str
     elf: str
@@ -37,7 +37,7 @@ AMD64 = MACHINES["amd64"]
 
 
 def read(*words: object) -> str:
-    """What readelf says."""
+    """Return the output of readelf."""
     process = subprocess.run(["readelf", "-W", *map(str, words)], capture_output=True, text=True, timeout=60)
     if process.returncode or "Error" in process.stderr:
         raise Unfit(f"{words[-1]} is no program: {(process.stderr or process.stdout).strip()[:200]}")
@@ -45,14 +45,12 @@ def read(*words: object) -> str:
 
 
 def libraries(program: Path) -> set[str]:
-    """The libraries that a program is linked with."""
+    """Return the libraries that a program is linked with."""
     return set(re.findall(r"\(NEEDED\).*\[(.*)\]", read("-d", program)))
 
 
 def libc_version(program: Path, machine: Machine = AMD64) -> tuple[int, ...] | None:
-    """The oldest C library that has each symbol that the program wants, such as (2, 34); None if it needs no
-    library at all.
-    """
+    """Return the oldest C library that the program runs with, as in (2, 34), or None if it needs no library."""
     kind = re.search(r"Machine: +(.*)", read("-h", program))
     if not kind or kind[1].strip() != machine.elf:
         raise Unfit(f"{program} is for {kind and kind[1].strip()}, and the package for {machine.name}")
@@ -74,9 +72,7 @@ def libc_version(program: Path, machine: Machine = AMD64) -> tuple[int, ...] | N
 
 
 def loaded(program: Path) -> list[tuple[int, bytes]]:
-    """The bytes of a program that are loaded into memory, with their addresses; without the head, which names
-    the sections of the file.
-    """
+    """Return the loaded bytes of a program with their addresses, without the ELF header, which locates the sections."""
     whole, segments = Path(program).read_bytes(), []
     for at, address, size in re.findall(r"(?m)^ +LOAD +0x(\w+) 0x(\w+) 0x\w+ 0x(\w+)", read("-l", program)):
         start, length = int(at, 16), int(size, 16)
@@ -85,8 +81,9 @@ def loaded(program: Path) -> list[tuple[int, bytes]]:
 
 
 def stripped(program: Path, to: Path, machine: Machine = AMD64) -> Path:
-    """Writes a program without what is not loaded: names, and the paths of what it was built from. What is
-    loaded stays.
+    """Write a program without the parts that are not loaded, such as names and paths of the build.
+
+    Raise Unfit if a loaded byte changed.
     """
     subprocess.run([machine.strip, "--strip-all", "--remove-section=.comment", "-o", to, program], check=True,
                    timeout=60)
@@ -96,7 +93,7 @@ def stripped(program: Path, to: Path, machine: Machine = AMD64) -> Path:
 
 
 def paths_of_the_build(content: bytes, root: Path) -> list[str]:
-    """The paths of the machine that built something, as far as they stand in its bytes."""
+    """Return the paths of the building machine in some bytes."""
     found = {path for path in BUILT_BELOW.findall(content) if not path.startswith(DEBIANS_OWN)}
     return sorted(path.decode() for path in found | ({str(root).encode()}
                                                      if f"{root}/".encode() in content else set()))

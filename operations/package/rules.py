@@ -1,10 +1,10 @@
-"""What debian/rules does by itself.
+"""The steps of debian/rules that Python does.
 
-usage: python3 -m operations.package.rules bring  brings the program that `make build` left, and its stamp, into proved/
+usage: python3 -m operations.package.rules bring  copies the program of `make build`, and its stamp, into proved/
        python3 -m operations.package.rules stage  puts all files into debian/ropepeach and debian/ropepeach-tools
-For another machine than amd64 (DEB_HOST_ARCH) the program is the plain one, in plain/, and goes into
+For machines other than amd64 (DEB_HOST_ARCH) the program is the plain one, in plain/, and goes into
 debian/ropepeach-plain.
-Exit status 1 if the program or a file may not go into a package: it says why.
+Exit status 1, with an error message, if a package may not contain the program or a file.
 """
 from __future__ import annotations
 
@@ -22,12 +22,12 @@ from operations.package.program_facts import (
     AMD64, MACHINES, Machine, Unfit, libc_version, libraries, paths_of_the_build, stripped,
 )
 
-# Where `make build` leaves the program, and where a package has it from.
-# (`make package` builds in a copy of this folder)
+# The variable that names the folder of the build, since `make package` builds in a copy; the program of `make build`,
+# and its places in a package's sources.
 FOLDER = "ROPEPEACH_BUILT_FROM"
 BUILT = ROOT / "crates/rs_source/out/rs_source"
 PROVED, PLAIN = ROOT / "proved/rs_source", ROOT / "plain/rs_source"
-# By this word the stamp of a plain program begins: its compiler in place of a prover.
+# The stamp of a plain program begins with this word: it names the compiler where other stamps name a prover.
 COMPILER = "rustc "
 TEXT = """Ropepeach {version}, commit {commit}{changes} of {date}.
 
@@ -54,7 +54,7 @@ It needs {needs}.
 
 
 def machine() -> Machine:
-    """The machine that packages are built for."""
+    """Return the machine that packages are built for."""
     name = os.environ.get("DEB_HOST_ARCH") or AMD64.name
     if name not in MACHINES:
         raise Unfit(f"there is no package for {name}")
@@ -62,7 +62,7 @@ def machine() -> Machine:
 
 
 def read_stamp(program: Path, is_plain: bool) -> stamp.Stamp:
-    """The stamp of a program: of a proved one by a prover, of a plain one by a compiler."""
+    """Return the stamp of a program, which names a compiler for a plain program and a prover for a proved one."""
     known = stamp.read(program)
     if known.kit.startswith(COMPILER) != is_plain:
         kinds = ("a plain program, which is not proved", "a proved program")
@@ -71,9 +71,9 @@ def read_stamp(program: Path, is_plain: bool) -> stamp.Stamp:
 
 
 def bring() -> None:
-    """Brings the program with its stamp to where a package has it from.
+    """Copy the built program with its stamp into the sources of a package.
 
-    What an unpacked source package has there stays.
+    In an unpacked source package, the program that is already there stays.
     """
     if machine() != AMD64:
         read_stamp(PLAIN, True)
@@ -87,7 +87,7 @@ def bring() -> None:
 
 
 def text_of_proof(packed: Path, target: Machine) -> str:
-    """PROVED: from which commit, by which prover, or that nothing is proved of the program itself."""
+    """Return the text of PROVED: the commit and the prover, or that the program itself is not proved."""
     is_plain = target != AMD64
     known, libc = read_stamp(PLAIN if is_plain else PROVED, is_plain), libc_version(packed, target)
     return (PLAIN_TEXT if is_plain else TEXT).format(
@@ -101,7 +101,7 @@ def text_of_proof(packed: Path, target: Machine) -> str:
 
 
 def look(place: Place, path: str) -> None:
-    """Looks for paths of the building machine in a file, and for ones that a package has nothing at."""
+    """Raise Unfit if a file has paths of the build, or paths below /usr/local/, where packages have no files."""
     folders = [str(ROOT), os.environ.get(FOLDER, str(ROOT))]
     paths = [folder for folder in folders if f"{folder}/".encode() in place.content]
     if path == "/usr/bin/rs_source":
@@ -113,7 +113,7 @@ def look(place: Place, path: str) -> None:
 
 
 def stage() -> None:
-    """Puts the files of both packages into the folders that debhelper packs."""
+    """Put the files of both packages into the folders that debhelper packs."""
     target = machine()
     source, built = (SOURCE, PROVED) if target == AMD64 else (PLAIN_SOURCE, PLAIN)
     with tempfile.TemporaryDirectory() as room:
@@ -133,12 +133,12 @@ def stage() -> None:
 
 
 def program_of(package: str) -> Path:
-    """Where a package has its program, before it is packed."""
+    """Return the path of the program in a package before it is packed."""
     return ROOT / f"debian/{package}/usr/bin/rs_source"
 
 
 def needs(program: Path, target: Machine) -> str:
-    """The packages of Debian that a program's libraries are in, as its dependencies."""
+    """Return the Debian packages of a program's libraries, as its dependencies."""
     version = libc_version(program, target)
     if not version:
         return ""
@@ -147,10 +147,11 @@ def needs(program: Path, target: Machine) -> str:
 
 
 def check_modules() -> None:
-    """Looks whether the package has the modules that the wheel has."""
+    """Check that the package has the same modules as the wheel."""
     packed = ROOT / "debian/ropepeach-tools/usr/lib/ropepeach/ropepeach"
     wheel = next((ROOT / "debian/tmp/usr/lib").glob("python3*/dist-packages/ropepeach"), ROOT)
-    contents = [{path.name: path.read_bytes() for path in folder.glob("*.py")} for folder in (packed, wheel)]
+    contents = [{str(path.relative_to(folder)): path.read_bytes() for path in folder.rglob("*.py")}
+                for folder in (packed, wheel)]
     if contents[0] != contents[1]:
         names = sorted(name for name in contents[0] | contents[1]
                        if contents[0].get(name) != contents[1].get(name))
@@ -158,7 +159,7 @@ def check_modules() -> None:
 
 
 def main() -> str | None:
-    """Does what debian/rules asks for, or gives what is in the way."""
+    """Do the step that debian/rules asks for, or return an error text."""
     try:
         {"bring": bring, "stage": stage}[sys.argv[1]]()
     except Unfit as why:

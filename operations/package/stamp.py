@@ -1,5 +1,4 @@
-"""The stamp of a built program: of which commit and by which prover `make build` made it. No package is made
-without one.
+"""The stamp of a built program: the commit and the prover from which `make build` made it. A package needs a stamp.
 
 usage: python3 -m operations.package.stamp PROGRAM     writes PROGRAM.stamp; `make build` calls it
 """
@@ -16,15 +15,13 @@ from pathlib import Path
 from operations.package.program_facts import Unfit
 
 ROOT = Path(__file__).resolve().parents[2]
-# A repository or a kit that does not answer is not waited for any longer, in seconds.
+# The timeout of git and of the kit, in seconds.
 SECONDS = 60
 
 
 @dataclasses.dataclass(frozen=True)
 class Stamp:
-    """What is known of a program: its bytes, the commit, whether there were changes that no commit has, its
-    date, and the prover.
-    """
+    """A program's SHA-256, its commit, whether there were uncommitted changes, its date, and its prover."""
 
     sha256: str
     commit: str
@@ -33,22 +30,22 @@ class Stamp:
     kit: str
 
     def write(self, program: Path) -> None:
-        """Writes the stamp beside its program."""
+        """Write the stamp next to its program."""
         path_of(program).write_text(json.dumps(dataclasses.asdict(self), indent=2) + "\n")
 
 
 def path_of(program: Path) -> Path:
-    """Where the stamp of a program is."""
+    """Return the path of a program's stamp."""
     return program.with_name(f"{program.name}.stamp")
 
 
 def digest(program: Path) -> str:
-    """The SHA-256 of a program."""
+    """Return the SHA-256 of a program."""
     return hashlib.sha256(program.read_bytes()).hexdigest()
 
 
 def read(program: Path) -> Stamp:
-    """The stamp of a program, which has to be that of its bytes."""
+    """Return the stamp of a program, which must match its bytes."""
     if not program.is_file():
         raise Unfit(f"there is no program yet, {program}: make build")
     path = path_of(program)
@@ -65,13 +62,13 @@ def read(program: Path) -> Stamp:
 
 
 def git(*words: str) -> str:
-    """What git says of the repository, or nothing where there is none."""
+    """Return the output of git about the repository, or nothing without a repository."""
     process = subprocess.run(["git", "-C", ROOT, *words], capture_output=True, text=True, timeout=SECONDS)
     return process.stdout.strip() if process.returncode == 0 else ""
 
 
 def kit() -> str:
-    """The line by which the kit tells its name and logic."""
+    """Return the kit's line with its name and logic."""
     try:
         words = [os.environ.get("RT", "rt"), "version"]
         return subprocess.run(words, capture_output=True, text=True, check=True,
@@ -81,14 +78,14 @@ def kit() -> str:
 
 
 def made(program: Path, prover: str) -> Stamp:
-    """The stamp of a program that was built of the repository as it is now."""
+    """Return the stamp of a program that was built from the current repository."""
     changes = git("status", "--porcelain", "--untracked-files=no")
     return Stamp(digest(program), git("rev-parse", "HEAD"), bool(changes),
                  int(git("log", "-1", "--format=%ct") or 0), prover)
 
 
 def main() -> str | None:
-    """Writes a stamp, or gives what is in the way."""
+    """Write a stamp, or return an error text."""
     program = Path(sys.argv[1])
     try:
         made(program, kit()).write(program)

@@ -22,19 +22,19 @@ from operations.release.artifacts import FAULTS, PROGRAM, Release
 from operations.release.gathered import gather
 from rust.targets import CARGO, MACHINES, RUSTC
 
-# What is used, and which package of Debian has it.
+# Commands that a release needs, and their Debian packages.
 NEEDED = {**NEEDED_BY_PACKAGE, **NEEDED_BY_IMAGE, RUSTC: "rustc-web", CARGO: "cargo-web",
           **{tool: machine.package for machine in MACHINES.values() for tool in (machine.linker, machine.strip)}}
 
 
 def lacking() -> list[str]:
-    """What this machine has not, and needs."""
+    """Return the needed packages that this machine lacks."""
     missing = {package for tool, package in NEEDED.items() if not shutil.which(tool)}
     return [*sorted(missing), *(["root"] if os.geteuid() else [])]
 
 
 def main() -> str | int:
-    """Makes the release, or gives what is in the way."""
+    """Make the release, or return an error text."""
     words = argparse.ArgumentParser(prog="release", description=(__doc__ or "").partition("\n")[0], allow_abbrev=False)
     words.add_argument(grounds.WITH_SKIPS, action="store_true",
                        help="also where the gate skipped something, which PROVED names")

@@ -1,4 +1,4 @@
-"""The artifacts of a version, and what makes each."""
+"""The artifacts of a version, and how each is made."""
 from __future__ import annotations
 
 import hashlib
@@ -39,23 +39,23 @@ NOT proved, but built of the same sources with their contracts erased, and teste
 
 
 def plain_programs(version: str) -> dict[str, str]:
-    """The names of the static programs, by machine."""
+    """Return the names of the static programs, by machine."""
     return {machine: f"rs_source-plain-{version}-linux-{machine}" for machine in MACHINES}
 
 
 def packages(version: str) -> tuple[str, ...]:
-    """The names of the packages of the proved program and of the tools, and of their source."""
+    """Return the names of the packages of the proved program and of the tools, and of their source."""
     return (f"{SOURCE}_{version}_amd64.deb", f"{TOOLS}_{version}_all.deb", f"{SOURCE}_{version}.dsc",
             f"{SOURCE}_{version}.tar.xz")
 
 
 def image_name(version: str) -> str:
-    """The name of the image for containers."""
+    """Return the name of the image for containers."""
     return f"{SOURCE}-{version}-image-amd64.tar"
 
 
 def proved_text(grounds: Grounds, packed: str, compiler: str) -> str:
-    """PROVED: of which commit all is, what the gate said of it, and what is proved of which artifact."""
+    """Return the text of PROVED: the commit, the gate's verdict on it, and the artifacts that are proved."""
     version, found = grounds.version, grounds.verdict
     skipped = "".join(f"It did not try:\n  {why}\n" for why in found.skipped)
     plain = [f"{PLAIN_SOURCE}_{version}_arm64.deb", f"{writing.NAME}.tar.gz", *plain_programs(version).values()]
@@ -66,37 +66,37 @@ def proved_text(grounds: Grounds, packed: str, compiler: str) -> str:
 
 
 def compiler() -> str:
-    """The line by which rustc says its version."""
+    """Return rustc's line with its version."""
     return output_of(RUSTC, "--version").strip()
 
 
 class Release:
-    """A release of a version: its parts, in the order in which they are made."""
+    """The release of a version: its parts, in the order of their making."""
 
     def __init__(self, grounds: Grounds, program: Path, base: Path | None, room: Path) -> None:
-        """`base` is an archive of the Debian of the image, if one is kept; `room` has what several parts need."""
+        """Take `base`, an archive of the image's Debian or None, and `room`, a folder for files that parts share."""
         self.grounds, self.program, self.base, self.room = grounds, program, base, room
         self.version = grounds.version
 
     @property
     def workspace(self) -> Path:
-        """The plain sources, which `write_plain` writes."""
+        """Return the folder of the plain sources, which `write_plain` writes."""
         return self.room / "rust" / writing.NAME
 
     def write_packages(self, to: Path) -> None:
-        """The Debian packages of the proved program and of the tools, and their source."""
+        """Write the Debian packages of the proved program and of the tools, and their source."""
         build.build(self.program, self.version, to, self.grounds.stamp)
         for name in packages(self.version)[:2]:
             (self.room / name).write_bytes((to / name).read_bytes())
 
     def write_image(self, to: Path) -> None:
-        """The image for containers, of those packages."""
+        """Write the image for containers, with these packages."""
         debs = [self.room / name for name in packages(self.version)[:2]]
         made = image_of(debs, self.room / "image", self.base)
         layout.archive(made, to / image_name(self.version), build.moment())
 
     def write_plain(self, to: Path) -> None:
-        """The sources as plain Rust."""
+        """Write the sources as plain Rust."""
         why = writing.run(self.room / "rust")
         if why:
             raise Unfit(str(why))
@@ -104,12 +104,12 @@ class Release:
         (to / name).write_bytes((self.room / "rust" / name).read_bytes())
 
     def write_programs(self, to: Path) -> None:
-        """The static programs."""
+        """Write the static programs."""
         for machine, name in plain_programs(self.version).items():
             built(self.workspace, MACHINES[machine], True, to / name)
 
     def write_plain_packages(self, to: Path) -> None:
-        """The Debian package of the plain program for another machine, with the C library of Debian."""
+        """Write the Debian package of the plain program for another machine, with Debian's C library."""
         made = built(self.workspace, MACHINES["arm64"], False, self.room / "arm64" / "rs_source")
         known = self.grounds.stamp
         stamp = Stamp(hashlib.sha256(made.read_bytes()).hexdigest(), known.commit, known.has_changes, known.date,
@@ -117,14 +117,14 @@ class Release:
         build.build_plain(made, stamp, "arm64", self.version, to)
 
     def write_texts(self, to: Path) -> None:
-        """What is proved, and what changed."""
+        """Write PROVED and the changes of the version."""
         with tempfile.TemporaryDirectory() as room:
             packed = hashlib.sha256(stripped(self.program, Path(room, "rs_source")).read_bytes()).hexdigest()
         (to / PROVED).write_text(proved_text(self.grounds, packed, compiler()))
         (to / CHANGES).write_text(self.grounds.changes)
 
     def parts(self) -> list[Part]:
-        """All parts."""
+        """Return all parts."""
         programs = tuple(plain_programs(self.version).values())
         return [Part((PROVED, CHANGES), self.write_texts), Part(packages(self.version), self.write_packages),
                 Part((image_name(self.version),), self.write_image),

@@ -1,4 +1,4 @@
-"""Gathers the artifacts of a release in one folder, in one step, with their digests."""
+"""Gather the artifacts of a release in one folder, in one step, with their digests."""
 from __future__ import annotations
 
 import hashlib
@@ -18,7 +18,7 @@ Make = Callable[[Path], None]
 
 @dataclass(frozen=True)
 class Part:
-    """Some artifacts: their names, which of them are programs, and what makes them."""
+    """Some artifacts: their names, the programs among them, and the function that makes them."""
 
     names: tuple[str, ...]
     make: Make
@@ -26,13 +26,13 @@ class Part:
 
 
 def digest(path: Path) -> str:
-    """The SHA-256 of a file."""
+    """Return the SHA-256 of a file."""
     with path.open("rb") as file:
         return hashlib.file_digest(file, "sha256").hexdigest()
 
 
 def take(part: Part, room: Path, to: Path) -> None:
-    """Makes the artifacts of a part, and takes those that it names, and no others."""
+    """Make the artifacts of a part, and take exactly the named ones."""
     folder = Path(tempfile.mkdtemp(prefix="part-", dir=room))
     part.make(folder)
     for name in part.names:
@@ -47,7 +47,7 @@ def take(part: Part, room: Path, to: Path) -> None:
 
 
 def gather(parts: Sequence[Part], to: Path, moment: int) -> list[Path]:
-    """Makes all parts, and puts them with their digests into a folder, in the place of what was there."""
+    """Make all parts, and replace a folder by one with them and their digests."""
     to = to.absolute()
     to.parent.mkdir(parents=True, exist_ok=True)
     with tempfile.TemporaryDirectory(prefix=".release-", dir=to.parent) as name:

@@ -1,4 +1,4 @@
-"""What a release stands on: a commit as it is, the gate's verdict on it, and the program that was built of it."""
+"""The grounds of a release: a commit without changes, the gate's verdict on it, and the program built from it."""
 from __future__ import annotations
 
 import re
@@ -10,13 +10,13 @@ from operations.package.program_facts import Unfit
 from tests import verdict
 from tests.verdict import Verdict
 
-# What the user of the repository has to say, to release what the gate did not try whole.
+# The option with which the user releases a version that the gate did not test completely.
 WITH_SKIPS = "--with-skips"
 
 
 @dataclass(frozen=True)
 class Grounds:
-    """A version, the gate's verdict on its commit, the stamp of its program, and what its users read of it."""
+    """A version, the gate's verdict on its commit, the stamp of its program, and its changes for users."""
 
     version: str
     verdict: Verdict
@@ -25,7 +25,7 @@ class Grounds:
 
 
 def section(text: str, version: str, day: str) -> str:
-    """The section of a version in a changelog, dated."""
+    """Return the section of a version in a changelog, with its date."""
     heading = re.compile(rf"^## \[{re.escape(version)}\].*$", re.MULTILINE)
     found = heading.findall(text)
     if len(found) != 1:
@@ -37,7 +37,7 @@ def section(text: str, version: str, day: str) -> str:
 
 
 def looked_at(root: Path, with_skips: bool) -> Verdict:
-    """The verdict on the commit that the repository is at, if it allows a release."""
+    """Return the verdict on the current commit of the repository if it allows a release."""
     state = verdict.state_of(root)
     if not state.commit:
         raise Unfit("there is no git repository here, so no commit to release")
@@ -60,14 +60,14 @@ def looked_at(root: Path, with_skips: bool) -> Verdict:
 
 
 def tagged(root: Path, version: str, commit: str) -> None:
-    """Refuses a version that another commit has."""
+    """Raise Unfit if the tag of the version names another commit."""
     tag = verdict.git(root, "rev-list", "-n", "1", f"refs/tags/v{version}").strip()
     if tag and tag != commit:
         raise Unfit(f"the tag v{version} is on another commit, {tag[:12]}: a new version needs a new number in VERSION")
 
 
 def stamped(program: Path, found: Verdict) -> stamp.Stamp:
-    """The stamp of the program, which has to be of the commit and the prover of the verdict."""
+    """Return the stamp of the program, which must match the commit and the prover of the verdict."""
     known = stamp.read(program)
     if known.commit != found.commit or known.has_changes:
         changed = " with changes" * known.has_changes
@@ -78,7 +78,7 @@ def stamped(program: Path, found: Verdict) -> stamp.Stamp:
 
 
 def read(root: Path, program: Path, with_skips: bool, day: str) -> Grounds:
-    """What a release stands on, or the first thing that is in the way."""
+    """Return the grounds of a release, or raise the first error."""
     found = looked_at(root, with_skips)
     version = (root / "VERSION").read_text().strip()
     tagged(root, version, found.commit)

@@ -1,5 +1,4 @@
-"""What people run around the program: the command `ropepeach`, which fills, mirrors and looks after a source.
-"""
+"""The command `ropepeach`, which fills, mirrors and administers sources."""
 
-# That of the file VERSION (operations.tests.tools.line compares them).
+# Equal to the file VERSION (operations/tests/tools/test_line.py compares them).
 __version__ = "0.1.0"

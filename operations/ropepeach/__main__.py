@@ -1,18 +1,26 @@
-"""The command `ropepeach` from its first line: what it lacks of Python's modules is named in one line."""
+"""Start the command `ropepeach`; name a missing Python module in one line."""
 from __future__ import annotations
 
+import gc
 import sys
 
 
 def main() -> int:
-    """Runs the command, and gives the exit status."""
+    """Run the command; return the exit status."""
+    # (modules stay loaded, so a garbage collection during imports would free no memory; `command.run` enables it again)
+    gc.disable()
     try:
-        from ropepeach import command
+        from ropepeach.cli import command
+        from ropepeach.cli.stops import STOPS
 
-        return command.main()
-    except KeyboardInterrupt:
+        try:
+            return command.main()
+        finally:
+            # (a signal would interrupt the end of Python)
+            STOPS.ignore()
+    except KeyboardInterrupt as stop:
         print("ropepeach: stopped", file=sys.stderr)
-        return 130
+        return int(getattr(stop, "status", 130))
     except ModuleNotFoundError as fault:
         package = (fault.name or "").partition(".")[0]
         print(f"ropepeach: there is no {fault.name} here: install python3-{package}", file=sys.stderr)

@@ -1,7 +1,6 @@
-"""The changes of any source, for programs in Python: `from ropepeach.changes import changes`.
+"""The changes of any source, for Python programs: `from ropepeach.changes import changes`.
 
-It asks as `ropepeach mirror --any-source` does, with the same limits, and writes nothing. It works in the
-main thread.
+It sends the requests of `ropepeach mirror`, within the same limits, and writes no file. It works in the main thread.
 """
 from __future__ import annotations
 
@@ -9,27 +8,23 @@ import dataclasses
 import time
 from collections.abc import Iterator, Sequence
 
-from ropepeach.connections import PATIENCE, Connections
-from ropepeach.facts import algorithms_of, digest_of, has_length, kind_of, length_of
 from ropepeach.faults import Misused
-from ropepeach.limits import Limits
-from ropepeach.lists import Dropped
-from ropepeach.mirror_address import Hosts, own_host, source_at
-from ropepeach.mirror_asking import Asking
-from ropepeach.mirror_discovery import Discovery, Lists
-from ropepeach.mirror_dumps import Dumps
-from ropepeach.mirror_entries import Entry, Reading
-from ropepeach.moments import moment_in
-
-# How long all requests of one call may take, in seconds.
-DURATION = 86_400
+from ropepeach.http.client import PATIENCE, Client
+from ropepeach.http.limits import LONGEST_RUN, Limits
+from ropepeach.http.transfers import Transfers
+from ropepeach.resync.addresses import Hosts, own_host, source_at
+from ropepeach.resync.asking import Asking
+from ropepeach.resync.discovery import Discovery, Lists
+from ropepeach.resync.dumps import Dumps
+from ropepeach.resync.facts import FRONT, Facts, algorithms_of, digest_of, has_length, kind_of, length_of
+from ropepeach.resync.lenient import Reading
+from ropepeach.resync.lists import Dropped, Entry
+from ropepeach.resync.moments import moment_in
 
 
 @dataclasses.dataclass(frozen=True)
 class SourceChange:
-    """A change of a resource: `listed`, `created`, `updated` or `deleted`; its address and moment; what is
-    listed of its bytes.
-    """
+    """A change of a resource: `listed`, `created`, `updated` or `deleted`; its address and moment; its listed facts."""
 
     change: str
     address: str
@@ -40,27 +35,28 @@ class SourceChange:
 
 
 def changes(url: str, since: str | None = None, hosts: Sequence[str] = (), patience: float = PATIENCE,
-            duration: float = DURATION) -> Iterator[SourceChange]:
-    """The latest change of each resource since a W3C Datetime, or at it. Without one, what the Resource Lists
-    name.
+            duration: float = LONGEST_RUN) -> Iterator[SourceChange]:
+    """Yield the latest change of every resource at or after a W3C Datetime, or without one all entries of the Resource
+    Lists.
 
-    Raises `ropepeach.lists.Dropped` where no Change List has all changes since then, and
-    `ropepeach.faults.Fault`, of which that is one, where a list can't be had or is refused.
+    Raise `ropepeach.resync.lists.Dropped` if no Change List has all changes since then, and another
+    `ropepeach.faults.Fault` if a list is missing or refused.
     """
     address = source_at(url)
     limits = Limits(time.monotonic() + duration)
     asking = Asking(Hosts([own_host(address), *hosts]),
-                    lambda origin: Connections(origin, patience, limits=limits))
+                    lambda origin: Client(origin, patience, limits=limits),
+                    Transfers(address.origin, patience, limits=limits))
     try:
         reading = Reading(asking)
         for lists in Discovery(asking).lists_at(address):
             yield from map(change_of, entries_since(reading, lists, since))
     finally:
-        asking.rest()
+        asking.close()
 
 
 def entries_since(reading: Reading, lists: Lists, since: str | None) -> list[Entry]:
-    """What the lists of one set of resources say."""
+    """Return the entries of the lists of one set of resources."""
     if since is None:
         dumps = Dumps(reading.asking)
         read = dumps.resources(lists.resources, reading) if lists.is_dump else reading.resources(lists.resources)
@@ -74,10 +70,9 @@ def entries_since(reading: Reading, lists: Lists, since: str | None) -> list[Ent
 
 
 def change_of(entry: Entry) -> SourceChange:
-    """An entry for a program."""
-    facts = entry.facts
+    """Return an entry as a change."""
+    facts = entry.facts or Facts(bytes(FRONT))
     digests = {algorithm.word: (digest_of(facts, algorithm) or b"").hex()
                for algorithm in algorithms_of(facts)}
-    return SourceChange(entry.change.value or "listed", str(entry.address),
-                        None if entry.moment is None else str(entry.moment),
+    return SourceChange(entry.change or "listed", entry.address, entry.moment or None,
                         length_of(facts) if has_length(facts) else None, digests, kind_of(facts))

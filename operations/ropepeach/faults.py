@@ -1,16 +1,16 @@
-"""Why a command ends before its work is done: lines for the user, and the exit status."""
+"""Errors that end a command early: lines for the user, and the exit status."""
 from __future__ import annotations
 
-from ropepeach.statuses import Status
+from ropepeach.cli.statuses import Status
 
 
 def printable(text: object) -> str:
-    """A text as one line of printable characters: what a terminal would act on, a line feed too, is a `?`."""
+    """Return a text as one line, with `?` for unprintable characters: control characters and line feeds."""
     return "".join(character if character.isprintable() else "?" for character in str(text))
 
 
 class Fault(Exception):
-    """A run that ends early: what it did so far stays. Each argument is a line."""
+    """A run that ends early; its work so far is kept. The arguments are lines."""
 
     status: int = Status.ENDED_EARLY
 
@@ -18,35 +18,35 @@ class Fault(Exception):
         return "\n".join(self.lines())
 
     def lines(self) -> list[str]:
-        """What the user reads: much of it comes from elsewhere."""
+        """Return the lines for the user, made printable: they may quote input."""
         return [printable(line) for line in self.args]
 
 
 class Misused(Fault):
-    """Arguments that make no sense."""
+    """Invalid arguments."""
 
     status = Status.MISUSED
 
 
 class Unusable(Fault):
-    """A file or a folder that cannot be used."""
+    """An unusable file or folder."""
 
     status = Status.UNUSABLE
 
 
 class Silent(Fault):
-    """An address that gave no answer."""
+    """An address that did not respond."""
 
 
 class Slow(Fault):
-    """An answer that took too long."""
+    """A response that took too long."""
 
 
 class Long(Fault):
-    """An answer with more bytes than the caller wants."""
+    """A response longer than the caller's limit."""
 
 
 def lines_of(why: BaseException) -> list[str]:
-    """The lines that say why a run ended."""
+    """Return the lines that explain the end of a run."""
     return why.lines() if isinstance(why, Fault) else [printable(why)]
 

@@ -1,0 +1,1 @@
+"""The command line: subcommands, output, exit statuses, completion."""

@@ -1,0 +1,1 @@
+"""The file of a source: `ropepeach look` and `ropepeach size`."""

@@ -1,0 +1,1 @@
+"""`ropepeach fill`: a source that follows a folder."""

@@ -1,0 +1,1 @@
+"""`ropepeach health`: the state of a source, for monitoring."""

@@ -1,0 +1,223 @@
+"""Reports the health of a source in one line and by the exit status, for a monitoring system or a timer.
+
+It requests the Source Description, the Capability List, the Resource List and the Change List, as a mirror
+does, and changes nothing. The line ends with performance data for monitoring systems. A `Closed` source stays
+closed until its program is restarted. If URL is a Source Description of several sources, or the file of a
+collection, each source has a line, and the worst status is the exit status.
+
+  critical  no answer, `Closed`, unreadable lists, `TooManyChanges` is near, or the last verification failed
+  warning   many changes are kept; the last change, publication or verification is older than allowed, or in the
+            future; the file system has less room than the file lacks; the file cannot be examined
+"""
+from __future__ import annotations
+
+import argparse
+import os
+import time
+from collections.abc import Iterator, Sequence
+from typing import NamedTuple
+
+from ropepeach.cli import numbers, output
+from ropepeach.cli.files import write_file
+from ropepeach.cli.statuses import Health
+from ropepeach.disk.formula import MOST_CHANGES
+from ropepeach.faults import Fault
+from ropepeach.health.source import SourceHealth, Subject, examined
+from ropepeach.resync.lists import Several
+
+MS_PER_DAY, MS_PER_SECOND = 86_400_000, 1_000
+# The clocks of two machines may differ by this many milliseconds.
+SKEW = 60 * MS_PER_SECOND
+AGE_UNITS = ((MS_PER_DAY, "day"), (3_600_000, "hour"), (60_000, "minute"), (MS_PER_SECOND, "second"))
+
+
+def add_arguments(parser: argparse.ArgumentParser) -> None:
+    """Add the arguments of the command."""
+    parser.add_argument("url", metavar="URL",
+                        help="the address of the source, such as http://127.0.0.1:8080, or the file of a collection")
+    parser.add_argument("--changes-warning", type=numbers.number, default=45_000, metavar="N",
+                        help="warn from this many changes kept (45,000)")
+    parser.add_argument("--changes-critical", type=numbers.number, default=49_000, metavar="N",
+                        help="critical from this many changes kept (49,000)")
+    parser.add_argument("--change-age", type=numbers.positive, metavar="DAYS", help="warn if the last change is older")
+    parser.add_argument("--publication-age", type=numbers.positive, metavar="DAYS",
+                        help="warn if the last publication is older")
+    parser.add_argument("--verification-age", type=numbers.positive, metavar="DAYS",
+                        help="warn if the last verification is older")
+    parser.add_argument("--file", metavar="FILE", help="check the room of the source's file, and its last verification")
+    parser.add_argument("--max-time", type=numbers.positive, default=10, metavar="SECONDS",
+                        help="timeout of a response (10)")
+    parser.add_argument("--patience", type=numbers.seconds, default=0, metavar="SECONDS",
+                        help="how long to retry a source that does not answer (0)")
+    parser.add_argument("--certificate", metavar="FILE", help="client certificate and key, in PEM")
+    parser.add_argument("--prometheus", metavar="FILE",
+                        help="write the figures to this file, for the textfile collector")
+
+
+class Trouble(NamedTuple):
+    """A problem of a source, and its severity."""
+
+    status: Health
+    words: str
+
+
+class Age(NamedTuple):
+    """The age of an event in milliseconds (None: it never happened), and its limit in days."""
+
+    event: str
+    value: int | None
+    limit: float | None
+
+    def text(self) -> str:
+        """Return the age as text."""
+        if self.value is None:
+            return f"last {self.event} never"
+        size, unit = next((unit for unit in AGE_UNITS if self.value >= unit[0]), AGE_UNITS[-1])
+        count = max(0, self.value // size)
+        return f"last {self.event} {count:,} {unit}{'s' * (count != 1)} ago"
+
+    def troubles(self) -> Iterator[Trouble]:
+        """Yield the problems of this age."""
+        if self.limit is not None and (self.value is None or self.value > self.limit * MS_PER_DAY):
+            yield Trouble(Health.WARNING, f"no {self.event} within {24 * self.limit:g} hours")
+        if self.value is not None and self.value < -SKEW:
+            yield Trouble(Health.WARNING, f"the last {self.event} is {-self.value // MS_PER_SECOND:,} seconds in the "
+                                          "future: a clock is or was wrong")
+
+    def figure(self) -> str:
+        """Return the performance data of this age, or an empty text without a value."""
+        if self.value is None:
+            return ""
+        limit = f";{self.limit * MS_PER_DAY / MS_PER_SECOND:g}" if self.limit else ""
+        return f"{self.event}_age={self.value // MS_PER_SECOND}s{limit}"
+
+
+def ages_of(finding: SourceHealth, arguments: argparse.Namespace) -> list[Age]:
+    """Return the ages of the last change, publication and verification, as far as they are known."""
+    moments: list[tuple[str, int, float | None]] = []
+    if finding.is_up:
+        moments = [("change", finding.changed, arguments.change_age),
+                   ("publication", finding.published, arguments.publication_age)]
+    if finding.unreserved is not None:
+        last = finding.verification.moment if finding.verification else 0
+        moments.append(("verification", last, arguments.verification_age))
+    now = time.time_ns() // 1_000_000
+    return [Age(event, now - moment if moment else None, limit) for event, moment, limit in moments]
+
+
+def troubles(finding: SourceHealth, arguments: argparse.Namespace, ages: Sequence[Age]) -> Iterator[Trouble]:
+    """Yield the problems of a source."""
+    if not finding.is_up:
+        yield Trouble(Health.CRITICAL, "Closed until the program is restarted" if finding.is_closed else finding.fault)
+    elif finding.change_count >= arguments.changes_critical:
+        yield Trouble(Health.CRITICAL,
+                      "TooManyChanges is near: publish now, twice if the first publication drops nothing")
+    elif finding.change_count >= arguments.changes_warning:
+        yield Trouble(Health.WARNING, "TooManyChanges comes closer: publish")
+    yield from troubles_of_file(finding)
+    for age in ages:
+        yield from age.troubles()
+
+
+def troubles_of_file(finding: SourceHealth) -> Iterator[Trouble]:
+    """Yield the problems of the file of a source."""
+    file, verification = finding.subject.file, finding.verification
+    if finding.file_fault:
+        yield Trouble(Health.WARNING, finding.file_fault)
+    if verification and not verification.is_good:
+        yield Trouble(Health.CRITICAL, f"the last verification failed, {verification.fault} (ropepeach fill --repair, "
+                                       "then verify again)")
+    if finding.unreserved and finding.free < finding.unreserved:
+        yield Trouble(Health.WARNING,
+                      f"the file system has {finding.free:,} bytes free, and {file} lacks {finding.unreserved:,}: "
+                      f"make room, then fallocate --length {finding.size} {file}")
+
+
+def state_text(finding: SourceHealth, ages: Sequence[Age]) -> str:
+    """Return the state of a running source as text."""
+    facts = [f"{finding.change_count:,} changes kept of {MOST_CHANGES:,}", *(age.text() for age in ages)]
+    if finding.unreserved:
+        facts.append(f"{finding.unreserved:,} bytes of the file not reserved")
+    return ", ".join(facts)
+
+
+def figures_of(finding: SourceHealth, arguments: argparse.Namespace, ages: Sequence[Age]) -> str:
+    """Return the performance data of a line, in the form of monitoring plugins."""
+    limits = f"{arguments.changes_warning};{arguments.changes_critical};0;{MOST_CHANGES}"
+    figures = [f"changes={finding.change_count};{limits}", *filter(None, (age.figure() for age in ages))]
+    if finding.unreserved is not None:
+        figures.append(f"unreserved={finding.unreserved}B")
+    return " ".join([*figures, f"time={finding.seconds:.3f}s"])
+
+
+def reported(finding: SourceHealth, arguments: argparse.Namespace) -> Health:
+    """Print the line of a source; return its status."""
+    ages = ages_of(finding, arguments)
+    found = list(troubles(finding, arguments, ages))
+    status = max((trouble.status for trouble in found), default=Health.OK)
+    # (the figures follow a bar)
+    words = [trouble.words.replace("|", "/") for trouble in found]
+    state = [state_text(finding, ages)] if finding.is_up else []
+    figures = f" | {figures_of(finding, arguments, ages)}" if finding.is_up else ""
+    output.result(f"{status.name}: {finding.subject.url}: {'; '.join([*words, *state])}{figures}",
+                  source=finding.subject.url, health=status.name, troubles=words)
+    return status
+
+
+def metrics_of(findings: Sequence[tuple[SourceHealth, Health]]) -> str:
+    """Return the figures of all sources in the text format of Prometheus."""
+    figures: dict[str, list[str]] = {}
+    for finding, status in findings:
+        source = finding.subject.url.replace("\\", r"\\").replace('"', r"\"").replace("\n", r"\n")
+        for name, value in measured(finding, status).items():
+            line = f'ropepeach_{name}{{source="{source}"}} {float(value):.15g}\n'
+            figures.setdefault(name, []).append(line)
+    return "".join(f"# TYPE ropepeach_{name} gauge\n{''.join(lines)}" for name, lines in figures.items())
+
+
+def measured(finding: SourceHealth, status: Health) -> dict[str, float]:
+    """Return the figures of a source, by name."""
+    figures: dict[str, float] = {"up": finding.is_up, "closed": finding.is_closed, "status": status,
+                                 "check_timestamp_seconds": round(finding.begun, 3),
+                                 "answer_seconds": round(finding.seconds, 3)}
+    if finding.is_up:
+        figures |= {"changes_kept": finding.change_count, "changes_most": MOST_CHANGES,
+                    "last_change_timestamp_seconds": finding.changed / MS_PER_SECOND,
+                    "last_publication_timestamp_seconds": finding.published / MS_PER_SECOND}
+    if finding.unreserved is not None:
+        figures["unreserved_bytes"] = finding.unreserved
+    if finding.verification:
+        figures |= {"verified": finding.verification.is_good,
+                    "last_verification_timestamp_seconds": finding.verification.moment / MS_PER_SECOND}
+    return figures
+
+
+def all_found(arguments: argparse.Namespace) -> list[SourceHealth]:
+    """Examine the source, or all of several."""
+    if arguments.url.endswith(".toml"):
+        from ropepeach.collection.settings import CollectionSettings
+
+        members = CollectionSettings(arguments.url).members.values()
+        return side_by_side([Subject(member.address, member.file if os.path.lexists(member.file) else "")
+                             for member in members], arguments)
+    try:
+        return [examined(Subject(arguments.url, arguments.file or ""), arguments)]
+    except Several as several:
+        return side_by_side([Subject(base) for base in several.bases], arguments)
+
+
+def side_by_side(subjects: Sequence[Subject], arguments: argparse.Namespace) -> list[SourceHealth]:
+    """Examine several sources at once."""
+    from ropepeach.collection.workers import answers_of
+
+    answers = answers_of(subjects, lambda subject: examined(subject, arguments))
+    return [SourceHealth(subject, time.time(), fault=" ".join(answer.lines())) if isinstance(answer, Fault) else answer
+            for subject, answer in answers.items()]
+
+
+def run(arguments: argparse.Namespace) -> int:
+    """Print a line for every source; return the worst status."""
+    findings = [(finding, reported(finding, arguments)) for finding in all_found(arguments)]
+    if arguments.prometheus:
+        write_file(arguments.prometheus, metrics_of(findings))
+    return max(status for _, status in findings)

@@ -1,0 +1,1 @@
+"""HTTP requests, and the limits on them."""

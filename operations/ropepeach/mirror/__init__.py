@@ -1,0 +1,1 @@
+"""`ropepeach mirror` and `ropepeach check`: a folder that follows a source."""
