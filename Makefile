@@ -8,21 +8,19 @@
 #   make build    builds the proved program
 #   make statement  prints all that each promise means, definition by definition (of those with PROMISE="headline" in the title), and
 #                 writes it as one page, out/statement.html
-#   make rows     runs the worked rows of tests/rows on the proved program (tests/README.md has what else looks at it)
 #   make crash    stops the program at each of its calls on a file, thousands of images over eleven sessions ('make test' has a short form)
 #   make hostile  gives the program DISKS=100000 disks with bits turned, fields at their edges, cut, spliced, then LINES=100000 lines of
 #                 scripts and REQUESTS=100000 requests of that kind ('make test' has short forms)
 #   make ends     makes each read and each write of scripts and requests fail in turn ('make test' has a short form)
 #   make memory   refuses each growth of memory of the program in turn, in scripts and in requests
-#   make system   looks at the calls, the edges, the sizes and the like of the program; 'make tests.system.calls' at the calls alone
 #   make powercut cuts the power below ext4, XFS and btrfs, on a device whose writes are logged, IMAGES=20000 images (as root, with FUSE and
 #                 loop devices; 'make test' has a short form)
 #   make snapshots  opens snapshots that are taken while a source is put to (as root, with loop devices; 'make test' has it not)
-#   make long     runs all of these long forms (tests/long.txt, operations/tests/long.txt) and tries all must-fail edits, and says what
-#                 each took
+#   make long     runs all tests in their long forms (`pytest --long`) and tries all must-fail edits
 #   make rust     writes the sources as plain Rust, a Cargo workspace and its tarball, into out/rust (rust/README.md)
-#   make twins    builds that too, and gives both programs the same CASES=1000000 lines, disks, requests and command lines
-#   make planted  plants each bug of tests/planted in the plain program, which a check has to notice ('make test' draws some)
+#   make twins    gives the proved program and the plain one the same CASES=1000000 lines, disks, requests and command lines
+#   make planted  plants each bug of tests/planted, in the plain program and in `ropepeach`: the tests that it names have to fail ('make test'
+#                 draws some; PLANTED=TEXT chooses by a text)
 #   make pictures draws the pictures of docs/pictures anew, from runs of the proved program
 #   make bench    measures speed (docs/keepers/BENCH.md has figures; it needs wrk, lighttpd and python3-lmdb of Debian)
 #   make bench-more  measures what changes seldom: digests, `verify`, the writing of lists, and list makers that are killed (it needs jekyll)
@@ -37,8 +35,6 @@ RT ?= rt
 CRATES ?=
 PROMISE ?=
 PROGRAM ?= crates/rs_source/out/rs_source
-# The checks of tests/system that have no target of their own, and those of operations/tests/tools (tests/checks.txt).
-SYSTEM = $(filter-out operations.tests.system.install,$(shell python3 -m tests.checks --below tests.system))
 # How many go side by side: checks of edits, if not as many as there are processors and memory for. (`make replicas` reads it too.)
 LANES ?=
 
@@ -59,9 +55,11 @@ test:
 quick:
 	@python3 -m gate.quick
 
-# All long forms of checks, and all must-fail edits. A setting of theirs goes behind `make`, as DISKS=1000.
+# All tests in their long forms, and all must-fail edits. A setting of a test goes behind `make`, as DISKS=1000.
 long: build
-	@python3 -m gate.long
+	@python3 -m rust.build
+	@python3 -m gate.tested --long
+	@python3 -m gate.edits.edits
 
 # What the tests use of Debian (as root).
 setup:
@@ -75,9 +73,6 @@ edits:
 build:
 	@python3 -m gate.build
 	@python3 -B -m operations.package.stamp crates/rs_source/out/rs_source
-
-rows: build
-	@python3 -m tests.rows
 
 # It reads texts alone: nothing is built.
 statement:
@@ -111,19 +106,19 @@ bench-month: build
 proof-times:
 	@python3 -m bench.proofs $(CRATES)
 
-# The long forms of these checks. (gate/long.py knows `hostile` as three, and `memory` without its `system.`)
-memory ends crash hostile powercut snapshots twins planted: build
-	@python3 -m gate.long $@
+# The long forms of the tests in these folders.
+ends crash hostile powercut: build
+	@python3 -m gate.tested --long tests/$@
 
-system: build
-	@for it in $(SYSTEM); do python3 -m $$it || exit 1; done
+memory snapshots: build
+	@python3 -m gate.tested --long tests/system/test_$@.py
+
+twins planted: build
+	@python3 -m rust.build --no-tests
+	@python3 -m gate.tested --long tests/$@
 
 rust:
 	@python3 -m rust
-
-# One check alone, as `make tests.system.calls`.
-tests.% operations.tests.%: build
-	@python3 -m $@
 
 pictures: build
 	@python3 -m tests.pictures --draw

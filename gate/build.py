@@ -1,8 +1,8 @@
 """Proves and builds the program as the gate does: `rt ci` in a copy of the program's crates, without must-fail edits.
 
-What `rt ci` proves it keeps on this machine by the checksums of all that it read. So after `make test` this proves
-nothing again, and after this `make test` proves only the crates of tests. Nothing runs where the program is made of
-these files already.
+`rt ci` keeps proofs on this machine by the checksums of all that it read. So after `make test` this proves nothing
+again, and after this `make test` proves only the crates of tests. Nothing runs if the program is already made of these
+files.
 """
 
 import hashlib
@@ -20,12 +20,12 @@ ROOT = Path(__file__).resolve().parent.parent
 LOG = ROOT / "out" / "build.log"
 PROGRAM = "rs_source"
 BUILT = ROOT / "crates" / PROGRAM / "out" / PROGRAM
-# Of which files the program is made, and its own sum: a line of `sha256sum` each.
+# The sum of the files that the program is made of, and its own: lines of `sha256sum`.
 MADE_OF = BUILT.with_suffix(".made_of")
 
 
 def copied(root: Path, room: str, names: list[str]) -> Path:
-    """A copy of these crates, without must-fail edits, with the list of them. What git ignores is left out."""
+    """Copy these crates without must-fail edits, with their list, without ignored files; return the copy."""
     places = tuple(f"crates/{name}/" for name in names)
     copy = runs.copied(root, room, lambda file: file == "HANDLES" or (
         file.startswith(places) and "/must-fail/" not in file))
@@ -36,7 +36,7 @@ def copied(root: Path, room: str, names: list[str]) -> Path:
 
 
 def sum_of(copy: Path) -> str:
-    """A sum of all that the program is made of: the files of a copy, and the kit."""
+    """Return a sum of everything that the program is made of: the files of a copy, and the kit."""
     total = hashlib.sha256(" ".join(kit.identity()).encode())
     for file in sorted(path for path in copy.rglob("*") if path.is_file()):
         total.update(f"{file.relative_to(copy)}\0{hashlib.sha256(file.read_bytes()).hexdigest()}\0".encode())
@@ -44,17 +44,17 @@ def sum_of(copy: Path) -> str:
 
 
 def note(made_of: str, program: Path) -> str:
-    """What is noted of a program: what it is made of, and its own sum."""
+    """Return the note of a program: the sum of its files, and its own sum."""
     return f"{made_of}  its files and the kit\n{hashlib.sha256(program.read_bytes()).hexdigest()}  {program.name}\n"
 
 
 def is_made(made_of: str) -> bool:
-    """Whether the program is there, as it was made of these files."""
+    """Return whether the program exists, and is made of these files."""
     return BUILT.is_file() and MADE_OF.is_file() and MADE_OF.read_text() == note(made_of, BUILT)
 
 
 def take(copy: Path, made_of: str) -> None:
-    """Takes the program out of a copy, in one step, and notes what it is made of."""
+    """Move the program out of a copy, in one step, and write its note."""
     BUILT.parent.mkdir(parents=True, exist_ok=True)
     new = BUILT.with_suffix(".new")
     shutil.copyfile(copy / "crates" / PROGRAM / "out" / PROGRAM, new)
@@ -65,7 +65,7 @@ def take(copy: Path, made_of: str) -> None:
 
 
 def build(names: list[str], copy: Path, room: str) -> list[str]:
-    """Proves and builds in the copy, and gives what failed."""
+    """Prove and build in the copy; return the failures."""
     LOG.parent.mkdir(exist_ok=True)
     jobs = kit.lanes()
     what = f"make build: proves {len(names)} crates, those that no earlier run here proved, and builds the program."

@@ -1,4 +1,4 @@
-"""What a long run tells: what it is about to do and for how long, and each crate when done: `12 of 33 rs_plan 54 s`."""
+"""Lines of a long run: the work ahead and its minutes, and every crate when it is done: `12 of 33 rs_plan 54 s`."""
 
 import contextlib
 import glob
@@ -12,16 +12,16 @@ from itertools import count
 from pathlib import Path
 
 from gate.edits import kit
-from tests.table import lines
+from rattle.tables import lines
 
-# What the toolchain says of a crate, or of its tests, behind what it printed of it.
+# The toolchain's line for a crate or its tests, after its other output on them.
 DONE = re.compile(r"rt: (\w+)(: its tests are)? (proved|NOT PROVED|is kept)")
-# What proofs, tests and all else take: all figures stand here.
+# The seconds of proofs, tests and the rest.
 SECONDS = Path(__file__).with_name("seconds.txt")
 
 
 def copied(root: Path, room: str, is_wanted: Callable[[str], bool]) -> Path:
-    """A copy of the wanted files of a repository, by their names from its top. What git ignores is left out."""
+    """Copy the wanted files of a repository, chosen by their paths, without ignored files; return the copy."""
     words = ["git", "ls-files", "-z", "--cached", "--others", "--exclude-standard"]
     listed = subprocess.run(words, cwd=root, capture_output=True, check=True).stdout.decode().split("\0")
     copy = Path(room, "copy")
@@ -33,29 +33,29 @@ def copied(root: Path, room: str, is_wanted: Callable[[str], bool]) -> Path:
 
 
 def table() -> dict[str, int]:
-    """Seconds of a processor by name."""
+    """Return seconds of a processor by name."""
     return {name: int(figure) for name, figure in map(str.split, lines(SECONDS.read_text()))}
 
 
 def proving(processors: int, with_tests: bool = False) -> float:
-    """About how many seconds all crates take to prove from nothing: at least those of their longest chain."""
+    """Estimate the seconds of all proofs from nothing: at least those of the longest chain of crates."""
     known = table()
     return max(known["longest_chain_of_crates"], (known["proofs"] + known["tests"] * with_tests) / processors)
 
 
 def announce(what: str, seconds: float, processors: int, log: Path) -> None:
-    """The two lines with which a run begins."""
+    """Print the first two lines of a run."""
     duration = f"about {round(seconds / 60)} minutes" if seconds > 60 else "less than a minute"
     print(f"{what}\nThat takes {duration} on {processors} of the processors here, and less over kept work. "
           f"What the toolchain says goes to {log}.", flush=True)
 
 
 def rt_ci(copy: str | Path, crates: Collection[str], log: str | Path,
-          seconds: Callable[[str, str], float]) -> tuple[int, list[str]]:
-    """The toolchain's own run in a copy of the repository: how many crates passed, and what failed.
+          seconds: Callable[[str, str], float]) -> tuple[int, list[str], list[str]]:
+    """Run the toolchain's gate in a copy of the repository; return the passed crates, and the failures.
 
-    It prints a line for each crate. All that the toolchain says goes to a log, and is shown where it fails. `seconds`
-    gives those of a processor.
+    It prints a line for every crate. The toolchain's output goes to a log, and is shown after a failure. `seconds`
+    returns those of a processor.
     """
     number, last = count(1), ""
     since: list[str] = []
@@ -76,13 +76,13 @@ def rt_ci(copy: str | Path, crates: Collection[str], log: str | Path,
     ended = re.fullmatch(r"(\d+) passed, (\d+) failed\n", last)
     if not process.returncode and ended and not int(ended[2]):
         print(last, end="")
-        return int(ended[1]), []
+        return int(ended[1]), [], []
     print("".join(since), end="")
-    return 0, [f"rt ci ended with status {process.returncode}: {last.strip()} ({log} has all that it said)"]
+    return 0, [f"rt ci ended with status {process.returncode}: {last.strip()} ({log} has all that it said)"], []
 
 
 class Meter:
-    """Looks at the prover's processes below a folder once a second: what the last second of one took is missed."""
+    """Measures the prover's processes below a folder once a second: the last second of a process is missed."""
 
     def __init__(self, folder: str | Path) -> None:
         self.folder, self.stop = os.path.realpath(folder), threading.Event()
@@ -96,14 +96,14 @@ class Meter:
         self.stop.set()
 
     def look_on(self) -> None:
-        """Looks at all processes, until it is stopped."""
+        """Measure all processes, until the meter is stopped."""
         while not self.stop.wait(1.0):
             for process in glob.glob("/proc/[0-9]*"):
                 with contextlib.suppress(OSError):
                     self.look(process)
 
     def look(self, process: str) -> None:
-        """Looks at one process."""
+        """Measure one process."""
         words = Path(f"{process}/cmdline").read_text(errors="replace").split("\0")
         folder = os.readlink(f"{process}/cwd") if "--crate-name" in words else ""
         if folder.startswith(self.folder):
@@ -115,5 +115,5 @@ class Meter:
             self.times[key] = (int(fields[11]) + int(fields[12])) / os.sysconf("SC_CLK_TCK")
 
     def seconds(self, crate: str, kind: str) -> float:
-        """Those of a processor that a crate's proofs, its tests, its edits or its compiling took."""
+        """Return the processor seconds of a crate's proofs, tests, edits or compilation."""
         return sum(seconds for key, seconds in [*self.times.items()] if key[2:] == (crate, kind))

@@ -1,4 +1,4 @@
-"""Reads a file of specs (*.antt): what it brings in, and its definitions with the comments above them.
+"""Read a file of specs (*.antt): its imports, and its definitions with the comments above them.
 
 It knows how the files are laid out, and no more of the language: a definition begins at the left edge (or a step in for
 each `module _` around it), and goes on with its indented lines and with its equations, which begin with its name or
@@ -15,12 +15,12 @@ HEAD = re.compile(r"(?:(?:abbrev|unfoldable|opaque|pub|record|data) )+(\S+)")
 STATEMENT = re.compile(r"([^\s(){}]+) :(?: |$)")
 SECTION = re.compile(r"module _ (.*) where$")
 CONSTRUCTOR = re.compile(r"  (\w+) :")
-# What is found of a file beside definitions.
+# The parts of a file other than definitions.
 LAYOUT = ("mod ", "pub mod ")
 
 
 class Name(NamedTuple):
-    """A name that a file brings in: the module that has it, and its name there."""
+    """An imported name: the module that has it, and its name there."""
 
     module: str
     name: str
@@ -28,7 +28,7 @@ class Name(NamedTuple):
 
 @dataclass(eq=False)
 class Definition:
-    """A definition: where it stands, the comment above it, and its lines, among which may be comments."""
+    """A definition: its place, the comment above it, and its lines, which may include comments."""
 
     module: str
     name: str
@@ -38,27 +38,27 @@ class Definition:
     comment: list[str]
     lines: list[str]
     section: str = ""
-    # The one field of a record that stands here, where a promise names no other.
+    # The only field of a record that counts, if a promise names no other.
     part: str = ""
 
     @property
     def crate(self) -> str:
-        """The crate that it stands in."""
+        """Return its crate."""
         return self.module.split(".")[1]
 
     @property
     def label(self) -> str:
-        """Its crate, its file and its name, as the table of evidence has it."""
+        """Return its crate, its file and its name, as in the table of evidence."""
         return f"{self.crate}.{self.module.split('.', 3)[3]}.{self.name}"
 
     @property
     def title(self) -> str:
-        """Its name, or that of the one field of it that stands here."""
+        """Return its name, or that of the only field that counts."""
         return f"{self.name}.{self.part}, one field of the record" if self.part else self.name
 
     @property
     def code(self) -> list[str]:
-        """Its lines without comments."""
+        """Return its lines without comments."""
         return [line for line in self.lines if not line.lstrip().startswith("--")]
 
 
@@ -68,22 +68,22 @@ class Specs:
 
     module: str
     definitions: dict[str, Definition] = field(default_factory=dict)
-    # The definition that each constructor of a `data` belongs to.
+    # The definitions of the constructors of `data`.
     constructors: dict[str, Definition] = field(default_factory=dict)
     brought: dict[str, Name] = field(default_factory=dict)
     # Modules that go by another name.
     aliases: dict[str, str] = field(default_factory=dict)
-    # What the file passes on to those who bring it in from here.
+    # The names that the file passes on to its importers.
     passed: set[str] = field(default_factory=set)
 
 
 def without_comments(text: str) -> str:
-    """The text without the lines that are comments."""
+    """Return the text without lines that are comments."""
     return "".join(line for line in text.splitlines(keepends=True) if not line.lstrip().startswith("--"))
 
 
 def brought_by(line: str) -> tuple[dict[str, Name], dict[str, str], bool]:
-    """What a `use` brings in: the names, and the module that goes by another name, if there is one."""
+    """Return the imports of a `use`: the names, and a module under another name, if there is one."""
     use = USE.match(line)
     if not use:
         raise ValueError(f"it brings nothing in: {line}")
@@ -95,7 +95,7 @@ def brought_by(line: str) -> tuple[dict[str, Name], dict[str, str], bool]:
 
 
 def kind_of(words: list[str]) -> str:
-    """What a definition is by the words before its name. One that is public only is a statement with its proof."""
+    """Return the kind of a definition by the words before its name; one that is only public is a statement."""
     otherwise = "proof" if words in (["pub"], []) else "function"
     return next((word for word in ("record", "data") if word in words), otherwise)
 
@@ -107,11 +107,11 @@ class Reading:
         self.specs, self.path = Specs(module), path
         self.comment: list[str] = []
         self.current: Definition | None = None
-        # What each `module _` that stands around takes, the outer ones first.
+        # The parameters of each enclosing `module _`, the outer ones first.
         self.sections: list[str] = []
 
     def take(self, number: int, line: str) -> None:
-        """Takes a line, with its number in the file."""
+        """Take a line, with its number in the file."""
         if not line.strip():
             self.comment = []
             return
@@ -133,7 +133,7 @@ class Reading:
             self.begin_or_go_on(number, line)
 
     def bring(self, line: str) -> None:
-        """A line that brings names in."""
+        """Take a line of imports."""
         names, aliases, public = brought_by(line)
         self.specs.brought.update(names)
         self.specs.aliases.update(aliases)
@@ -142,7 +142,7 @@ class Reading:
         self.comment = []
 
     def begin_or_go_on(self, number: int, line: str) -> None:
-        """A line at the left edge begins a definition, or is an equation of the one before it."""
+        """Take a line at the left edge: it begins a definition, or is an equation of the one before it."""
         head = HEAD.match(line) or STATEMENT.match(line)
         if head:
             kind = kind_of(line[: head.start(1)].split())
@@ -154,7 +154,7 @@ class Reading:
         self.comment = []
 
     def go_on(self, lines: list[str]) -> None:
-        """Further lines of the definition that began."""
+        """Take further lines of the definition."""
         if self.current is None:
             raise ValueError(f"{self.path}: no definition begins before: {lines[-1]}")
         within = [*self.comment, *lines] if lines[0].startswith(" ") else lines
@@ -166,7 +166,7 @@ class Reading:
 
 
 def read(module: str, path: str, text: str) -> Specs:
-    """The file of specs of this module."""
+    """Return the file of specs of this module."""
     reading = Reading(module, path)
     for number, line in enumerate(text.splitlines(), 1):
         reading.take(number, line)

@@ -1,4 +1,4 @@
-"""Reads a file of code (`*.rt`): where its functions stand, their clauses, and what it says to callers."""
+"""Read a file of code (`*.rt`): its functions, their clauses, and the outline for callers."""
 
 import re
 from collections.abc import Iterator
@@ -10,13 +10,13 @@ from rattle.lexer import PATTERNS, Kind
 QUIET = re.compile("|".join(PATTERNS[kind] for kind in (Kind.COMMENT, Kind.TEXT, Kind.CHAR)), re.DOTALL)
 BLOCK = re.compile(r"(?m)^[ \t]*(?:pub(?:\(\w+\))?\s+)?(?:unsafe\s+)?((?:impl|trait|mod)\b[^{;]*)\{")
 FUNCTION = re.compile(r"\bfn\s+(\w+)")
-# What stands before the brace of a clause: another brace behind a signature opens the body.
+# The text before the brace of a clause: another brace after a signature opens the body.
 CLAUSE = re.compile(r"\b(?:(requires|ensures)\b\s*\*?\s*(\w*)|ghost\s+\w+\s*:)\s*\Z")
 
 
 @dataclass(frozen=True)
 class Block:
-    """A block of functions (`impl`, `trait` or `mod`): its head, and its places from the head to behind its brace."""
+    """A block of functions (`impl`, `trait` or `mod`): its head, and its places, from the head to the end."""
 
     head: str
     start: int
@@ -26,7 +26,7 @@ class Block:
 @dataclass(frozen=True)
 class Clause:
     """A clause: its kind (`requires` or `ensures`), its name ('' for none), and its places from its word to its brace.
-    `inner` is what stands in its braces, without comments."""
+    `inner` is the text in its braces, without comments."""
 
     kind: str
     name: str
@@ -37,7 +37,7 @@ class Clause:
 
 @dataclass(frozen=True)
 class Function:
-    """A function: its name, the name's place, the innermost block around it, its signature behind the name, without
+    """A function: its name, the name's place, the innermost block around it, its signature after the name, without
     comments, its clauses, and the places of its body, which are the same where it has none."""
 
     name: str
@@ -50,27 +50,27 @@ class Function:
 
     @property
     def block(self) -> str:
-        """The head of the block around it, or ''."""
+        """Return the head of the block around it, or ''."""
         return self.around.head if self.around else ""
 
     @property
     def has_body(self) -> bool:
-        """Whether it has a body: a method of a trait may have none."""
+        """Return whether it has a body: a method of a trait may have none."""
         return self.start < self.end
 
 
 def blanked(text: str) -> str:
-    """The text with blanks in place of comments, texts and characters, at the same places."""
+    """Return the text with blanks in place of comments, texts and characters, at the same places."""
     return QUIET.sub(lambda found: re.sub(r"[^\n]", " ", found[0]), text)
 
 
 def without_comments(text: str) -> str:
-    """The text with an empty line, or the end of one, in place of each comment."""
+    """Return the text with an empty line, or the end of one, in place of a comment."""
     return QUIET.sub(lambda found: "" if found[0].startswith("//") else found[0], text)
 
 
 def closed(code: str, at: int) -> int:
-    """The place behind the brace that closes the one at `at`; the end of the code where none does."""
+    """Return the place after the brace that closes the one at `at`, or the end of the code."""
     depth = 0
     for brace in re.compile(r"[{}]").finditer(code, at):
         depth += 1 if brace[0] == "{" else -1
@@ -80,12 +80,12 @@ def closed(code: str, at: int) -> int:
 
 
 def blocks_of(code: str) -> list[Block]:
-    """The blocks of code without comments, each outer one before those in it."""
+    """Return the blocks of code without comments, outer ones before inner ones."""
     return [Block(found[1], found.start(1), closed(code, found.end() - 1)) for found in BLOCK.finditer(code)]
 
 
 def braces_of(code: str, at: int) -> Iterator[tuple[int, re.Match[str] | None]]:
-    """The braces of clauses behind a function's name, each with what stands before it; at last its body, or its end."""
+    """Yield the braces of clauses after a function's name, with the text before them; at last its body, or its end."""
     start, depth = at, 0
     while at < len(code):
         if not depth and code[at] in "{;":
@@ -98,7 +98,7 @@ def braces_of(code: str, at: int) -> Iterator[tuple[int, re.Match[str] | None]]:
 
 
 def function_of(code: str, name: re.Match[str], blocks: list[Block]) -> Function:
-    """The function whose name was matched."""
+    """Return the function whose name was matched."""
     braces = [*braces_of(code, name.end())]
     clauses = tuple(Clause(found[1], found[2], found.start(), closed(code, at), code[at + 1 : closed(code, at) - 1])
                     for at, found in braces if found and found[1])
@@ -110,14 +110,14 @@ def function_of(code: str, name: re.Match[str], blocks: list[Block]) -> Function
 
 
 def functions_of(text: str) -> list[Function]:
-    """Each function of a source text, in the order of the text."""
+    """Return the functions of a source text, in its order."""
     code = blanked(text)
     blocks = blocks_of(code)
     return [function_of(code, name, blocks) for name in FUNCTION.finditer(code)]
 
 
 def item_of(text: str, function: Function) -> int:
-    """Where a function begins, with its attributes, its words before `fn` and the comments above them."""
+    """Return the beginning of a function, with its attributes, words before `fn` and the comments above."""
     at = text.rfind("\n", 0, function.at) + 1
     while at and not re.search(r"(\A|[{};]|//![^\n]*|\n)\n\Z", text[:at]):
         at = text.rfind("\n", 0, at - 1) + 1
@@ -125,7 +125,7 @@ def item_of(text: str, function: Function) -> int:
 
 
 def outline(text: str) -> str:
-    """What a source text says to the crates above: all but comments and the bodies of functions."""
+    """Return the outline of a source text for the crates above: all but comments and bodies of functions."""
     for function in reversed(functions_of(text)):
         if function.has_body:
             text = text[: function.start] + ";" + text[function.end :]

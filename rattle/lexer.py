@@ -6,7 +6,7 @@ from dataclasses import dataclass
 
 
 class Kind(enum.Enum):
-    """What a token is."""
+    """The kind of a token."""
     SPACE = "space"
     COMMENT = "comment"
     TEXT = "text"
@@ -33,24 +33,24 @@ TOKEN = re.compile("|".join(f"(?P<{kind.name}>{pattern})" for kind, pattern in P
 
 @dataclass(frozen=True)
 class Token:
-    """A piece of a source, and where it begins."""
+    """A piece of a source, and its place."""
     kind: Kind
     text: str
     at: int
 
     @property
     def end(self) -> int:
-        """Where it ends."""
+        """Return its end."""
         return self.at + len(self.text)
 
     @property
     def is_code(self) -> bool:
-        """Whether it is more than a space or a comment."""
+        """Return whether it is more than a space or a comment."""
         return self.kind not in (Kind.SPACE, Kind.COMMENT)
 
 
 def tokens(text: str) -> Iterator[Token]:
-    """All tokens of a source, its spaces and comments too."""
+    """Return all tokens of a source, spaces and comments too."""
     for found in TOKEN.finditer(text):
         assert found.lastgroup is not None
         yield Token(Kind[found.lastgroup], found[0], found.start())

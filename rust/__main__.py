@@ -1,4 +1,4 @@
-"""Writes the sources as plain Rust: `make rust`.
+"""Write the sources as plain Rust: `make rust`.
 
 usage: python3 -m rust [--to FOLDER]
 FOLDER (out/rust) gets the Cargo workspace `ropepeach-plain-VERSION` and its tarball; what had these names there goes.
@@ -21,7 +21,7 @@ NAME = f"ropepeach-plain-{VERSION}"
 
 
 def packed(folder: Path, tarball: Path) -> None:
-    """Packs a folder, so that the same files make the same bytes."""
+    """Pack a folder: the same files make the same bytes."""
     def settled(member: tarfile.TarInfo) -> tarfile.TarInfo:
         member.uid = member.gid = member.mtime = 0
         member.uname = member.gname = ""
@@ -36,7 +36,7 @@ def packed(folder: Path, tarball: Path) -> None:
 
 
 def run(to: Path) -> int | str:
-    """Writes the workspace and its tarball into a folder, and prints where they are."""
+    """Write the workspace and its tarball into a folder, and print their paths."""
     try:
         to.mkdir(parents=True, exist_ok=True)
         with tempfile.TemporaryDirectory(prefix=".rust-", dir=to) as room:
@@ -51,7 +51,7 @@ def run(to: Path) -> int | str:
 
 
 def put(made: Path, target: Path) -> None:
-    """Puts a file or a folder in its place. What was built of an earlier one stays."""
+    """Move a file or a folder to its place. The build of an earlier one stays."""
     if target.is_dir():
         if (target / "target").is_dir():
             (target / "target").rename(made / "target")
@@ -60,7 +60,7 @@ def put(made: Path, target: Path) -> None:
 
 
 def main() -> int | str:
-    """Writes all, where the command line says."""
+    """Write everything to the folder of the command line."""
     words = argparse.ArgumentParser(prog="rust", description=__doc__.partition("\n")[0])
     words.add_argument("--to", type=Path, default=ROOT / "out/rust", metavar="FOLDER")
     return run(words.parse_args().to)

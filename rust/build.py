@@ -1,4 +1,4 @@
-"""Writes the sources as plain Rust, builds them, and runs their tests: `make rust` writes alone.
+"""Write the sources as plain Rust, build them, and run their tests: `make rust` only writes.
 
 usage: python3 -m rust.build [--to FOLDER] [--no-tests] [--upstream-digests]
 The last line is 'plain: N tests passed; PROGRAM'. Exit status 1 where something is refused, does not build or fails,
@@ -15,19 +15,20 @@ from pathlib import Path
 from rust import __main__ as writing
 from rust.crates import ROOT, Missing, vendored
 from rust.workspace import FEATURE, PROGRAM, RUST_VERSION
-from tests.skipped import skipped
 
 # Where Debian's is, beside what PATH has.
 PLACES = ["/usr/bin/cargo"]
 SETTINGS = ["--locked", "--offline"]
+# The exit status where something is missing here.
+SKIPPED = 77
 
 
 class Failed(Exception):
-    """A step of the build."""
+    """A step of the build failed."""
 
 
 def cargo() -> str:
-    """A cargo that is new enough."""
+    """Return a cargo that is new enough."""
     wanted = tuple(int(number) for number in RUST_VERSION.split("."))
     for found in [shutil.which("cargo"), *PLACES]:
         if found and os.access(found, os.X_OK):
@@ -39,7 +40,7 @@ def cargo() -> str:
 
 
 def step(folder: Path, *words: str) -> str:
-    """Runs cargo in the workspace. Answers what it printed."""
+    """Run cargo in the workspace; return its output."""
     # The compiler that stands beside it, whatever PATH has first.
     beside = f"{Path(words[0]).parent}{os.pathsep}{os.environ.get('PATH', '')}"
     settings = {**os.environ, "PATH": beside}
@@ -50,7 +51,7 @@ def step(folder: Path, *words: str) -> str:
 
 
 def passed(output: str) -> int:
-    """How many tests passed, by what cargo printed. None may be left out."""
+    """Return the number of passed tests in the output of cargo. None may be left out."""
     results = re.findall(r"^test result: ok\. (\d+) passed; 0 failed; (\d+) ignored", output, re.MULTILINE)
     if not results or any(ignored != "0" for _, ignored in results):
         raise Failed("cargo told of no tests, or left some out")
@@ -58,7 +59,7 @@ def passed(output: str) -> int:
 
 
 def main() -> int | str:
-    """Writes, builds and tests."""
+    """Write, build and test; return the exit status or a fault."""
     words = argparse.ArgumentParser(prog="rust.build", description=__doc__.partition("\n")[0])
     words.add_argument("--to", type=Path, default=ROOT / "out/rust", metavar="FOLDER")
     words.add_argument("--no-tests", action="store_true")
@@ -67,7 +68,8 @@ def main() -> int | str:
     try:
         tool, _ = cargo(), list(vendored())
     except Missing as why:
-        return skipped("plain", why)
+        print(f"plain: NOT TRIED: {why}")
+        return SKIPPED
     status = writing.run(options.to)
     if status:
         return status

@@ -1,4 +1,4 @@
-"""Which crates the workspace has, what each needs, and where it comes from."""
+"""The crates of the workspace, their dependencies and origins."""
 import re
 import subprocess
 from collections.abc import Iterator
@@ -39,17 +39,17 @@ class Crate:
 
     @property
     def is_of_tests(self) -> bool:
-        """Whether it has tests alone."""
+        """Return whether it has only tests."""
         return self.name.endswith("_tests")
 
 
 def listed(root: Path = ROOT) -> Iterator[Crate]:
-    """The crates of the project, the lowest first."""
+    """Return the crates of the project, the lowest first."""
     yield from (Crate(name, tuple(needs)) for name, needs in crates_of(root).items())
 
 
 def kit() -> Path:
-    """The folder of the kit's crates."""
+    """Return the folder of the kit's crates."""
     try:
         page = subprocess.run(["rt", "doc"], capture_output=True, text=True, check=True).stdout.strip()
     except (OSError, subprocess.CalledProcessError) as error:
@@ -59,7 +59,7 @@ def kit() -> Path:
 
 
 def vendored(registry: Path = REGISTRY) -> Iterator[Path]:
-    """The folders of the crates of others, each of its one version."""
+    """Return the folders of the crates of others, of their only versions."""
     for name, version in VENDORED.items():
         folder = next((folder for folder in registry.glob(f"*-{version}") if is_crate(folder, name, version)), None)
         if folder is None:
@@ -72,7 +72,7 @@ def vendored(registry: Path = REGISTRY) -> Iterator[Path]:
 
 
 def is_crate(folder: Path, name: str, version: str | None) -> bool:
-    """Whether a folder has a crate of this name, and of this version."""
+    """Return whether a folder has a crate of this name and version."""
     try:
         text = (folder / "Cargo.toml").read_text()
     except OSError:

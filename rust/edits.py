@@ -1,11 +1,11 @@
-"""What is changed of a source: a list of edits, which can be undone."""
+"""The changes of a source: a list of edits, which can be undone."""
 import enum
 from collections.abc import Iterable
 from dataclasses import dataclass
 
 
 class Form(enum.Enum):
-    """Why an edit is made."""
+    """The reason of an edit."""
     GHOST = "a ghost item or field"
     CLAUSE = "a clause"
     TACTIC = "an attribute of the proofs"
@@ -27,11 +27,11 @@ class Edit:
 
 
 class Refused(Exception):
-    """A source has what the eraser does not know."""
+    """A source has a form that the eraser does not know."""
 
 
 def ordered(edits: Iterable[Edit]) -> list[Edit]:
-    """The edits in their order. No two may meet, and each keeps the lines."""
+    """Return the edits in their order. No two may overlap, and all keep the lines."""
     found = sorted(edits, key=lambda edit: (edit.at, len(edit.old)))
     end = 0
     for edit in found:
@@ -44,7 +44,7 @@ def ordered(edits: Iterable[Edit]) -> list[Edit]:
 
 
 def applied(text: str, edits: list[Edit]) -> str:
-    """The source with its edits, which are in order."""
+    """Return the source with its edits, which are in order."""
     pieces, at = [], 0
     for edit in edits:
         pieces += [text[at:edit.at], edit.new]
@@ -53,7 +53,7 @@ def applied(text: str, edits: list[Edit]) -> str:
 
 
 def undone(text: str, edits: list[Edit]) -> str:
-    """The source, from what `applied` made of it and the edits. An edit that is not found there is refused."""
+    """Return the source from the result of `applied` and the edits. An edit that is not found there is refused."""
     pieces, at, moved = [], 0, 0
     for edit in edits:
         place = edit.at + moved

@@ -1,4 +1,4 @@
-"""Rattle to plain Rust: one file's text to another, by edits of known forms. What has no form here is refused."""
+"""Rattle to plain Rust: one file's text to another, by edits of known forms. Any other form is refused."""
 from collections.abc import Iterator
 
 from rattle.lexer import Kind
@@ -8,7 +8,7 @@ from rust.source import Source
 
 
 def ghosts(source: Source) -> Iterator[Edit]:
-    """`ghost use ..;`, `ghost name = {..};`, a trait's `ghost name: {..};` and a field, with what documents them."""
+    """`ghost use ..;`, `ghost name = {..};`, a trait's `ghost name: {..};` and a field, with their documentation."""
     for place in source.words("ghost"):
         endings = ";"
         if source.stands(place + 1, "use"):
@@ -35,7 +35,7 @@ def ghosts(source: Source) -> Iterator[Edit]:
 
 
 def first_of_visible(source: Source, place: int) -> int:
-    """The place of the `pub` or `pub(crate)` before a place, or the place itself."""
+    """Return the place of the `pub` or `pub(crate)` before a place, or the place itself."""
     if source.at(place - 1) == "pub":
         return place - 1
     if source.stands(place - 4, "pub", "(", "crate", ")"):
@@ -152,13 +152,13 @@ def words(source: Source) -> Iterator[Edit]:
 
 
 def before_next(source: Source, place: int) -> Edit:
-    """What erases a word and the spaces behind it."""
+    """Return the edit that erases a word and the spaces after it."""
     old = source.text[source.code[place].at:source.code[place + 1].at]
     return Edit(source.code[place].at, old, "\n" * old.count("\n"), Form.WORD)
 
 
 def known_path(source: Source, place: int, before: str) -> None:
-    """Refuses a path of `std` that no table has. `before` is what stands before this place."""
+    """Refuse a path of `std` that no table has. `before` is the text before this place."""
     if source.at(place) == "{":
         part = place + 1
         while part < source.closing(place):
@@ -190,7 +190,7 @@ def preludes(source: Source) -> Iterator[Edit]:
 
 
 def refuse_unknown(source: Source, macros: frozenset[str]) -> None:
-    """Refuses what is left and has no form here. `macros` are those that the crate has itself."""
+    """Refuse all other forms. `macros` are the crate's own."""
     for place, token in enumerate(source.code):
         text, before, after = token.text, source.at(place - 1), source.at(place + 1)
         if token.kind is Kind.MARK and (not text.isascii() or text in "`\\\"'"):
@@ -214,7 +214,7 @@ def refuse_unknown(source: Source, macros: frozenset[str]) -> None:
 
 
 def owner(source: Source, place: int) -> tuple[str, ...]:
-    """The word before the generic parameters that end before this place."""
+    """Return the word before the generic parameters that end before this place."""
     if source.at(place - 1) != ">":
         return ()
     depth, at = 1, place - 2
@@ -225,13 +225,13 @@ def owner(source: Source, place: int) -> tuple[str, ...]:
 
 
 def macros_of(text: str) -> frozenset[str]:
-    """The macros that a file makes."""
+    """Return the macros that a file defines."""
     source = Source("", text)
     return frozenset(source.at(place + 2) for place in source.words("macro_rules") if source.at(place + 1) == "!")
 
 
 def edits_of(name: str, text: str, macros: frozenset[str] = frozenset()) -> list[Edit]:
-    """All edits of a file, in order. It is refused with the first thing in it that is not known."""
+    """Return all edits of a file, in order. The first unknown form refuses the file."""
     whole = Source(name, text)
     erased = [*ghosts(whole), *clauses(whole)]
     unghosted = Source(name, text, erased)
@@ -242,7 +242,7 @@ def edits_of(name: str, text: str, macros: frozenset[str] = frozenset()) -> list
 
 
 def plain(name: str, text: str, macros: frozenset[str] = frozenset()) -> str:
-    """A file as plain Rust. What was erased and what was kept are put together again, and have to be the source."""
+    """Return a file as plain Rust. The erased and the kept parts together have to give the source again."""
     edits = edits_of(name, text, macros)
     made = applied(text, edits)
     if undone(made, edits) != text:

@@ -1,4 +1,4 @@
-"""What the eraser knows by name: all that is renamed, kept, erased and refused."""
+"""The names that the eraser knows: renamed, kept, erased and refused ones."""
 
 # What becomes of a name in code. Rust has its own methods of the first three, with other arguments. Outside a derive
 # `Clone` is the kit's own, which answers a result.

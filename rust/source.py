@@ -1,4 +1,4 @@
-"""A source as its tokens of code, and how they belong together."""
+"""A source as its tokens of code, and their brackets."""
 from collections.abc import Iterator
 
 from rattle.lexer import Kind, Token, tokens
@@ -19,7 +19,7 @@ class Source:
         self.end_of = self._pairs()
 
     def _pairs(self) -> dict[int, int]:
-        """The place of the closing mark, by that of the opening one."""
+        """Return the places of closing marks by those of opening ones."""
         pairs: dict[int, int] = {}
         waiting: list[int] = []
         for place, token in enumerate(self.code):
@@ -36,47 +36,47 @@ class Source:
         return pairs
 
     def refused(self, place: int, why: str) -> Refused:
-        """Why the file is refused, with the line of a place."""
+        """Return the reason of a refusal, with the line of a place."""
         at = self.code[place].at if place < len(self.code) else len(self.text)
         return Refused(f"{self.name}:{self.text.count(chr(10), 0, at) + 1}: {why}")
 
     def at(self, place: int) -> str:
-        """The text of the token at a place; nothing before the first and after the last."""
+        """Return the text of the token at a place; nothing before the first and after the last."""
         return self.code[place].text if 0 <= place < len(self.code) else ""
 
     def is_word(self, place: int) -> bool:
-        """Whether a word stands at a place."""
+        """Return whether a place has a word."""
         return 0 <= place < len(self.code) and self.code[place].kind is Kind.WORD
 
     def stands(self, place: int, *texts: str) -> bool:
-        """Whether these texts stand from a place on."""
+        """Return whether these texts follow from a place on."""
         return all(self.at(place + i) == text for i, text in enumerate(texts))
 
     def words(self, *texts: str) -> Iterator[int]:
-        """The places of these words."""
+        """Return the places of these words."""
         return (place for place, token in enumerate(self.code) if token.kind is Kind.WORD and token.text in texts)
 
     def closing(self, place: int) -> int:
-        """The place of what closes the mark here."""
+        """Return the place of the mark that closes the one here."""
         if place not in self.end_of:
             raise self.refused(place, f"a bracket was expected, not `{self.at(place)}`")
         return self.end_of[place]
 
     def edit(self, first: int, last: int, new: str, form: Form) -> Edit:
-        """What puts `new` for the tokens from `first` to `last`, both included, and keeps the lines."""
+        """Return the edit that puts `new` for the tokens from `first` to `last`, both included, and keeps the lines."""
         at, end = self.code[first].at, self.code[last].end
         old = self.text[at:end]
         return Edit(at, old, new + "\n" * (old.count("\n") - new.count("\n")), form)
 
     def erase(self, first: int, last: int, form: Form) -> Edit:
-        """What erases the tokens from `first` to `last`, and the blanks before them on their line."""
+        """Return the edit that erases the tokens from `first` to `last`, and the blanks before them on their line."""
         edit = self.edit(first, last, "", form)
         line = self.text[:edit.at].rpartition("\n")[2]
         blanks = len(line) if not line.strip(" ") else 0
         return Edit(edit.at - blanks, " " * blanks + edit.old, edit.new, form)
 
     def comments_before(self, place: int) -> Iterator[Token]:
-        """The comments right before a token, the last first."""
+        """Return the comments right before a token, the last first."""
         at = self.all.index(self.code[place])
         while at > 0 and not self.all[at - 1].is_code:
             at -= 1

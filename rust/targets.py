@@ -1,4 +1,4 @@
-"""Builds the plain program of a workspace for a machine: with its C library, or against Debian's.
+"""Build the plain program of a workspace for a machine: with its C library, or against Debian's.
 
 usage: python3 -m rust.targets WORKSPACE MACHINE [--static] [--to FILE]
 MACHINE is amd64 or arm64, which needs packages.txt's `arm64`. FILE (MACHINE/rs_source) gets the program, stripped. No
@@ -32,7 +32,7 @@ SECONDS = 900
 
 @dataclass(frozen=True)
 class Machine:
-    """A kind of machine by Debian's name for it: Rust's name, the linker and the strip for it, and what has them."""
+    """A kind of machine by Debian's name for it: Rust's name, its linker and strip, and the package that has them."""
     name: str
     triple: str
     linker: str
@@ -49,7 +49,7 @@ MACHINES = {machine.name: machine for machine in (
 
 
 def output_of(*words: object, folder: Path | None = None, settings: dict[str, str] | None = None) -> str:
-    """The output of a program that has to end well. What the environment asks of cargo and rustc counts for nothing."""
+    """Return the output of a program that has to succeed, without settings of cargo and rustc in the environment."""
     environment = {name: value for name, value in os.environ.items() if not name.startswith(("CARGO", "RUST"))}
     done = subprocess.run([str(word) for word in words], cwd=folder, env={**environment, **(settings or {})},
                           stdin=subprocess.DEVNULL, capture_output=True, text=True, errors="replace", check=False)
@@ -61,7 +61,7 @@ def output_of(*words: object, folder: Path | None = None, settings: dict[str, st
 
 
 def fetched(machine: Machine, to: Path) -> None:
-    """Unpacks Debian's library of Rust for a machine into a folder. What this machine's apt knows stays as it is."""
+    """Unpack Debian's library of Rust for a machine into a folder. This machine's apt stays as it is."""
     with tempfile.TemporaryDirectory(prefix="library-") as name:
         room = Path(name)
         for folder in ("lists/partial", "archives/partial", "none"):
@@ -81,7 +81,7 @@ def fetched(machine: Machine, to: Path) -> None:
 
 
 def library(machine: Machine, store: Path = KEPT) -> Path:
-    """Debian's library of Rust for a machine, of the compiler's own version. It is kept for the next time."""
+    """Return Debian's library of Rust for a machine, of the compiler's own version. It is kept for the next time."""
     compiler = output_of(RUSTC, "--version").split()[1]
     folder = store / f"{machine.name}-{compiler}"
     if not folder.is_dir():
@@ -93,13 +93,13 @@ def library(machine: Machine, store: Path = KEPT) -> Path:
 
 
 def flags_of(workspace: Path, machine: Machine, is_static: bool) -> list[str]:
-    """What the compiler is asked for: no path of this machine stands in what it makes."""
+    """Return the flags of the compiler: its output has no path of this machine."""
     words = [f"--remap-path-prefix={workspace}=.", *(STATIC if is_static else [])]
     return words if machine.is_ours else [*words, f"--sysroot={library(machine)}"]
 
 
 def built(workspace: Path, machine: Machine, is_static: bool, to: Path) -> Path:
-    """Builds the program for a machine, strips it, and puts it into its place."""
+    """Build the program for a machine, strip it, and move it to its place."""
     needed = {CARGO: "cargo-web", RUSTC: "rustc-web", machine.linker: machine.package, machine.strip: machine.package}
     if lacking := [name for name in needed if not shutil.which(name)]:
         raise Missing(f"there is no {lacking[0]} here: apt-get install {needed[lacking[0]]}")
@@ -119,7 +119,7 @@ def built(workspace: Path, machine: Machine, is_static: bool, to: Path) -> Path:
 
 
 def main() -> int | str:
-    """Builds what the command line names."""
+    """Build the machines of the command line."""
     words = argparse.ArgumentParser(prog="rust.targets", description=__doc__.partition("\n")[0], allow_abbrev=False)
     words.add_argument("workspace", type=Path)
     words.add_argument("machine", choices=MACHINES)

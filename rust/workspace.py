@@ -1,4 +1,4 @@
-"""Writes the Cargo workspace."""
+"""Write the Cargo workspace."""
 import hashlib
 import json
 import shutil
@@ -72,7 +72,7 @@ offline = true
 
 
 def folder_of(name: str, ours: Iterable[str]) -> str:
-    """Where a crate that is named in crates.txt lies, from the top of the workspace."""
+    """Return the folder of a crate of crates.txt, from the top of the workspace."""
     if name in ours:
         return f"{OURS}/{name}"
     if name in CHOICES:
@@ -81,7 +81,7 @@ def folder_of(name: str, ours: Iterable[str]) -> str:
 
 
 def needs_of(crate: Crate, ours: Iterable[str]) -> list[str]:
-    """The lines of a crate's dependencies."""
+    """Return the lines of a crate's dependencies."""
     lines = [f'rattle_std = {{ path = "../../{SHIM}/rattle_std" }}']
     for name in crate.needs:
         if name in VENDORED and name not in STAND_INS + PORTS:
@@ -93,7 +93,7 @@ def needs_of(crate: Crate, ours: Iterable[str]) -> list[str]:
 
 
 def manifest_of(crate: Crate, ours: Iterable[str]) -> str:
-    """The Cargo.toml of one of our crates."""
+    """Return the Cargo.toml of one of our crates."""
     head = [f'name = "{crate.name}"', f'version = "{VERSION}"', 'edition = "2024"', f'rust-version = "{RUST_VERSION}"',
             'license = "MIT OR Apache-2.0"', "publish = false"]
     needs = needs_of(crate, ours)
@@ -110,12 +110,12 @@ def manifest_of(crate: Crate, ours: Iterable[str]) -> str:
 
 
 def allowed(lints: dict[str, str]) -> list[str]:
-    """The lines of what need not be told."""
+    """Return the lines of lints that are off."""
     return [f'{name} = "allow" # {why}' for name, why in lints.items()]
 
 
 def manifest_of_port(name: str) -> str:
-    """The Cargo.toml of one of the kit's ports."""
+    """Return the Cargo.toml of one of the kit's ports."""
     return "\n".join(["[package]", f'name = "{name}"', f'version = "{VERSION}"', 'edition = "2024"',
                       'license-file = "LICENSE-MIT"'
                       if name != "itoa" else 'license-file = "LICENSE"', "publish = false",
@@ -128,7 +128,7 @@ def manifest_of_port(name: str) -> str:
 
 
 def write_erased(source: Path, target: Path, name: str) -> int:
-    """Writes the sources of a crate as plain Rust. Answers how many lines there are."""
+    """Write the sources of a crate as plain Rust; return the number of lines."""
     files = sorted(source.rglob("*.rt"))
     texts = {path: path.read_text(encoding="utf-8") for path in files}
     macros = frozenset[str]().union(*(macros_of(text) for text in texts.values()))
@@ -140,7 +140,7 @@ def write_erased(source: Path, target: Path, name: str) -> int:
 
 
 def write_ours(out: Path, root: Path) -> tuple[list[str], int]:
-    """Writes our crates. Answers their folders, and how many lines they have."""
+    """Write our crates; return their folders, and the number of lines."""
     crates = list(listed(root))
     ours = [crate.name for crate in crates]
     lines = 0
@@ -152,7 +152,7 @@ def write_ours(out: Path, root: Path) -> tuple[list[str], int]:
 
 
 def write_ports(out: Path, folder: Path) -> tuple[list[str], int]:
-    """Writes the kit's ports, each with its licence."""
+    """Write the kit's ports with their licences."""
     lines = 0
     for name in PORTS:
         lines += write_erased(folder / name / "src", out / KIT / name / "src", f"kit/{name}")
@@ -163,7 +163,7 @@ def write_ports(out: Path, folder: Path) -> tuple[list[str], int]:
 
 
 def write_shim(out: Path) -> list[str]:
-    """Copies what stands for the rest of the kit."""
+    """Copy the stand-ins for the rest of the kit."""
     folders = [*STAND_INS, *(f"{name}_choice" for name in CHOICES)]
     for name in folders:
         shutil.copytree(HERE / name, out / SHIM / name, ignore=shutil.ignore_patterns("target", "Cargo.lock"))
@@ -171,7 +171,7 @@ def write_shim(out: Path) -> list[str]:
 
 
 def write_vendored(out: Path) -> None:
-    """Copies the crates of others, with the sums by which Cargo knows them."""
+    """Copy the crates of others, with the sums that Cargo checks."""
     for folder in vendored():
         target = out / VENDOR / folder.name
         shutil.copytree(folder, target, symlinks=False,
@@ -183,7 +183,7 @@ def write_vendored(out: Path) -> None:
 
 
 def write(out: Path, root: Path = ROOT) -> str:
-    """Writes the whole workspace into a new folder. Answers what was written."""
+    """Write the whole workspace into a new folder; return its summary."""
     ports = kit()
     ours, lines = write_ours(out, root)
     kits, lines_of_ports = write_ports(out, ports)

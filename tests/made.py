@@ -1,4 +1,4 @@
-"""Parts of pages that a program makes: between a line that says from what and how, and one that ends them."""
+"""Generated parts of pages, between a line that names their source and their generator, and an end line."""
 
 from dataclasses import dataclass
 
@@ -6,23 +6,23 @@ END = "<!-- end of what is made -->"
 
 
 class NoPart(ValueError):
-    """A page that has no place for what is made."""
+    """A page has no place for a generated part."""
 
 
 @dataclass(frozen=True)
 class Made:
-    """What is made: from which texts, and by which module."""
+    """A generated part: the texts that it is made from, and the module that makes it."""
 
     source: str
     module: str
 
     @property
     def begin(self) -> str:
-        """The line before it."""
+        """Return the line before the part."""
         return f"<!-- made from {self.source}: python3 -m {self.module} --write -->\n"
 
     def part_of(self, page: str) -> str:
-        """The part of a page as it is."""
+        """Return the current part of the page."""
         before, begin, rest = page.partition(self.begin)
         part, end, after = rest.partition(END)
         if not begin or not end:
@@ -30,5 +30,5 @@ class Made:
         return part
 
     def with_part(self, page: str, text: str) -> str:
-        """The page with this text as the part."""
+        """Return the page with this text as the part."""
         return page.replace(self.begin + self.part_of(page) + END, f"{self.begin}{text}\n{END}")

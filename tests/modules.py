@@ -1,4 +1,4 @@
-"""Files of Python as modules: where a module lies, by what name a file is imported, and what it imports."""
+"""Python files as modules: the place of a module, the name that imports a file, and its imports."""
 
 import ast
 from functools import cache
@@ -6,27 +6,29 @@ from pathlib import Path
 
 from tests.program import ROOT
 
-# Where packages lie that are imported by their own name.
+# The folders of packages that are imported by their own name.
 ELSEWHERE = {"ropepeach": "operations"}
 
 
 def module_of(file: Path, root: Path = ROOT) -> str:
-    """The name by which a file is imported; a folder that is run has that of its `__main__`."""
+    """Return the name by which a file is imported; a folder that runs as a program has the name of its `__main__`."""
     parts = file.relative_to(root).with_suffix("").parts
     is_elsewhere = parts[1:] and ELSEWHERE.get(parts[1]) == parts[0]
     return ".".join(parts[1:] if is_elsewhere else parts).removesuffix(".__init__")
 
 
 def place_of(root: Path, module: str) -> Path:
-    """The folder of a module, or its file without the suffix, if it is one of the repository."""
+    """Return the folder of a module, or its file without the suffix, for a module of the repository."""
     parts = module.split(".")
     return root.joinpath(ELSEWHERE.get(parts[0], ""), *parts)
 
 
 @cache
 def imported(file: Path) -> frozenset[str]:
-    """The modules that a file imports, within functions too, and the names that it takes from modules, as dotted names;
-    none where it is no Python."""
+    """Return the modules and their names that a file imports, also within functions, as dotted names.
+
+    A file that is no Python has none.
+    """
     found: set[str] = set()
     try:
         tree = ast.parse(file.read_bytes())

@@ -1,4 +1,4 @@
-"""What every test needs: the program and its settings, a clock that stands still, and how a difference is shown."""
+"""The needs of all tests: the program and its settings, a clock that does not move, and the report of a difference."""
 import os
 import pathlib
 import shutil
@@ -31,12 +31,12 @@ int clock_gettime(clockid_t id, struct timespec *t) {{
 IN_MEMORY, ROOM = "/dev/shm", 100_000_000
 
 
-class Differs(Exception):
-    """What is wanted and what came differ."""
+class Differs(AssertionError):
+    """A value differs from the expected one."""
 
 
-def compare(what, wanted, found):
-    """Tells the first byte that differs."""
+def compare(what: str, wanted: bytes, found: bytes) -> None:
+    """Raise Differs with the first byte that differs."""
     if wanted == found:
         return
     at = next((i for i, (a, b) in enumerate(zip(wanted, found)) if a != b), min(len(wanted), len(found)))
@@ -44,8 +44,8 @@ def compare(what, wanted, found):
     raise Differs(f"{what}: byte {at + 1}, line {line}: wanted {wanted[at:at + 60]!r}, found {found[at:at + 60]!r}")
 
 
-def ask(port, sent):
-    """What a connection answers to these bytes, which end by a shutdown of its writing side."""
+def ask(port: int, sent: bytes) -> bytes:
+    """Return the answer of a connection to these bytes, which end by a shutdown of its writing side."""
     with socket.create_connection(("127.0.0.1", port), timeout=SECONDS) as connection:
         connection.sendall(sent)
         connection.shutdown(socket.SHUT_WR)
@@ -55,8 +55,8 @@ def ask(port, sent):
     return found
 
 
-def interposed(room, name, text):
-    """A C library of this text that stands before the system's, as a setting of the environment."""
+def interposed(room: str | pathlib.Path, name: str, text: str) -> dict[str, str]:
+    """Return the environment in which a C library of this text replaces calls of the system's."""
     source, library = (pathlib.Path(room, name + end) for end in [".c", ".so"])
     if not library.exists():
         source.write_text(text)
@@ -64,7 +64,7 @@ def interposed(room, name, text):
     return {**os.environ, "LD_PRELOAD": str(library)}
 
 
-def room_in_memory(prefix):
-    """A temporary folder in memory, where there is room for one."""
+def room_in_memory(prefix: str) -> tempfile.TemporaryDirectory[str]:
+    """Return a temporary folder in memory, if there is room for one."""
     is_there = os.access(IN_MEMORY, os.W_OK) and shutil.disk_usage(IN_MEMORY).free > ROOM
     return tempfile.TemporaryDirectory(prefix=prefix, dir=IN_MEMORY if is_there else None)

@@ -1,17 +1,18 @@
-"""The built program under `serve`, with a clock that goes on with each connection, and clients that send it bytes."""
+"""Servers of the program, with a clock that advances by connection, and clients that send bytes to them."""
 import contextlib
 import random
 import socket
 import struct
 import subprocess
+from collections.abc import Iterable, Iterator
+from pathlib import Path
 
 from tests.program import interposed
 from tests.reading.disk_judge import LAST_MOMENT
 
-# No step waits longer than this.
+# The timeout of every step, in seconds.
 SECONDS = 30
-# The time of day is CLOCK milliseconds, and STEP more with each connection that was taken. All other clocks are the
-# system's.
+# The time of day is CLOCK milliseconds, plus STEP per accepted connection. All other clocks are the system's.
 CLOCK = r"""
 #define _GNU_SOURCE
 #include <stdlib.h>
@@ -35,29 +36,30 @@ int accept4(int fd, struct sockaddr *a, socklen_t *n, int flags) {
 """
 
 
-def with_clock(folder):
-    """The environment in which the clock above stands before the system's."""
+def with_clock(folder: str | Path) -> dict[str, str]:
+    """Return the environment in which this clock replaces the system's."""
     return interposed(folder, "clock", CLOCK)
 
 
-def moment_of(time):
-    """What a time of day counts as."""
+def moment_of(time: int) -> int:
+    """Return the moment that a time of day counts as."""
     return min(max(time, 0), LAST_MOMENT)
 
 
 class Ended(Exception):
-    """How a server ended that should not have."""
+    """A server ended in an unexpected way."""
 
 
 @contextlib.contextmanager
-def served(program, file, count, environment=None):
-    """The port of a server of this many connections, which has to end by itself, and well, when all were served."""
-    words = [program, "serve", file, "0", str(count)]
+def served(program: str, file: str | Path, count: int, environment: dict[str, str] | None = None) -> Iterator[int]:
+    """Yield the port of a server of `count` connections, which must end by itself with status 0 after the last one."""
+    words = [program, "serve", str(file), "0", str(count)]
     with subprocess.Popen(words, stdout=subprocess.PIPE, stderr=subprocess.PIPE, env=environment) as server:
         try:
+            assert server.stdout and server.stderr
             line = server.stdout.readline()
             if not line.startswith(b"listening 127.0.0.1:"):
-                raise Ended(f"no line that tells the port: {line!r} {server.stderr.read()!r}")
+                raise Ended(f"no line with the port: {line!r} {server.stderr.read()!r}")
             yield int(line.removeprefix(b"listening 127.0.0.1:"))
             output, messages = server.communicate(timeout=SECONDS)
             if server.returncode or output or messages:
@@ -68,8 +70,8 @@ def served(program, file, count, environment=None):
             server.kill()
 
 
-def free_port():
-    """A free port that no client is given by the system (it gives those from 32,768 on)."""
+def free_port() -> int:
+    """Return a free port that the system gives to no client (it gives those from 32,768 on)."""
     while True:
         with socket.socket() as listener:
             port = random.randrange(20_000, 32_000)
@@ -79,26 +81,28 @@ def free_port():
 
 
 @contextlib.contextmanager
-def serving(program, room, count=1_000_000, env=None):
-    """The URL of a server of a.disk, and the server, which is killed at the end."""
+def serving(program: str, room: str | Path, count: int = 1_000_000,
+            env: dict[str, str] | None = None) -> Iterator[tuple[str, subprocess.Popen[bytes]]]:
+    """Yield the URL of a server of a.disk, and the server, which is killed at the end."""
     with subprocess.Popen([program, "serve", "a.disk", "0", str(count)], cwd=room, stdout=subprocess.PIPE,
                           env=env) as server:
         try:
+            assert server.stdout
             yield f"http://{server.stdout.readline().decode().split()[1]}", server
         finally:
             server.kill()
 
 
-def connected(port):
-    """A connection to a server, whose bytes are sent at once."""
+def connected(port: int) -> socket.socket:
+    """Return a connection to a server that sends its bytes at once."""
     connection = socket.create_connection(("127.0.0.1", port), timeout=SECONDS)
     connection.setsockopt(socket.IPPROTO_TCP, socket.TCP_NODELAY, 1)
     return connection
 
 
-def read_to_end(connection):
-    """All that comes, and whether the connection was reset then."""
-    found = []
+def read_to_end(connection: socket.socket) -> tuple[bytes, bool]:
+    """Return all received bytes, and whether the connection was reset after them."""
+    found = list[bytes]()
     with contextlib.suppress(ConnectionError):
         while piece := connection.recv(65_536):
             found.append(piece)
@@ -106,16 +110,16 @@ def read_to_end(connection):
     return b"".join(found), True
 
 
-def reset(connection):
-    """Closed like this, a connection is reset."""
+def reset(connection: socket.socket) -> None:
+    """Close a connection with a reset."""
     connection.setsockopt(socket.SOL_SOCKET, socket.SO_LINGER, struct.pack("ii", 1, 0))
     connection.close()
 
 
-def exchanged(port, pieces, ending="half"):
-    """What comes back to these pieces and whether the connection was reset, or None where the client does not wait.
+def met(port: int, pieces: Iterable[bytes], ending: str) -> tuple[bytes, bool] | None:
+    """Return the response to these pieces and whether the connection was reset, or None if the client does not wait.
 
-    A server that has answered may end a connection while bytes come that it does not read: they are not sent then.
+    A server that has answered may end a connection while it receives bytes that it does not read; the rest is not sent.
     """
     with connected(port) as connection:
         with contextlib.suppress(ConnectionError):
@@ -128,3 +132,10 @@ def exchanged(port, pieces, ending="half"):
         with contextlib.suppress(OSError):
             connection.shutdown(socket.SHUT_WR)
         return read_to_end(connection)
+
+
+def exchanged(port: int, pieces: Iterable[bytes]) -> tuple[bytes, bool]:
+    """Return the response to these pieces, and whether the connection was reset."""
+    found = met(port, pieces, "half")
+    assert found is not None
+    return found

@@ -1,4 +1,4 @@
-"""Calls beside a block of a test, whose faults come to whoever runs the block."""
+"""Calls in parallel with a block of a test; their faults are raised after the block."""
 
 import contextlib
 from collections.abc import Callable, Iterator
@@ -7,8 +7,10 @@ from concurrent.futures import Future, ThreadPoolExecutor
 
 @contextlib.contextmanager
 def beside(*calls: Callable[[], object], ending: Callable[[], object] = lambda: None) -> Iterator[list[Future[object]]]:
-    """Runs calls in threads of their own while the block runs. Behind the block `ending` tells them to end, and all are
-    waited for. A fault of the block is raised; where it had none, the first fault of a call is."""
+    """Run calls in threads while the block runs; after the block, `ending` asks them to end, and all are joined.
+
+    A fault of the block is raised; otherwise the first fault of a call is.
+    """
     with ThreadPoolExecutor(len(calls)) as pool:
         running = [pool.submit(call) for call in calls]
         try:

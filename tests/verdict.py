@@ -1,4 +1,4 @@
-"""What `make test` found of a commit: the gate writes it, and a release reads it."""
+"""The verdict of `make test` on a commit: the gate writes it, and a release reads it."""
 
 import dataclasses
 import json
@@ -6,17 +6,17 @@ import subprocess
 from dataclasses import dataclass
 from pathlib import Path
 
-# Where the gate leaves it, from the top of the repository.
+# The path of the verdict, relative to the top of the repository.
 PLACE = Path("out", "verdict.json")
 
 
 class NoVerdict(Exception):
-    """There is no verdict, or it cannot be read."""
+    """No readable verdict exists."""
 
 
 @dataclass(frozen=True)
 class State:
-    """The commit of a repository, and the files that are not as the commit has them."""
+    """The commit of a repository, and the files that differ from it."""
 
     commit: str
     changes: tuple[str, ...]
@@ -24,9 +24,7 @@ class State:
 
 @dataclass(frozen=True)
 class Verdict:
-    """The commit, the files that were not as it has them, the kit, how many parts passed, what failed, what was
-    skipped, and the last line.
-    """
+    """The commit, files that differed from it, the kit, the count of passed parts, failures, skips, and last line."""
 
     commit: str
     changes: tuple[str, ...]
@@ -38,31 +36,31 @@ class Verdict:
 
     @property
     def is_green(self) -> bool:
-        """Whether parts passed, and none failed."""
+        """Return whether parts passed and none failed."""
         return self.passed > 0 and not self.failed
 
 
 def git(root: Path, *words: str) -> str:
-    """The output of git, or nothing where there is no repository."""
+    """Return the output of git, or nothing if there is no repository."""
     finished = subprocess.run(["git", *words], cwd=root, capture_output=True, text=True, errors="replace", check=False)
     return finished.stdout if finished.returncode == 0 else ""
 
 
 def state_of(root: Path) -> State:
-    """The state of a repository now. What git ignores does not count."""
-    # (a file that moved is one that is gone and one that is new)
+    """Return the current state of a repository. Files that git ignores do not count."""
+    # A moved file is listed as a deleted and a new one.
     changes = git(root, "status", "--porcelain", "-z", "--no-renames", "--untracked-files=all").split("\0")
     return State(git(root, "rev-parse", "HEAD").strip(), tuple(sorted(change[3:] for change in changes if change)))
 
 
 def joined(before: State, after: State) -> State:
-    """The state of a repository over a time: a commit that was made meanwhile is a change."""
+    """Return the state of a repository over a time: a commit made meanwhile counts as a change."""
     moved = () if before.commit == after.commit else (f"commit {after.commit}",)
     return State(before.commit, tuple(sorted({*before.changes, *after.changes, *moved})))
 
 
 def write(root: Path, verdict: Verdict) -> None:
-    """Writes the verdict of a run, in the place of an earlier one."""
+    """Write the verdict of a run, which replaces an earlier one."""
     path = root / PLACE
     path.parent.mkdir(exist_ok=True)
     beside = path.with_suffix(".new")
@@ -71,19 +69,19 @@ def write(root: Path, verdict: Verdict) -> None:
 
 
 def drop(root: Path) -> None:
-    """Takes the verdict of an earlier run away: a run that is stopped leaves none."""
+    """Remove the verdict of an earlier run, so that a stopped run leaves none."""
     (root / PLACE).unlink(missing_ok=True)
 
 
 def texts(value: object) -> tuple[str, ...]:
-    """A list of texts of JSON."""
+    """Return a list of texts in JSON."""
     if not isinstance(value, list) or not all(isinstance(entry, str) for entry in value):
         raise ValueError("no list of texts")
     return tuple(value)
 
 
 def read(root: Path) -> Verdict:
-    """The verdict of the last run."""
+    """Return the verdict of the last run."""
     path = root / PLACE
     try:
         found = json.loads(path.read_text(encoding="utf-8"))

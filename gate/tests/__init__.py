@@ -1,1 +1,1 @@
-"""Tests of the gate: python3 -m gate.tests."""
+"""Tests of the gate."""

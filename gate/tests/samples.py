@@ -1,4 +1,4 @@
-"""What the tests of the gate have in common: a sample crate, repositories of such crates, and the tables in texts/."""
+"""A sample crate, repositories of these crates, and the tables in texts/, for the tests of the gate."""
 
 import contextlib
 import subprocess
@@ -9,22 +9,22 @@ from pathlib import Path
 HERE = Path(__file__).resolve().parent
 
 def text(name: str) -> str:
-    """The text of this name in texts/."""
+    """Return the text of this name in texts/."""
     return (HERE / "texts" / f"{name}.txt").read_text()
 
 
 def rows(name: str) -> list[list[str]]:
-    """The rows of a table, behind the line that says what its columns are."""
+    """Return the rows of a table after its first line, which names the columns."""
     return [[cell.strip() for cell in row.split(" |")] for row in text(name).splitlines()[1:]]
 
 
-# A crate, and one above it.
+# A crate, and a crate above it.
 CODE, ABOVE = text("sample"), text("above")
 
 
 @contextlib.contextmanager
 def repository(**crates: str) -> Iterator[str]:
-    """A repository of these crates, each over those before it, with their source texts and an edit each."""
+    """Yield a repository of these crates, with one edit per crate; a crate uses all crates before it."""
     names = [*crates]
     with tempfile.TemporaryDirectory() as room:
         write("".join(f"{name}: {' '.join(names[:at])}\n" for at, name in enumerate(names)), room, "crates.txt")
@@ -36,7 +36,7 @@ def repository(**crates: str) -> Iterator[str]:
 
 
 def write(text: str, *path: str | Path) -> Path:
-    """Writes a text to the file of this path, whose folders it makes."""
+    """Write a text to the file of this path, and make its folders."""
     file = Path(*path)
     file.parent.mkdir(parents=True, exist_ok=True)
     file.write_text(text)
@@ -44,17 +44,17 @@ def write(text: str, *path: str | Path) -> Path:
 
 
 def write_program(text: str, *path: str | Path) -> None:
-    """Writes a program of the shell."""
+    """Write a shell program."""
     write(f"#!/bin/sh\n{text}", *path).chmod(0o755)
 
 
 def write_edit(room: str, crate: str, name: str, old: str, new: str) -> None:
-    """Writes an edit of a crate."""
+    """Write an edit of a crate."""
     write(f"file: src/lib.rt\nold: {old}\nnew: {new}\n", room, "crates", crate, "must-fail", f"{name}.edit")
 
 
 def commit(folder: Path, subject: str) -> None:
-    """Commits all that is in a folder."""
+    """Commit all files of a folder."""
     author = ["-c", "user.name=a", "-c", "user.email=a@example.org", "-c", "commit.gpgsign=false"]
     for words in (["init", "-q"], ["add", "-A"], [*author, "commit", "-q", "-m", subject]):
         subprocess.run(["git", *words], cwd=folder, check=True, capture_output=True)

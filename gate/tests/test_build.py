@@ -1,4 +1,4 @@
-"""Tests of `make build`: what it copies, when it runs, and what it takes."""
+"""Test `make build`: the files that it copies, when it runs, and which results it takes."""
 
 import contextlib
 import io
@@ -13,7 +13,7 @@ from gate import build
 from gate.edits import kit
 from gate.tests.samples import write, write_program
 
-# A toolchain that proves the program, or does not; it makes the program of the words that its source has.
+# A toolchain that proves the program, or fails to; it makes the program from the words of its source.
 RT = """[ "$1" = version ] && echo 'a-kit logic 1a' && exit
 echo run >> {room}/runs
 cat crates.txt > {room}/crates
@@ -45,21 +45,21 @@ class Build(unittest.TestCase):
         self.toolchain(failed=0)
 
     def patch(self, where: object, name: str, value: object) -> None:
-        """Gives a module another value while a test runs."""
+        """Give a module another value during a test."""
         self.enterContext(mock.patch.object(where, name, value))
 
     def toolchain(self, failed: int) -> None:
-        """Sets the toolchain up, which fails where `failed` is 1."""
+        """Set up the toolchain, which fails if `failed` is 1."""
         write_program(RT.format(room=self.room, failed=failed), self.room, "rt")
 
     def built(self) -> tuple[int, str]:
-        """The status of `make build`, and its last line."""
+        """Return the exit status of `make build`, and its last line."""
         with contextlib.redirect_stdout(io.StringIO()) as out, contextlib.redirect_stderr(io.StringIO()):
             status = build.main()
         return status, out.getvalue().splitlines()[-1]
 
     def runs(self) -> int:
-        """How often the toolchain ran."""
+        """Return the number of runs of the toolchain."""
         noted = self.room / "runs"
         return len(noted.read_text().splitlines()) if noted.exists() else 0
 

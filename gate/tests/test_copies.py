@@ -1,4 +1,4 @@
-"""Tests of how an edit is put into a trial: the function that changes, its copy, and the goals that are left out."""
+"""Test how an edit is put into a trial: the changed function, its copy, and the goals that are left out."""
 
 import json
 import tempfile
@@ -42,13 +42,13 @@ class Copying(unittest.TestCase):
         self.folder = Path(self.enterContext(repository(sample=code)), "crates", "sample")
 
     def edit_of(self, old: str, new: str, name: str = "next", goal: str = "", others: Sequence[str] = ()) -> edit.Edit:
-        """An edit of a function of the sample, as it changes that."""
+        """Return an edit of a function of the sample."""
         found = edit.Edit(new, [("src/lib.rt", old, new)], goal=goal, others=[*others])
         edit.look(found, self.folder, [f"sample::{name}"])
         return found
 
     def groups(self, edits: list[edit.Edit]) -> list[dict[str, str]]:
-        """The edits by the functions and copies on which they stand, check by check."""
+        """Return the edits by the functions and copies that they change, check by check."""
         groups = grouped(edits, self.folder)
         return [{symbol: one.label for symbol, one in group.tried.items()} for group in groups]
 
@@ -60,7 +60,7 @@ class Copying(unittest.TestCase):
         self.assertEqual(self.edit_of("result ≤ a", "result ≤ b", "smaller").symbols, set())
 
     def test_edits_that_stand_on_copies(self) -> None:
-        """Each edit stands on its own copy; one whose function can't be copied stands in its place, one a check."""
+        """Every edit has its own copy; a function that can't be copied is changed itself, by one edit per check."""
         every = [self.edit_of("from(x) + 1", f"from(x) + {number}") for number in (2, 3, 4)]
         [group] = grouped(every, self.folder)
         bodies = [("sample::next", "from(x) + 1"), *((symbol, one.label) for symbol, one in group.tried.items())]
@@ -84,7 +84,7 @@ class Copying(unittest.TestCase):
                 self.assertEqual(copies.can_be_copied(one, room), can_be == "yes")
 
     def test_a_copy_of_a_function(self) -> None:
-        """It stands behind its function, as the edit has it, with its own proof files; an answer is left out once."""
+        """The copy follows its function, has the edit and its own proof files; an answer is left out once."""
         text, answers = (self.folder / "src/lib.rt").read_text(), ANSWERS.partition("help")[0] + "next.tt\n"
         write(answers, self.folder, "proofs/next/Answers.antt")
         one = self.edit_of("u16::from(x) + 1", "u16::from(x) + 2", goal="returns", others=["other"])
@@ -102,7 +102,7 @@ class Copying(unittest.TestCase):
                          answers.replace("proofs.next.", "proofs.next_tried_7.") + added)
 
     def test_what_is_left_out_of_a_trial(self) -> None:
-        """All goals of the function but the line's, and all with an answer by hand where the search has that one."""
+        """All other goals of the function, and all goals with an answer by hand if the search has the edit's goal."""
         write(ANSWERS, self.folder, "proofs/next/Answers.antt")
         trials: list[tuple[str, list[str], list[str]]] = [
             ("", ["first", "third"], []),
@@ -121,7 +121,7 @@ class Copying(unittest.TestCase):
             self.assertEqual((counts, text.count(goals.NO_ANSWER)), ([1] * len(counts), len(counts)))
 
     def test_the_goals_that_a_function_has_as_it_is(self) -> None:
-        """Those that its kept proof's head declares, but those that are there by their clauses; none without a head."""
+        """The private goals in its kept proof's head, except those with clauses of their own; none without a head."""
         declared = [("returns", False), ("returns-clause-size", False), ("size", False), ("size-clauses", False),
                     ("open_spec", True)]
         exports = json.dumps({"exports": [{"spelling": name, "pub": is_public} for name, is_public in declared]})

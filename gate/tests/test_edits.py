@@ -1,4 +1,4 @@
-"""Tests of the runner of edits: what it takes as refused, with the prover and by the report of a check."""
+"""Test the runner of edits: which edits count as refused, with the prover and by the report of a check."""
 
 import contextlib
 import io
@@ -8,21 +8,25 @@ from collections.abc import Iterable, Sequence
 from pathlib import Path
 from unittest import mock
 
+import pytest
+
 from gate.edits import edit, edits, goals, kit, verdict
 from gate.edits.groups import Group
 from gate.edits.libraries import Libraries
 from gate.tests.samples import CODE, repository, rows, text, write, write_edit
 
-# The report of a check of functions, and of a function and its copy, one answer of each of which is left out.
+# The report of a check of functions; and of a function and its copy, with one answer of both left out.
 REPORT, LEFT_OUT = text("told"), text("left_out")
 CUT = ("./proofs/m/open/Answers.antt:3:1: error: `returns`: record `low.m.open.Lts.View`%shas no field `found`\n"
        "fn low::m::open: not proved\nlogic=not-proved\n")
 OPEN, COPY, FOUND, SIZE = "low::m::open", "low::m::open_tried_1", "returns-clause-found", "returns-clause-size"
 
 
+# The prover reads its libraries at every check.
+@pytest.mark.timeout(900)
 class Trying(unittest.TestCase):
     def outcomes(self, room: str, tried: Iterable[list[str]]) -> dict[str, edit.Edit]:
-        """Tries these edits, and gives each by its name, once its outcome is that of its row."""
+        """Try these edits, check their outcomes against the rows, and return them by name."""
         Path(room, "crates/sample/must-fail/one.edit").unlink()
         for name, old, new, _, _ in tried:
             write_edit(room, "sample", name, old, new)
@@ -38,8 +42,7 @@ class Trying(unittest.TestCase):
             self.outcomes(room, [row for row in rows("edits") if not row[-1]])
 
     def test_one_goal_of_each_edit_in_one_check(self) -> None:
-        """Edits of one function whose goals are known stand in one check, each tried by its goal; one not refused there
-        is tried alone."""
+        """Edits of one function with known goals share a check by goal; an edit not refused there is tried alone."""
         tried = [row for row in rows("edits") if row[-1]]
         with repository(sample=CODE) as room:
             found = self.outcomes(room, tried)
@@ -52,7 +55,7 @@ class Trying(unittest.TestCase):
                              {**wanted, "sample/known.by_a_goal_that_holds": "returns-else-a-b-clause-second"})
 
     def test_an_edit_that_was_not_tried_keeps_its_goal(self) -> None:
-        """What came of each edit of a crate whose goals were known, and which lines stay; those of others do."""
+        """Whether a line of goals stays depends on the outcome of its edit; lines of other crates stay."""
         every = [edit.Edit(f"low/{outcome.name}", [], outcome, goal="sum") for outcome in edit.Outcome]
         with repository(low=CODE) as room:
             write("".join(f"{one.label}: sum\n" for one in every) + "high/one: size\n", room, goals.FILE)
@@ -64,8 +67,7 @@ class Trying(unittest.TestCase):
             self.outcomes(room, [["one", "a", "b", "NOT TRIED", ""]])
 
     def test_how_a_run_ends(self) -> None:
-        """Its last line counts what is refused and what is not, and its status goes by that; nothing is tried over a
-        library that is not built."""
+        """The last line counts refused and other edits, which decide the status; an unbuilt library stops a run."""
         refused, proved = (edit.Edit("low/one", [], outcome) for outcome in (edit.Outcome.REFUSED, edit.Outcome.PROVED))
         self.assertEqual(self.end([refused], ""), (0, "1 refused, 0 not refused"))
         self.assertEqual(self.end([refused, proved], ""), (1, "1 refused, 1 not refused"))
@@ -73,7 +75,7 @@ class Trying(unittest.TestCase):
             self.end([refused], "no")
 
     def end(self, every: list[edit.Edit], wrong: str) -> tuple[int, str]:
-        """The status and the last line of a run with these edits, over libraries of which this is wrong."""
+        """Return the status and the last line of a run with these edits; `wrong` is the libraries' build error."""
         with (repository(low=CODE) as room, contextlib.redirect_stdout(io.StringIO()) as out,
               mock.patch.object(sys, "argv", ["edits.py", "--root", room]),
               mock.patch.object(Libraries, "build_each", lambda self, names: wrong),
@@ -84,7 +86,7 @@ class Trying(unittest.TestCase):
 class Reading(unittest.TestCase):
     def judged(self, report: str, goal: str = "", others: Sequence[str] = (),
                on: Iterable[str] = (OPEN,)) -> list[bool]:
-        """Which edits of a group that stand on these functions or copies are refused by a report."""
+        """Return which edits of a group that change these functions or copies a report refuses."""
         tried = {symbol: edit.Edit("low/it", [], symbols={symbol if goal == "" else OPEN}, goal=goal, others=[*others])
                  for symbol in on}
         edits.Trial("low", [], mock.Mock(root="")).judge(Group(tried), kit.Report(1, report))
@@ -102,12 +104,12 @@ class Reading(unittest.TestCase):
             self.assertFalse(verdict.read("low", kit.Report(status, report)).is_read)
 
     def test_an_error_that_is_cut_in_two(self) -> None:
-        """A proof that names what is gone says nothing of its function's own goals, wherever its error is cut."""
+        """A proof that names a missing thing says nothing about its function's own goals, wherever its error is cut."""
         for cut, own in ((" ", []), ("\n  ", []), ("\n  is not that which ", [OPEN])):
             self.assertEqual([*verdict.read("low", kit.Report(1, CUT % cut)).own], own)
 
     def test_which_goal_of_several_comes_first(self) -> None:
-        """One that the prover found false, one of what the function ensures, one whose answer by hand is refused."""
+        """Goals found false, ensured by the function, or with a refused answer by hand come before other goals."""
         is_false = f"what it ensures (`{FOUND}`); the facts known there {verdict.IS_FALSE}"
         opened = ["that a sum fits (`sum-fits`)", f"what it ensures (`{SIZE}`)", is_false]
         self.assertEqual(verdict.names_of(opened), [FOUND, SIZE, "sum-fits"])
@@ -115,7 +117,7 @@ class Reading(unittest.TestCase):
         self.assertEqual(verdict.read("low", report, {COPY: [SIZE]}).refused(COPY), [FOUND, "invariant-loop-n"])
 
     def test_an_answer_that_is_left_out_refuses_nothing(self) -> None:
-        """Neither of a copy nor of a function; nor does another answer where the line's goal is one of the search."""
+        """Neither for a copy nor for a function; nor does another answer if the search has the edit's goal."""
         proved = LEFT_OUT.replace("note:", "past:")
         differing = proved.replace("`gone` is not in scope", "the two types differ")
         for report, wanted in ((LEFT_OUT, True), (proved, False), (differing, False)):

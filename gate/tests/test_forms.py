@@ -1,4 +1,4 @@
-"""Tests of forms.py: an edit that breaks what answers by hand cite is named, one that changes a value is not."""
+"""Test forms.py: it names edits that break a part cited by answers by hand, and not edits that change a value."""
 import tempfile
 import unittest
 from pathlib import Path
@@ -22,7 +22,7 @@ ANSWERS = "pub returns-clause-sum : goal.returns-clause-sum\nreturns-clause-sum 
 
 
 class Forms(unittest.TestCase):
-    """Edits of a crate of two functions, one of which has an answer by hand."""
+    """Edits of a crate with two functions, of which one has an answer by hand."""
 
     def test_those_of_crates_are_told(self) -> None:
         with tempfile.TemporaryDirectory() as room:
@@ -37,7 +37,7 @@ class Forms(unittest.TestCase):
                               "forms: 1 of 2 edits may be refused for their form alone"])
 
     def why(self, old: str, new: str, goal: str = "returns-clause-sum") -> str:
-        """What of form an edit breaks."""
+        """Return the parts of a function's form that an edit breaks."""
         with tempfile.TemporaryDirectory() as room:
             write(SUMS, room, "src/sum.rt")
             write(ANSWERS, room, "proofs/sum/add/Answers.antt")

@@ -1,4 +1,4 @@
-"""Tests of what is kept of edits: what the record covers, which goals are noted, and which crates are built."""
+"""Test the records of edits: the crates that the record covers, the noted goals, and the crates that are built."""
 
 import unittest
 from pathlib import Path
@@ -10,13 +10,13 @@ from gate.tests.samples import ABOVE, CODE, repository, rows, write
 
 
 def tried(label: str, goal: str, outcome: edit.Outcome = edit.Outcome.REFUSED) -> edit.Edit:
-    """An edit that was tried."""
+    """Return a tried edit."""
     return edit.Edit(label, [], outcome, goal=goal)
 
 
 class Recording(unittest.TestCase):
     def test_what_a_change_leaves_covered(self) -> None:
-        """A body, proof or edit is its own crate's. What a crate says is of all above it, a comment of none."""
+        """Bodies, proofs and edits concern their crate, contracts and definitions all crates above, comments none."""
         for crate, part, old, new, covered in rows("covered"):
             with repository(low=CODE, high=ABOVE) as room, self.subTest(part=part, old=old):
                 for folder in ("specs", "proofs"):
@@ -40,7 +40,7 @@ class Recording(unittest.TestCase):
                     self.assertEqual(record.uncovered(room), wanted)
 
     def test_what_is_noted_of_a_crate(self) -> None:
-        """The goal of each refused edit beside other crates' goals; a line of the record where each edit is refused."""
+        """Goals of refused edits join other crates' goals; the record gets a line if all edits are refused."""
         refused, proved = tried("low/one", "returns"), tried("low/two", "returns", edit.Outcome.PROVED)
         with repository(low=CODE, high=ABOVE) as room:
             edits.note(room, "high", [tried("high/one", "sum-fits"), tried("high/two", "")])
@@ -86,11 +86,11 @@ class Recording(unittest.TestCase):
                 self.assertEqual(self.proved(room), proved)
 
     def proved(self, room: str) -> list[list[str] | None]:
-        """The functions of each crate that were proved as it was built from what is there now."""
+        """Return the functions of every crate that were proved when it was built from its current files."""
         return [Libraries(room, 1).proved(name) for name in ("low", "middle", "high")]
 
     def build(self, room: str, status: int) -> tuple[str, list[str], list[str]]:
-        """What was wrong with a build by checks of this status, the crates checked, and the crates reported."""
+        """Return the error of a build whose checks have this status, the checked crates, and the reported crates."""
         reported: list[str] = []
         report_of = lambda words, folder: kit.Report(status, f"fn {folder.name}::next: proved\nit is told")
         with mock.patch.object(kit, "check", side_effect=report_of) as check:
@@ -98,7 +98,7 @@ class Recording(unittest.TestCase):
         return wrong, [call.args[1].name for call in check.call_args_list], reported
 
     def test_of_a_program_the_proofs_alone_are_kept(self) -> None:
-        """And a crate that no other one waits beside has all jobs."""
+        """A crate that is built alone gets all jobs."""
         report = kit.Report(0, "fn top::main: proved\n")
         with (repository(low=CODE, top=ABOVE) as room,
               mock.patch.object(kit, "check", return_value=report) as check):

@@ -1,4 +1,4 @@
-"""Tests of the verdict that a run of the gate leaves for a release."""
+"""Test the verdict that a run of the gate leaves for a release."""
 
 import contextlib
 import io
@@ -20,7 +20,7 @@ MADE = verdict.Verdict("c" * 40, (), "kit-1 logic abc", 3, (), ("a: NOT TRIED: n
 
 class Verdicts(unittest.TestCase):
     def setUp(self) -> None:
-        # A repository with one commit of one file, which leaves out/ out.
+        # A repository with one commit of one file, which ignores out/.
         self.root = Path(self.enterContext(tempfile.TemporaryDirectory()))
         write("a\n", self.root, "a")
         write("out/\n", self.root, ".gitignore")
@@ -85,7 +85,7 @@ class Verdicts(unittest.TestCase):
         for is_strict, failed in ((False, 0), (True, 1)):
             with contextlib.redirect_stdout(io.StringIO()) as printed:
                 gate.note(parts, is_strict, before)
-                status = gate.conclude(parts, is_strict)
+                status = parts.conclude(is_strict)
             found = verdict.read(self.root)
             self.assertEqual(found.line, printed.getvalue().splitlines()[-1])
             self.assertEqual((found.commit, found.changes, found.kit), (before.commit, (), "kit-1 logic abc"))

@@ -1,4 +1,4 @@
-"""The stamp of a program for the checks that make packages: its own, or one that says that a test made it."""
+"""Return the stamp of a program for tests that make packages: its own, or a stamp made by a test."""
 from __future__ import annotations
 
 from pathlib import Path
@@ -10,7 +10,7 @@ KIT = "none: a test made this stamp, and nobody proved the program"
 
 
 def stamp_of(program: Path | str) -> stamp.Stamp:
-    """The stamp of a program."""
+    """Return the stamp of a program."""
     try:
         return stamp.read(Path(program))
     except Unfit:

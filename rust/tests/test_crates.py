@@ -1,4 +1,4 @@
-"""What is missing is told in a line."""
+"""Test that one line reports a missing part."""
 import subprocess
 import tempfile
 import unittest
@@ -11,10 +11,10 @@ from rust.workspace import manifest_of
 
 
 class WhatIsMissing(unittest.TestCase):
-    """Crates of others, the kit, and cargo."""
+    """Vendored crates, the kit, and cargo."""
 
     def registry(self, room: str, versions: dict[str, str]) -> Path:
-        """A registry with these crates."""
+        """Return a registry with these crates."""
         for name, version in versions.items():
             folder = Path(room, f"{name}-{version}")
             folder.mkdir()
@@ -73,7 +73,3 @@ class Manifests(unittest.TestCase):
                      'md5 = { package = "md5_choice", path = "../../shim/md5_choice" }', 'thiserror = "=1.0.38"',
                      'httparse = { path = "../../kit/httparse" }', "[lints]\nworkspace = true"):
             self.assertIn(line, made)
-
-
-if __name__ == "__main__":
-    unittest.main()

@@ -1,4 +1,4 @@
-"""Edits: they are applied, and undone, to the byte."""
+"""Test that edits are applied and undone exactly."""
 import unittest
 
 from rust.edits import Edit, Form, Refused, applied, ordered, undone
@@ -35,7 +35,3 @@ class Edits(unittest.TestCase):
     def test_an_edit_that_was_not_made_is_noticed(self) -> None:
         with self.assertRaisesRegex(Refused, "not found again: a name"):
             undone(TEXT, EDITS)
-
-
-if __name__ == "__main__":
-    unittest.main()

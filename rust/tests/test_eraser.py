@@ -1,4 +1,4 @@
-"""What each form becomes, and what is refused by name."""
+"""Test the result of the eraser for every form, and its refusals by name."""
 import unittest
 from unittest import mock
 
@@ -10,7 +10,7 @@ from rust.eraser import edits_of, macros_of, plain
 
 PRELUDE = names.PRELUDE
 
-# A source, and what it becomes but for its prelude.
+# Sources, and their results without the prelude.
 FORMS = {
     "an import of ghosts": ("ghost use A.b.{◌≡◌, c, {0}};\nuse x::Y;\n", "\nuse x::Y;\n"),
     "a ghost member": (
@@ -50,7 +50,7 @@ FORMS = {
         "fn f<'a>(a: &'a [u8]) { b == '\\'' || c == '{' || d == b'\"'; }\n",
     ),
 }
-# A source, and why it is refused.
+# Sources, and the causes of their refusal.
 REFUSED = {
     "ghost fn f() {}\n": "a.rt:1: `ghost fn f` is no form of a ghost",
     "ghost let a = 1;\n": "`ghost let a` is no form of a ghost",
@@ -83,12 +83,12 @@ REFUSED = {
 
 
 def without_prelude(text: str) -> str:
-    """What was made, but for its prelude."""
+    """Return a result without its prelude."""
     return text.replace(f"{PRELUDE} ", "").replace(f" {PRELUDE}", "")
 
 
 class Forms(unittest.TestCase):
-    """Each form, and each refusal."""
+    """All forms, and all refusals."""
 
     def test_each_form(self) -> None:
         for what, (text, wanted) in FORMS.items():
@@ -134,7 +134,7 @@ class Forms(unittest.TestCase):
 
 
 class Sources(unittest.TestCase):
-    """The sources of crates/ as they stand."""
+    """The current sources of crates/."""
 
     def test_each_is_put_together_again(self) -> None:
         files = [file for crate in listed() for file in sorted((ROOT / "crates" / crate.name / "src").rglob("*.rt"))]
@@ -148,13 +148,9 @@ class Sources(unittest.TestCase):
 
 
 def put_together(text: str, edits: list[Edit]) -> str:
-    """What is kept and what is erased, in order: told apart by the edits, and not by the eraser."""
+    """Return the kept and erased texts in order, separated by the edits and not by the eraser."""
     pieces, at = [], 0
     for edit in edits:
         pieces += [text[at:edit.at], edit.old]
         at = edit.at + len(edit.old)
     return "".join([*pieces, text[at:]])
-
-
-if __name__ == "__main__":
-    unittest.main()

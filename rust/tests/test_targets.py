@@ -1,4 +1,4 @@
-"""How the program is built for a machine: what the compiler is asked for, what is kept, and what is missing."""
+"""Test the build of the program for a machine: the compiler's arguments, the results, and missing parts."""
 import os
 import shutil
 import subprocess
@@ -29,7 +29,7 @@ class Targets(unittest.TestCase):
                 self.assertEqual(targets.flags_of(Path("/a b"), MACHINES[name], is_static), wanted)
 
     def commands(self, machine: str, is_static: bool) -> list[tuple[tuple[object, ...], dict[str, str]]]:
-        """What is run to build a program."""
+        """Return the commands that build a program, with their settings."""
         calls: list[tuple[tuple[object, ...], dict[str, str]]] = []
 
         def output_of(*words: object, folder: Path | None = None, settings: dict[str, str] | None = None) -> str:
@@ -114,7 +114,3 @@ class Targets(unittest.TestCase):
                                   capture_output=True, text=True, cwd=Path(targets.__file__).parents[1])
         self.assertEqual((finished.returncode, finished.stdout), (1, ""))
         self.assertEqual(finished.stderr, f"rust.targets: {self.room} is no workspace of `make rust`\n")
-
-
-if __name__ == "__main__":
-    unittest.main()

@@ -1,1 +1,1 @@
-"""Crashes at each call of the program on a file."""
+"""Tests of crashes at any call of the program on a file."""

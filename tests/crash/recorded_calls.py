@@ -1,21 +1,29 @@
-"""Records the calls by which a program changes a file, in their order among its answers.
+"""Record the calls by which a program changes a file, in order and between its answers.
 
-The program runs with a C library (`cc` builds it) that notes each write to the file, with its
-offset and its bytes, each sync of it, each length that it is given, and what goes to standard
-output. It is given its script line by line, each line after the answer to the one before it.
+The program runs with a preloaded C library (built by `cc`) that notes every write to the file with its offset and
+bytes, every sync, every change of its length, and all bytes written to standard output. The program receives a line of
+its script only after the answer to the previous line.
 """
-import collections
 import os
-import pathlib
 import subprocess
 import threading
+from collections.abc import Iterable, Sequence
+from pathlib import Path
+from typing import Any, NamedTuple
 
-# No session takes longer than this.
+# The longest session, in seconds.
 SECONDS = 120
 WRITE, SYNC, LENGTH, ANSWER = "write", "sync", "length", "answer"
-# A call that succeeded: `at` is the offset of a write or the length of the file, `data` what was
-# written, or answered.
-Call = collections.namedtuple("Call", "kind at data")
+
+
+class Call(NamedTuple):
+    """A successful call: `at` is a write's offset or the file's new length, `data` the written or answered bytes."""
+
+    kind: str
+    at: int
+    data: bytes
+
+
 NOTES = r"""
 #define _GNU_SOURCE
 #include <errno.h>
@@ -66,37 +74,37 @@ int ftruncate64(int fd, off_t length) { return ftruncate(fd, length); }
 
 
 class Unrecorded(Exception):
-    """The program did something that the record does not have, or answered other than it should."""
+    """The program made a call that the record cannot hold, or gave a wrong answer."""
 
 
 class Recorder:
-    """Runs a program in a folder of its own, over the file `source.disk`, and records its calls."""
+    """Runs a program on the file `source.disk` in its own folder, and records its calls."""
 
-    def __init__(self, program, room):
-        self.program, self.room = program, pathlib.Path(room)
+    def __init__(self, program: str, room: str | Path) -> None:
+        self.program, self.room = program, Path(room)
         self.disk, self.log = self.room / "source.disk", self.room / "calls"
         source, self.library = self.room / "notes.c", self.room / "notes.so"
         source.write_text(NOTES)
-        words = ["cc", "-O1", "-shared", "-fPIC", "-o", self.library, source]
+        words = ["cc", "-O1", "-shared", "-fPIC", "-o", str(self.library), str(source)]
         subprocess.run(words, check=True)
 
-    def format(self, size, base, limit):
-        """The calls by which a source is made on a new file."""
+    def format(self, size: int, base: str, limit: int) -> list[Call]:
+        """Format a new file; return the calls."""
         self.disk.unlink(missing_ok=True)
         words = ["format", "source.disk", str(size), base, str(limit)]
         return self.record(words, b"", [], [f"formatted {size}"])
 
-    def run(self, before, lines, answers):
-        """The calls of these lines, which are to be answered so, over a disk of these bytes."""
+    def run(self, before: bytes, lines: Sequence[str], answers: Sequence[str]) -> list[Call]:
+        """Run these lines on a disk, check the answers, and return the calls."""
         self.disk.write_bytes(before)
         return self.record(["run", "source.disk"], before, lines, answers)
 
-    def record(self, words, before, lines, answers):
-        """The calls of a run of the program with these words, which is to answer these lines so."""
+    def record(self, words: list[str], before: bytes, lines: Sequence[str], answers: Sequence[str]) -> list[Call]:
+        """Run the program with these arguments and lines, check the answers, and return the calls."""
         self.log.unlink(missing_ok=True)
         paths = {"LD_PRELOAD": self.library, "CALLS": self.log, "DISK": self.disk}
         names = {**os.environ, **{name: str(path) for name, path in paths.items()}}
-        how = {"cwd": self.room, "env": names, "stdin": subprocess.PIPE, "stdout": subprocess.PIPE}
+        how: dict[str, Any] = {"cwd": self.room, "env": names, "stdin": subprocess.PIPE, "stdout": subprocess.PIPE}
         with subprocess.Popen([self.program, *words], **how) as process:
             watch = threading.Timer(SECONDS, process.kill)
             watch.daemon = True
@@ -115,8 +123,9 @@ class Recorder:
         return calls
 
 
-def ask(process, line):
-    """The answer to one line, or nothing where the program has ended."""
+def ask(process: subprocess.Popen[bytes], line: str) -> bytes:
+    """Return the answer to one line; it is empty if the program has ended."""
+    assert process.stdin and process.stdout
     try:
         process.stdin.write(line.encode() + b"\n")
         process.stdin.flush()
@@ -125,9 +134,9 @@ def ask(process, line):
     return process.stdout.readline()
 
 
-def calls_of(log):
-    """The calls of a log."""
-    calls, at = [], 0
+def calls_of(log: bytes) -> list[Call]:
+    """Return the calls of a log."""
+    calls, at = list[Call](), 0
     while at < len(log):
         end = log.index(b"\n", at) + 1
         kind, place, length = log[at:end].split()
@@ -136,16 +145,16 @@ def calls_of(log):
     return calls
 
 
-def over(disk, writes):
-    """A disk with each of these writes, the later over the earlier."""
-    disk = bytearray(disk)
+def over(disk: bytes, writes: Iterable[tuple[int, bytes]]) -> bytes:
+    """Return a disk after these writes, in order."""
+    found = bytearray(disk)
     for at, data in writes:
-        disk[at : at + len(data)] = data
-    return bytes(disk)
+        found[at : at + len(data)] = data
+    return bytes(found)
 
 
-def replayed(disk, calls):
-    """What a read gives after these calls."""
+def replayed(disk: bytes, calls: Iterable[Call]) -> bytes:
+    """Return the bytes that a read gives after these calls."""
     for call in calls:
         if call.kind == LENGTH:
             disk = disk[: call.at].ljust(call.at, b"\0")

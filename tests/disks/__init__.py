@@ -1,1 +1,1 @@
-"""Disks that are spelled from the tables of docs/DISK.md, apart from the program."""
+"""Disks, made from the tables of docs/DISK.md, independent of the program."""

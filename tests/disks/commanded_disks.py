@@ -1,7 +1,7 @@
-"""What commands leave on a disk, block by block, spelled by the rules of docs/DISK.md.
+"""The disk after every command of a run, block by block, by the rules of docs/DISK.md.
 
-Each is the disk before it, with the bodies and pages that the command made in the lowest free runs of their sizes, the
-directory behind them, and the root in the slot that did not hold it. What was there before stays.
+Every disk is the previous one, with the new bodies and pages in the lowest free runs of their sizes, the directory
+after them, and the root in the spare slot. All other bytes stay.
 """
 from tests.disks import damaged_disks
 from tests.disks.damaged_disks import CREATED_FIRST, CREATED_LAST, DELETED_BOTH, FIVE, FIVE_CHANGES, HELLO
@@ -12,7 +12,7 @@ from tests.reading.disk_formats import slot_fields, spelled
 
 
 def commanded(before, slot, generation, directory, pages, bodies=(), start=1000, **header):
-    """The disk after a command. `pages` has the block and the fields of each page of the new root."""
+    """Return the disk after a command. `pages` has the block and the fields of every page of the new root."""
     parts = {name: (block, spelled(fields)) for name, (block, fields) in pages.items()}
     entries = {name: entry_fields(*part) for name, part in parts.items()}
     data = spelled(directory_fields(header_fields(start=start, **header), entries))
@@ -21,7 +21,7 @@ def commanded(before, slot, generation, directory, pages, bodies=(), start=1000,
 
 
 def formatted(limit, base):
-    """16 blocks that were just formatted at 0."""
+    """Return a disk of 16 blocks, formatted at 0."""
     data = spelled({**header_fields(last=0, limit=limit, base=base), "pages": bytes(12)})
     return laid_out(16, [(0, spelled(slot_fields(1, 1, 2, data))), (1, b"\x00\x02"), (2, data)])
 
@@ -32,69 +32,67 @@ EMPTY_B = record_fields(b"b", b"", 2003, 0, b"text/html")
 C = record_fields(b"c", b"abc", 2000, 6)
 PUT_C = {"7": change_fields(CREATED, b"c", 2000, b"abc")}
 AFTER_PUT = {**CREATED_FIRST, **DELETED_BOTH, **CREATED_LAST, **PUT_C}
-# A publication drops the changes that it need not keep, two by two: the first part ends at 1002, before the publication
-# at 1003.
+# A publication drops unneeded changes, in parts of two: the first part ends at 1002, before the publication at 1003.
 AFTER_PUBLISH = {**DELETED_BOTH, **CREATED_LAST, **PUT_C}
 AFTER_DELETE = {**AFTER_PUBLISH, "8": change_fields(DELETED, b"a", 2002)}
 AFTER_UPDATE = {**AFTER_DELETE, "9": change_fields(UPDATED, b"b", 2003, b"", b"text/html")}
-# The parts 1 and 2 end at 1005 and 1007, before the publication at 2001.
+# Parts 1 and 2 end at 1005 and 1007, before the publication at 2001.
 AFTER_ALL = {key: AFTER_UPDATE[key] for key in ("7", "8", "9")}
 ALL_THREE = page_fields(RECORDS, {"a": A, "b": B, "c": C})
 B_AND_C = page_fields(RECORDS, {"b": EMPTY_B, "c": C})
 
 
-# The blocks 6, 7 and 11 to 15 are free. A disk of version 1 gets a directory and a slot of version 2.
+# Blocks 6, 7 and 11 to 15 are free. A disk of version 1 gets a directory and a slot of version 2.
 def after_put(before="sound"):
-    """A disk after a put of `c`."""
+    """Return a disk after a put of `c`."""
     pages = {"held": (7, ALL_THREE), "changes": (11, page_fields(CHANGES, AFTER_PUT)), "listed": (5, LISTED)}
     return commanded(damaged_disks.DISKS[before](), 1, 2, 12, pages, [(6, b"abc")], last=2000, publication=1, at=1003)
 
 
-# The old directory and the old pages of what is held and of the changes, in blocks 2, 3 and 4, are free now.
+# The old directory and the old pages of the catalogue and of the changes, in blocks 2, 3 and 4, are free.
 def after_publish():
-    """Then after a publication."""
+    """Return the disk after a publication that follows `after_put`."""
     pages = {"held": (7, ALL_THREE), "changes": (2, page_fields(CHANGES, AFTER_PUBLISH)), "listed": (7, ALL_THREE)}
     return commanded(after_put(), 0, 3, 3, pages, last=2001, publication=2, at=2001, first=1, begin=1002)
 
 
-# The blocks 4, 5 and 11 to 15 are free; the published page stays in block 7.
+# Blocks 4, 5 and 11 to 15 are free; the published page stays in block 7.
 def after_delete():
-    """Then after `a` was deleted."""
+    """Return the disk after a delete of `a` that follows `after_publish`."""
     records = page_fields(RECORDS, {"b": B, "c": C})
     pages = {"held": (4, records), "changes": (5, page_fields(CHANGES, AFTER_DELETE)), "listed": (7, ALL_THREE)}
     return commanded(after_publish(), 1, 4, 11, pages, last=2002, publication=2, at=2001, first=1, begin=1002)
 
 
-# The blocks 2, 3, 8 and 12 to 15 are free: the old page of changes, the old directory, and the body of `a`.
+# Blocks 2, 3, 8 and 12 to 15 are free: the old page of changes, the old directory, and the body of `a`.
 def after_update():
-    """Then after `b` was put again, with no bytes."""
+    """Return the disk after a put of `b` with an empty body that follows `after_delete`."""
     pages = {"held": (2, B_AND_C), "changes": (3, page_fields(CHANGES, AFTER_UPDATE)), "listed": (7, ALL_THREE)}
     return commanded(after_delete(), 0, 5, 8, pages, last=2003, publication=2, at=2001, first=1, begin=1002)
 
 
-# The blocks 4, 5 and 9 to 15 are free.
+# Blocks 4, 5 and 9 to 15 are free.
 def after_all():
-    """Then after a publication more."""
+    """Return the disk after a publication that follows `after_update`."""
     pages = {"held": (2, B_AND_C), "changes": (4, page_fields(CHANGES, AFTER_ALL)), "listed": (2, B_AND_C)}
     return commanded(after_update(), 1, 6, 5, pages, last=2004, publication=3, at=2004, first=3, begin=1007)
 
 
-# The blocks 6 to 15 are free. The parts 0 and 1 end at 2 and 6, before the publication at 7, so `e` alone is left of
-# the changes.
+# Blocks 6 to 15 are free. Parts 0 and 1 end at 2 and 6, before the publication at 7; only the change of `e` remains.
 def five_published():
-    """A disk of version 1 with five resources, after a publication by version 2."""
+    """Return a disk of version 1 with five resources, after a publication by version 2."""
     records, changes = page_fields(RECORDS, FIVE), page_fields(CHANGES, {"e": FIVE_CHANGES["e"]})
     pages = {"held": (3, records), "changes": (6, changes), "listed": (3, records)}
     before = damaged_disks.DISKS["five_of_version_1"]()
     return commanded(before, 1, 2, 7, pages, start=0, last=9, publication=4, at=9, first=2, begin=6)
 
 
-# A copy of the disk after the deletion, of 32 blocks: bodies in the order of their names, then the pages, none of them
-# shared, each in the lowest free run, and the directory; a root of generation 1 in the first slot, and a second slot
-# whose gate is closed. The published record of `a`, which is not held any more, has the block 0 and as many blocks as
-# its length needs.
+# A copy of the disk `after_delete` has 32 blocks: the bodies in the order of their names, the pages, all unshared, and
+# the directory, in that order and each in the lowest free run; a root of generation 1 in the first slot; and a second
+# slot with a closed gate. The published record of `a`, which is no longer held, has block 0 and as many blocks as its
+# length needs.
 def copied():
-    """A copy of the disk after the deletion."""
+    """Return a copy of the disk `after_delete`."""
     b, c = record_fields(b"b", LONG, 1007, 2), record_fields(b"c", b"abc", 2000, 4)
     listed = page_fields(RECORDS, {"a": record_fields(b"a", HELLO, 1006, 0), "b": b, "c": c})
     pages = {"held": (5, page_fields(RECORDS, {"b": b, "c": c})), "changes": (6, page_fields(CHANGES, AFTER_DELETE)),

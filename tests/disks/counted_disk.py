@@ -1,4 +1,4 @@
-"""Disks of any number of resources of no bytes in pages by the page rule; the items are spelled once for all."""
+"""Disks of any number of resources with empty bodies, in pages by the page rule; the items are cached."""
 from functools import cache
 
 from tests.disks.made_disks import laid_behind
@@ -7,28 +7,29 @@ from tests.reading import disk_parts as parts_of
 from tests.reading import page_rule
 from tests.reading.disk_formats import BLOCK, laid_out
 
-# The blocks that are left for commands, and the item limit.
+# The blocks left for commands, and the item limit.
 ROOM, LIMIT = 4_096, 4_000
 
 
 @cache
 def items(count: int, longer: int) -> tuple[list[bytes], list[bytes]]:
-    """The records and the changes of so many puts, at the moments 1, 2 and so on; `longer` lengthens their names."""
+    """Return the records and the changes of `count` puts at the moments 1, 2, ...; `longer` lengthens their names."""
     names = [name(at) + b"x" * longer for at in range(count)]
     records = [parts_of.record(resource, b"", moment, 0) for moment, resource in enumerate(names, 1)]
     return records, [parts_of.change(1, resource, moment, b"") for moment, resource in enumerate(names, 1)]
 
 
 def cut(records: list[bytes]) -> list[list[bytes]]:
-    """The pages of these records: each but the last has so many as a cut leaves."""
+    """Cut records into pages; all pages except the last have as many records as a cut leaves."""
     whole = max(len(records) - page_rule.MOST + page_rule.CUT - 1, 0) // page_rule.CUT * page_rule.CUT
     pages = [records[at : at + page_rule.CUT] for at in range(0, whole, page_rule.CUT)]
     return pages + ([records[whole:]] if records[whole:] else [])
 
 
 def spelled(resources: int, last_changes: int, limit: int, longer: int = 0) -> bytes:
-    """A disk on which so many resources of at most `limit` were put and published, of whose changes the last are there:
-    `last_changes` of them.
+    """Return a disk with `resources` published resources and their last `last_changes` changes.
+
+    `limit`, at least `resources`, is the number of cached items.
     """
     records, changes = items(limit, longer)
     catalogue = [parts_of.page(1, page) for page in cut(records[:resources])]

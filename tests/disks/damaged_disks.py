@@ -1,20 +1,20 @@
 """Small disks that hold a source, and changes of their fields that may damage them.
 
-A disk is spelled from the bottom up: its pages, the directory that names them, the slot that points to the directory.
-A change is made before what points to it is spelled, so lengths and SHA-256 agree with it, and one rule is broken
-alone:
+A disk is built from the bottom up: its pages, the directory that names them, and the slot that points to the directory.
+A change is applied before the part that refers to it is built, so lengths and SHA-256 match it, and it breaks one rule
+only:
   PART.FIELD=VALUE    a field of a page (`held`, `changes`, `listed`), of `directory`, of `slot` (block 0) or of
                       `spare` (block 1)
-  PART.block=N        the part lies in this block, and what points to it says so
+  PART.block=N        the part lies in this block, and references to it say so
   PART.front=N        the part ends after this many bytes
-A VALUE is a number of the field's width, bytes in hexadecimal behind an `x`, or a text. The field `end` is what follows
-a part.
+A VALUE is a number of the field's width, `x` and bytes in hexadecimal, or a text. The field `end` is the bytes after a
+part.
 """
 from tests.reading.disk_formats import CHANGES, CREATED, DELETED, OLD_VERSION, RECORDS, VERSION, change_fields
 from tests.reading.disk_formats import entry_fields, header_fields, laid_out, number, page_fields
 from tests.reading.disk_formats import record_fields, slot_fields, spelled
 
-# The pages of each list of a directory, and the block in which each lies.
+# The pages of every list of a directory, and their blocks.
 LISTS = {
     "held": {"held": 3, "more_held": 6},
     "changes": {"changes": 4, "more_changes": 7},
@@ -23,21 +23,21 @@ LISTS = {
 
 
 def value_of(text, width):
-    """The bytes of a VALUE in a field of this width."""
+    """Return the bytes of a VALUE in a field of this width."""
     if text.isdigit():
         return number(int(text), width)
     return bytes.fromhex(text[1:]) if text.startswith("x") else text.encode()
 
 
 class Changes(dict):
-    """Changes that are still to be made, and the bytes of each field that a part had before them."""
+    """Changes not yet applied, and in `met` the fields of the parts before their changes."""
 
     def __init__(self, changes=()):
         super().__init__(change.split("=", 1) for change in changes)
         self.met = {}
 
     def part(self, name, fields, block):
-        """The block and the bytes of a part with the changes that are made to it."""
+        """Apply the changes of a part, and return its block and its bytes."""
         fields = {**fields, "end": b""}
         self.met[name] = fields.copy()
         for field in fields:
@@ -49,9 +49,9 @@ class Changes(dict):
 
 
 def pages_of(pages, changes):
-    """The pages as they lie on the disk, and the entry of each.
+    """Return the pages on the disk, and the entries of all pages.
 
-    One that is given as the name of another page is that page.
+    A page given as the name of another page is that page.
     """
     parts, entries = [], {}
     for blocks in LISTS.values():
@@ -66,14 +66,14 @@ def pages_of(pages, changes):
 
 
 def directory_fields(header, entries):
-    """The fields of a directory: its header, how many pages each list has, and their entries."""
+    """Return the fields of a directory: its header, the number of pages of every list, and their entries."""
     counts = {f"{kind}_pages": number(sum(name in entries for name in LISTS[kind])) for kind in LISTS}
     entry_values = {f"{name}.{field}": value for name, entry in entries.items() for field, value in entry.items()}
     return {**header, **counts, **entry_values}
 
 
 def spell(remaining, pages, bodies, blocks, header):
-    """The bytes of a disk with the changes that are left, which are taken from them.
+    """Return the bytes of a disk with the remaining changes, and remove the applied ones from them.
 
     The header may have the version of the disk.
     """
@@ -86,9 +86,9 @@ def spell(remaining, pages, bodies, blocks, header):
 
 
 def source(pages, bodies=(), blocks=16, **header):
-    """A function that spells a disk with these pages, with the changes that it is given.
+    """Return a function that builds a disk with these pages and the changes that it is given.
 
-    Its `fields` are those of each part.
+    Its `fields` returns the fields of every part.
     """
 
     def disk(*changes):
@@ -108,20 +108,20 @@ def source(pages, bodies=(), blocks=16, **header):
 
 
 def many_records(first, count):
-    """The fields of a page of this many records of no bytes, put at 1001."""
+    """Return the fields of a page of `count` records with empty bodies, put at 1001."""
     nameless = spelled(record_fields(b"", b"", 1001, 0))[1:]
     items = b"".join(b"\x05%05d" % i + nameless for i in range(first, first + count))
     return {**page_fields(RECORDS, {}), "count": number(count), "items": items}
 
 
 def many_changes(first, count):
-    """The fields of a page of this many deletions, a millisecond apart."""
+    """Return the fields of a page of `count` deletions, a millisecond apart."""
     items = b"".join(b"\x03\x01z" + number(1001 + i, 8) for i in range(first, first + count))
     return {**page_fields(CHANGES, {}), "count": number(count), "items": items}
 
 
 def crowded(name, count, more=0):
-    """A function that spells a disk with a page of so many items of a list, and one of `more` behind it, if any."""
+    """Return a function that builds a disk with a page of `count` items of a list, and one of `more` items if any."""
 
     def disk(*changes):
         page = many_changes if name == "changes" else many_records
@@ -139,7 +139,7 @@ LISTED = page_fields(RECORDS, {"a": record_fields(b"a", OLD, 1001, 8), "c": reco
 CREATED_FIRST = {"1": change_fields(CREATED, b"a", 1001, OLD), "2": change_fields(CREATED, b"c", 1002, b"c")}
 OLD_CHANGES = page_fields(CHANGES, CREATED_FIRST)
 OLD_BODIES = [(8, OLD), (10, b"c")]
-# Then both were deleted, `a` was put again, and `b`.
+# Then both were deleted, and `a` was put again, and `b`.
 HELD = page_fields(RECORDS, {"a": record_fields(b"a", HELLO, 1006, 8), "b": record_fields(b"b", LONG, 1007, 9)})
 DELETED_BOTH = {"3": change_fields(DELETED, b"a", 1004), "4": change_fields(DELETED, b"c", 1005)}
 CREATED_LAST = {"5": change_fields(CREATED, b"a", 1006, HELLO), "6": change_fields(CREATED, b"b", 1007, LONG)}
@@ -147,24 +147,24 @@ ALL_CHANGES = page_fields(CHANGES, {**CREATED_FIRST, **DELETED_BOTH, **CREATED_L
 
 SOUND = {"held": HELD, "changes": ALL_CHANGES, "listed": LISTED}
 BODIES = [(8, HELLO), (9, LONG)]
-# Then that was published at 1008, and the part of the first two changes was dropped; later all parts.
+# Then a publication at 1008 dropped the part with the first two changes; a later one dropped all parts.
 CHANGES_LEFT = page_fields(CHANGES, {**DELETED_BOTH, **CREATED_LAST})
 PART_DROPPED = {"start": 1000, "last": 1008, "publication": 2, "at": 1008, "first": 1, "begin": 1002}
 ALL_DROPPED = {"start": 1000, "last": 1009, "publication": 3, "at": 1009, "first": 3, "begin": 1007}
-# Five resources of no bytes, put between publications at 3, 5 and 7. Version 1 kept all their changes.
+# Five resources with empty bodies, put between publications at 3, 5 and 7. Version 1 kept all their changes.
 FIVE = {name: record_fields(name.encode(), b"", moment, 0) for name, moment in zip("abcde", (1, 2, 4, 6, 8))}
 FIVE_CHANGES = {name: change_fields(CREATED, name.encode(), moment) for name, moment in zip("abcde", (1, 2, 4, 6, 8))}
 FOUR = {name: FIVE[name] for name in "abcd"}
 FIVE_HELD = {"held": page_fields(RECORDS, FIVE), "changes": page_fields(CHANGES, FIVE_CHANGES),
              "listed": page_fields(RECORDS, FOUR)}
-# One more page of each list.
+# A further page of each list.
 MORE_HELD = page_fields(RECORDS, {"d": record_fields(b"d", b"", 1006, 0)})
 MORE_CHANGES = page_fields(CHANGES, {"7": change_fields(DELETED, b"b", 1008)})
 MORE_LISTED = page_fields(RECORDS, {"d": record_fields(b"d", b"", 1002, 0)})
 AFTER_ALL = {"start": 1000, "last": 1007, "publication": 1, "at": 1003}
 PUBLISHED_LAST = {"start": 1000, "last": 1003, "publication": 1, "at": 1003}
-# Pages of 513 bytes, of which the last one is also the first one of a page of their kind, which could lie in their
-# second block.
+# Pages of 513 bytes. Their last byte is also the first byte of a page of their kind, which could lie in their second
+# block.
 PAST_A_BLOCK = page_fields(RECORDS, {"a": record_fields(b"a" * 174, OLD, 1001, 8),
                                      "c": record_fields(b"c" * 174, b"c", 1002, 10)})
 DELETIONS = enumerate((b"a" * 159, b"b" * 159, b"c" * 160), 1024)
@@ -175,16 +175,16 @@ ONE_MORE_CHANGE = page_fields(CHANGES, {"1027": change_fields(DELETED, b"d", 102
 TWO_HELD = {"held": LISTED, "more_held": MORE_LISTED, "changes": OLD_CHANGES}
 
 DISKS = {
-    # a page of each list
+    # a page of every list
     "sound": source(SOUND, BODIES, **AFTER_ALL),
-    # published as it is held: one page for both lists
+    # the published list equals the catalogue: one page for both
     "shared": source({"held": LISTED, "changes": OLD_CHANGES, "listed": "held"}, OLD_BODIES, **PUBLISHED_LAST),
     "unpublished": source({"held": LISTED, "changes": OLD_CHANGES}, OLD_BODIES, start=1000, last=1002, at=1000),
-    # no changes, which no command leaves
+    # no changes; no command leaves this
     "unchanged": source({"held": LISTED, "listed": LISTED}, OLD_BODIES, **PUBLISHED_LAST),
     # just formatted
     "empty": source({}, start=1000, last=1000, at=1000),
-    # the first part of the changes was dropped, and all of them
+    # a publication dropped the first part of the changes; and all parts
     "part_dropped": source({"held": HELD, "changes": CHANGES_LEFT, "listed": "held"}, BODIES, **PART_DROPPED),
     "all_dropped": source({"held": HELD, "listed": "held"}, BODIES, **ALL_DROPPED),
     # of version 1
@@ -194,7 +194,7 @@ DISKS = {
     "two_held_pages": source({**SOUND, "more_held": MORE_HELD}, BODIES, **AFTER_ALL),
     "two_change_pages": source({**SOUND, "more_changes": MORE_CHANGES}, BODIES, **{**AFTER_ALL, "last": 1008}),
     "two_listed_pages": source({**SOUND, "more_listed": MORE_LISTED}, BODIES, **AFTER_ALL),
-    # two pages in a list, and the published pages among those of the catalogue: both, the first, the last, and others
+    # two pages in a list; the published list shares both pages of the catalogue, the first, the last, or other ones
     "both_shared": source({**TWO_HELD, "listed": "held", "more_listed": "more_held"}, OLD_BODIES, **PUBLISHED_LAST),
     "first_shared": source({**TWO_HELD, "listed": "held", "more_listed": MORE_LISTED}, OLD_BODIES, **PUBLISHED_LAST),
     "last_shared": source({**TWO_HELD, "listed": LISTED, "more_listed": "more_held"}, OLD_BODIES, **PUBLISHED_LAST),
@@ -202,12 +202,12 @@ DISKS = {
     "last_alone_shared": source({**TWO_HELD, "listed": "more_held"}, OLD_BODIES, **PUBLISHED_LAST),
     "shared_in_reverse": source({**TWO_HELD, "listed": "more_held", "more_listed": "held"}, OLD_BODIES,
                                 **PUBLISHED_LAST),
-    # one page twice in a list
+    # the same page twice in a list
     "shared_twice": source({**TWO_HELD, "listed": "held", "more_listed": "held"}, OLD_BODIES, **PUBLISHED_LAST),
     "listed_twice": source({**SOUND, "more_listed": "listed"}, BODIES, **AFTER_ALL),
     "held_twice": source({**SOUND, "more_held": "held"}, BODIES, **AFTER_ALL),
     "changes_twice": source({**SOUND, "more_changes": "changes"}, BODIES, **AFTER_ALL),
-    # two pages in a list, of which the first one has a byte in a second block
+    # two pages in a list; the first has a byte in a second block
     "held_past_a_block": source({"held": PAST_A_BLOCK, "more_held": MORE_LISTED, "changes": OLD_CHANGES}, OLD_BODIES,
                                 **PUBLISHED_LAST),
     "changes_past_a_block": source({"changes": CHANGES_PAST_A_BLOCK, "more_changes": ONE_MORE_CHANGE}, start=1000,

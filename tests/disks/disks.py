@@ -1,12 +1,12 @@
-"""Disks that are spelled from the tables of docs/DISK.md, apart from the program, and the commands of sessions on
-files.
+"""Disks made from the tables of docs/DISK.md, independent of the program, and the commands of sessions on files.
 
-`DISKS` has a function for each by its name, which gives its bytes: those that break a rule or keep it to the end
-(damaged_disks.py, which take changes of the disk's fields), what commands leave (commanded_disks.py), whole sources at
-a limit (made_disks.py), and one resource whose record or change is cut or has another byte (one_resource_disks.py).
+`DISKS` maps names to functions that return the bytes of a disk: disks that break a rule or keep it up to its limit
+(damaged_disks.py; these take changes of fields), disks after commands (commanded_disks.py), sources at a limit
+(made_disks.py), and one resource whose record or change is cut or has another byte (one_resource_disks.py).
 """
 import os
 import pathlib
+from collections.abc import Callable
 
 from tests.disks import commanded_disks, damaged_disks, made_disks, one_resource_disks
 from tests.reading import disk_reader
@@ -16,8 +16,10 @@ DISKS = {**damaged_disks.DISKS, **commanded_disks.DISKS, **made_disks.DISKS, **o
 
 
 def disk(room, name, file, *changes):
-    """Writes a disk with changes. Behind those of its fields may come `bytes=AT:HEX`, for bytes that are put over what
-    was spelled, with no SHA-256 set right, and `size=N`, for a file that ends or goes on as zeros there.
+    """Write a disk with changes.
+
+    After the changes of fields may come `bytes=AT:HEX`, which overwrites bytes without correcting any SHA-256, and
+    `size=N`, which cuts the file or extends it with zeros.
     """
     path, after = pathlib.Path(room, file), [change for change in changes if change.startswith(("bytes=", "size="))]
     path.write_bytes(DISKS[name](*(change for change in changes if change not in after)))
@@ -31,13 +33,13 @@ def disk(room, name, file, *changes):
 
 
 def zeros(room, file, size):
-    """Writes a file of this many zeros."""
+    """Write a file of this many zeros."""
     pathlib.Path(room, file).write_bytes(bytes(int(size)))
     return ""
 
 
 def put_bytes(room, file, at, text):
-    """Puts bytes, given in hexadecimal, over those of a file."""
+    """Overwrite bytes of a file with bytes given in hexadecimal."""
     with open(pathlib.Path(room, file), "r+b") as handle:
         handle.seek(int(at))
         handle.write(bytes.fromhex(text))
@@ -45,23 +47,24 @@ def put_bytes(room, file, at, text):
 
 
 def shown(room, file, at, length):
-    """Rows of 32 bytes in hexadecimal."""
+    """Return bytes of a file in hexadecimal, in rows of 32 bytes."""
     data = pathlib.Path(room, file).read_bytes()[int(at) : int(at) + int(length)]
     return "".join(data[i : i + 32].hex() + "\n" for i in range(0, len(data), 32))
 
 
 def differ(room, file, name):
-    """The blocks in which a file differs from a disk."""
+    """Return the blocks in which a file differs from a disk."""
     found, wanted = pathlib.Path(room, file).read_bytes(), DISKS[name]()
     starts = range(0, max(len(found), len(wanted)), BLOCK)
     return "".join(f"block {at // BLOCK}\n" for at in starts if found[at : at + BLOCK] != wanted[at : at + BLOCK])
 
 
 def pages(room, file):
-    """How many items each page of each list has."""
+    """Return the number of items of every page of all lists."""
     source = disk_reader.source_of(pathlib.Path(room, file).read_bytes())
     lists = {name: getattr(source, name) for name in ("catalogue", "changes", "published")}
     return "".join(f"{' '.join([name, *(str(len(page.items)) for page in found)])}\n" for name, found in lists.items())
 
 
-COMMANDS = {"disk": disk, "zeros": zeros, "pages": pages, "change": put_bytes, "bytes": shown, "differ": differ}
+COMMANDS: dict[str, Callable[..., str]] = {"disk": disk, "zeros": zeros, "pages": pages,
+                                          "change": put_bytes, "bytes": shown, "differ": differ}

@@ -1,6 +1,6 @@
-"""Disks of 4 GiB, the most that a source uses, spelled from docs/DISK.md: what they hold lies in their last blocks.
+"""Disks of 4 GiB, the most that a source uses, made from docs/DISK.md: their data lies in the last blocks.
 
-Files are sparse: a hole reads as zeros, and takes no room. `Holes` is such a file as it stands, to be read like its
+The files are sparse: a hole reads as zeros and takes no room. `Holes` reads the current content of a sparse file like
 bytes.
 """
 import os
@@ -11,17 +11,17 @@ from tests.disks.made_disks import laid_behind
 from tests.reading import disk_parts as parts_of
 from tests.reading.disk_formats import BLOCK, body_fields, extent_fields, number, short_fields, spelled
 
-# The blocks of the disk, those of a body of the greatest length, and how many of these take the blocks below 2 GiB, and
-# almost all.
+# The blocks of the disk, the blocks of the largest body, and the number of these bodies that fill the blocks below 2
+# GiB, and almost all blocks.
 BLOCKS, LARGEST, FILLERS, MOST_FILLERS = 8_388_608, 32_768, 128, 254
-# The resources whose bodies lie behind all else.
+# The resources whose bodies lie last.
 BODIES = {b"x0": b"far", b"x1": b"further" * 3_000, b"x2": b"z" * 512}
 
 Part = tuple[int, bytes]
 
 
 class Holes:
-    """What a sparse file holds, as it stands now."""
+    """The content of a sparse file at the time of reading."""
 
     def __init__(self, path: pathlib.Path) -> None:
         self.parts: list[tuple[int, bytes]] = []
@@ -57,7 +57,7 @@ class Holes:
 
 
 def written(path: pathlib.Path, parts: list[Part]) -> None:
-    """Makes the sparse file, which has each of these bytes from its block on."""
+    """Write a sparse file with these parts; a part has its first block and its bytes."""
     path.unlink(missing_ok=True)
     with open(path, "wb") as file:
         file.truncate(BLOCKS * BLOCK)
@@ -67,12 +67,12 @@ def written(path: pathlib.Path, parts: list[Part]) -> None:
 
 
 def blocks_of(data: bytes) -> int:
-    """How many blocks some bytes take."""
+    """Return the number of blocks for some bytes."""
     return -(-len(data) // BLOCK)
 
 
 def fillers(count: int) -> list[bytes]:
-    """The records of bodies of zeros, one behind the other from block 2 on."""
+    """Return the records of bodies of zeros, which lie one after the other from block 2 on."""
     length = LARGEST * BLOCK
     facts = body_fields(b"text/plain", bytes(length)) if count else {}
     found = []
@@ -83,7 +83,7 @@ def fillers(count: int) -> list[bytes]:
 
 
 def parts(filled: int) -> list[Part]:
-    """What a disk has in its blocks, with so many bodies of zeros in front: slots, and in the last blocks all else."""
+    """Return the parts of a disk: `filled` bodies of zeros in front, the slots, and all others in the last blocks."""
     end, bodies, records = BLOCKS, [], fillers(filled)
     for at, (name, body) in enumerate(BODIES.items(), filled + 1):
         end -= blocks_of(body)

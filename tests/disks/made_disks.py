@@ -1,15 +1,16 @@
-"""Disks of whole sources, for the sessions: one that commands lead to, and sources at a limit that commands would
+"""Disks of whole sources for the sessions: some that a few commands lead to, and sources at a limit that commands would
 take too long to reach.
 """
 import base64
 import zlib
+from collections.abc import Callable
 from itertools import accumulate
 
 from tests.reading import disk_parts as parts_of
 from tests.reading.disk_formats import BLOCK, OLD_VERSION, VERSION, laid_out
 from tests.rows.reader import ROWS
 
-# The greatest number of resources that are held, and of changes that are kept.
+# The most held resources, and the most kept changes.
 MOST = 50_000
 # The last generation of a root, and the last number of a publication.
 LAST = 2**64 - 1
@@ -18,17 +19,17 @@ LEAP_DAY = 951_782_400_000
 
 
 def source(parts, header, generation, blocks, version=VERSION):
-    """A disk whose first slot is open, whose second one is closed, and whose directory lies in block 2."""
+    """Return a disk with the first slot open, the second closed, and the directory in block 2."""
     return laid_out(blocks, [(0, parts_of.slot(1, generation, 2, header, version)), (2, header), *parts])
 
 
 def empty(size):
-    """A source that was just made, on a disk of this many bytes, of which it needs 1,536."""
+    """Return a new source on a disk of `size` bytes; it needs 1,536."""
     return source([], parts_of.directory(0), 1, 128)[:size]
 
 
 def two_puts(size):
-    """A put of `a`, a publication and a put of `b`, as far as a disk of this many bytes has room. They need 3,584."""
+    """Return a source after a put of `a`, a publication and a put of `b`, cut to `size` bytes; it needs 3,584."""
     a = parts_of.record(b"a", b"", LEAP_DAY, 0)
     b = parts_of.record(b"b", b"abc", LEAP_DAY + 2, 6)
     created = [parts_of.change(1, b"a", LEAP_DAY, b""), parts_of.change(1, b"b", LEAP_DAY + 2, b"abc")]
@@ -39,7 +40,7 @@ def two_puts(size):
 
 
 def filled(names, changes, number=0, generation=1, blocks=128):
-    """Resources of no bytes, all put at the moment 1, and this many deletions of `z`, at the moments 1, 2 and so on."""
+    """Return resources with empty bodies, all put at 1, and `changes` deletions of `z`, at the moments 1, 2, ..."""
     records = parts_of.page(1, [parts_of.record(name, b"", 1, 0) for name in names])
     deletions = parts_of.page(2, [parts_of.change(3, b"z", moment) for moment in range(1, changes + 1)])
     behind = 3 + (len(records) + BLOCK - 1) // BLOCK
@@ -50,7 +51,10 @@ def filled(names, changes, number=0, generation=1, blocks=128):
 
 
 def lists_of_one_page(blocks=128):
-    """Version 1: 70 resources, `r00` to `r69`, in one page, put at 1 to 69 and, after a publication at 70, at 71."""
+    """Return a disk of version 1 with 70 resources, `r00` to `r69`, in one page.
+
+    They were put at 1 to 69 and, after a publication at 70, at 71.
+    """
     names = [b"r%02d" % i for i in range(70)]
     records = [parts_of.record(name, b"", moment, 0) for moment, name in enumerate(names[:-1], 1)]
     created = [parts_of.change(1, name, moment, b"") for moment, name in enumerate(names[:-1], 1)]
@@ -64,26 +68,26 @@ def lists_of_one_page(blocks=128):
 
 
 def laid_behind(first, pages):
-    """The pages one behind the other from a block on, each with its first block."""
+    """Return the pages with their first blocks, one after the other from the block `first` on."""
     starts = accumulate([first, *((len(page) + BLOCK - 1) // BLOCK for page in pages)])
     return list(zip(starts, pages))
 
 
-# The bytes of a disk of `empty` with exactly as many blocks as a command takes, and one byte fewer.
+# Sizes of a disk of `empty` in bytes: exactly the blocks that a command takes, and one byte fewer.
 ROOM = (2048, 2047, 3072, 3071, 3584, 3583)
 
-# The bytes of a disk of `two_puts`, by which it ends within a slot, behind one or both, behind the directory, before
-# the body, within its block or behind it, with one block that is free, or with many.
+# Sizes of a disk of `two_puts` in bytes: it ends within a slot, after one or both, after the directory, before the
+# body, within its block or after it, or has one or many free blocks.
 SIZES = (511, 512, 1023, 1024, 1536, 3071, 3583, 3584, 4096, 65536)
 
 
 def written_before():
-    """A file as the program wrote it that knew version 1 alone (rows/old_disks/version_1.b64: base64 of its zlib)."""
+    """Return a file that a program of version 1 wrote (rows/old_disks/version_1.b64: base64 of its zlib)."""
     text = (ROWS / "old_disks/version_1.b64").read_text()
     return zlib.decompress(base64.b64decode(text))
 
 
-DISKS = {
+DISKS: dict[str, Callable[..., bytes]] = {
     "written_before": written_before,
     **{f"empty_{size}": lambda size=size: empty(size) for size in ROOM},
     **{f"two_puts_{size}": lambda size=size: two_puts(size) for size in SIZES},

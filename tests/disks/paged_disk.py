@@ -1,6 +1,4 @@
-"""A disk of a source with many resources, spelled in pages by the rule that commands follow
-(tests/reading/page_rule.py).
-"""
+"""A disk of a source with many resources, in pages by the rule that commands follow (tests/reading/page_rule.py)."""
 import itertools
 
 from tests.reading import disk_parts as parts_of
@@ -8,30 +6,30 @@ from tests.reading import page_rule
 from tests.reading.disk_formats import BLOCK, laid_out
 
 BODY = b"abc"
-# The blocks that are left for commands.
+# The blocks left for commands.
 ROOM = 8192
 
 
 def blocks(data):
-    """How many blocks some bytes take."""
+    """Return the number of blocks for some bytes."""
     return (len(data) + BLOCK - 1) // BLOCK
 
 
 def behind(first, parts):
-    """The first block of each part, one behind the other, and the block behind the last."""
+    """Return the first block of every part, one after the other, and the block after the last part."""
     return list(itertools.accumulate(map(blocks, parts), initial=first))
 
 
 def name(i):
-    """The name of the resource of this number."""
+    """Return the name of the resource of this number."""
     return b"name%05d" % i
 
 
 def spelled(resources, changes, shared=True):
-    """The bytes of a disk after this many resources of three bytes were put in the order of their names, and published.
+    """Return the bytes of a disk after puts of `resources` resources of three bytes, by name, and a publication.
 
-    This many of the last changes are kept, as if none was dropped. The published pages are those of the catalogue, or
-    the same again in other blocks.
+    The last `changes` changes are kept, as if no publication dropped them. The published pages are those of the
+    catalogue, or copies in other blocks.
     """
     records = [parts_of.record(name(i), BODY, i + 1, 2 + i) for i in range(resources)]
     created = [parts_of.change(1, name(i), i + 1, BODY) for i in range(resources - changes, resources)]

@@ -1,1 +1,1 @@
-"""Reads and writes of scripts and requests that fail in turn."""
+"""Tests of scripts and requests whose reads and writes fail."""

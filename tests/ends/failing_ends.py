@@ -1,8 +1,8 @@
-"""Ends of the built program that fail at a chosen byte: sockets that are reset, pipes that are closed, and a library
-that stands before the system's, so that the program's own call fails there.
+"""Make reads and writes of the built program fail at a chosen byte: reset sockets, closed pipes, and a preloaded
+library that makes the program's own calls fail.
 
-Of what is read the library lets one call fail, and those behind it work: a program that reads on is seen to do so. Of
-what is written each call fails from there on, or one alone.
+The library lets one read fail, and later reads work, so that a program that reads on shows itself. It lets every write
+from a byte on fail, or one write only.
 """
 import array
 import contextlib
@@ -13,14 +13,17 @@ import socket
 import subprocess
 import termios
 import time
+from collections.abc import Iterator
+from pathlib import Path
+from typing import Any, BinaryIO
 
 from tests.program import STILL_CLOCK, interposed
 
-# No step waits longer than this.
+# The longest wait of one step, in seconds.
 SECONDS = 30
-# Standard output takes TAKEN bytes in all, and then fails; each read of standard input gives a line where BY_LINE is
-# set. Of a server, the connections 1, 3, 5 and so on take 0, 1, 2 and so on times EACH bytes, and then fail: FAILING
-# says in which call. Where ONCE is set, what is written fails once. The clock stands still.
+# Standard output takes TAKEN bytes in all, and then fails. With BY_LINE set, every read of standard input returns one
+# line. The connections 1, 3, 5 and so on of a server take 0, 1, 2 and so on times EACH bytes; then the call that
+# FAILING names fails. With ONCE set, only one write fails. The clock does not move.
 FAILING = STILL_CLOCK + r"""
 #include <errno.h>
 #include <stdlib.h>
@@ -92,16 +95,16 @@ ssize_t read(int fd, void *bytes, size_t n) {
 
 
 class Stuck(Exception):
-    """The program does not go on."""
+    """The program hangs."""
 
 
-def with_failing(folder):
-    """The environment in which the library above stands before the system's."""
+def with_failing(folder: str | Path) -> dict[str, str]:
+    """Return the environment in which the library above replaces the system's calls."""
     return interposed(folder, "failing", FAILING)
 
 
-def stream():
-    """Two ends of a connection on loopback."""
+def stream() -> tuple[socket.socket, socket.socket]:
+    """Return the two ends of a loopback connection."""
     with socket.create_server(("127.0.0.1", 0)) as listener:
         ours = socket.create_connection(listener.getsockname(), timeout=SECONDS)
         theirs, _ = listener.accept()
@@ -109,14 +112,14 @@ def stream():
     return ours, theirs
 
 
-def pipe():
-    """The two ends of a pipe, as files that are read and written at once."""
+def pipe() -> tuple[BinaryIO, BinaryIO]:
+    """Return the two ends of a pipe, as unbuffered files."""
     reading, writing = os.pipe()
     return open(reading, "rb", buffering=0), open(writing, "wb", buffering=0)
 
 
-def wait_taken(end):
-    """Waits until all that came to an end was read there, by whoever has it too."""
+def wait_taken(end: Any) -> None:
+    """Wait until the program has read all bytes that were sent to this end."""
     waiting, until = array.array("i", [0]), time.monotonic() + SECONDS
     while fcntl.ioctl(end, termios.FIONREAD, waiting) or waiting[0]:
         if time.monotonic() > until:
@@ -124,8 +127,8 @@ def wait_taken(end):
         time.sleep(0.000_05)
 
 
-def received(end, count):
-    """This many bytes from an end; fewer where it ends before."""
+def received(end: Any, count: int) -> bytes:
+    """Return this many bytes from an end, or fewer if it ends earlier."""
     found = b""
     while len(found) < count:
         if not select.select([end], [], [], SECONDS)[0]:
@@ -138,8 +141,9 @@ def received(end, count):
 
 
 @contextlib.contextmanager
-def started(words, environment=None, **ends):
-    """A program with these ends, which are its own alone from then on; it is killed where a step failed."""
+def started(words: list[str], environment: dict[str, str] | None = None,
+            **ends: Any) -> Iterator[subprocess.Popen[bytes]]:
+    """Start a program that alone holds these ends; kill it if a step fails."""
     child = subprocess.Popen(words, stderr=subprocess.PIPE, env=environment, **ends)
     try:
         yield child
@@ -147,11 +151,12 @@ def started(words, environment=None, **ends):
         if child.poll() is None:
             child.kill()
         child.wait()
+        assert child.stderr
         child.stderr.close()
 
 
-def ended(child):
-    """The status and the messages of a program, once it has ended."""
+def ended(child: subprocess.Popen[bytes]) -> tuple[int, bytes]:
+    """Wait for a program to end; return its exit status and messages."""
     try:
         _, messages = child.communicate(timeout=SECONDS)
     except subprocess.TimeoutExpired:
@@ -159,8 +164,8 @@ def ended(child):
     return child.returncode, messages
 
 
-def pipe_of(data):
-    """The reading end of a pipe that holds these bytes, and ends behind them."""
+def pipe_of(data: bytes) -> BinaryIO:
+    """Return the reading end of a closed pipe that contains these bytes."""
     reading, writing = pipe()
     writing.write(data)
     writing.close()

@@ -1,1 +1,1 @@
-"""The hunt: disks, scripts and requests that are changed, cut, spliced or made up."""
+"""Tests of the program with changed, cut, spliced and random disks, scripts and requests."""

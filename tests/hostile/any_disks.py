@@ -1,9 +1,9 @@
-"""The disks of the hunt (tests/hostile/disks.py), each made anew from its number and the seed.
+"""The disks of the search (tests/hostile/test_disks.py), made from a number and the seed.
 
-Each kind has a share of a hundred numbers. Four kinds go through all that they have, in an order that is spread out,
-and then on at random: each bit of a small disk, each edge of each field, each bit of each field, each cut of a part.
-The shares are such that 100,000 disks have them all. Where a field is changed or a part cut, what points to it is
-spelled behind it, so lengths and SHA-256 agree, and one rule stands alone.
+Every kind has a share of a hundred numbers. Four kinds first cover all their cases in a spread-out order, and then draw
+at random: all bits of a small disk, all edges of all fields, all bits of all fields, all cuts of parts. The shares are
+large enough that 100,000 disks cover them. After a change of a field or a cut, the parts that point to it are written
+again with right lengths and SHA-256, so that exactly one rule is broken.
 """
 import math
 import random
@@ -17,17 +17,17 @@ from tests.reading.disk_formats import entry_fields, header_fields, laid_out, nu
 from tests.reading.disk_formats import slot_fields, spelled
 
 SMALL = made_disks.DISKS["two_puts_3584"]()
-# Steps through what a kind has, of which one has no factor in common with its number.
+# Steps through the cases of a kind; at least one is coprime to their number.
 STEPS = (7_919, 7_927)
-# 9999-12-31T23:59:59.999Z, and around the moments of the spelled sources.
+# 9999-12-31T23:59:59.999Z, and the moments near those of the sources.
 MOMENTS = (1, 999, 1000, 1001, 1003, 1004, 1007, 1008, 2**63, 253_402_300_799_999, 253_402_300_800_000, 2**64 - 2)
-# Blocks of the spelled sources, lengths of bodies and of pages, and the bounds of items, blocks and bodies.
+# Blocks of the sources, lengths of bodies and of pages, and the limits of items, blocks and bodies.
 NUMBERS = (*range(1, 17), 511, 512, 513, 1024, 49_999, 50_000, 50_001, 8_388_607, 8_388_608, 16_777_216, 16_777_217,
            2**31)
 MARKS = {1: (1, 2, 3, 4, 47, 127, 128, 240, 241), 2: (1, 2, 3_999, 4_000, 4_001), 4: NUMBERS, 8: MOMENTS}
-# How many parts may have been dropped where some were, and one more.
+# Numbers of dropped parts, and one more.
 FIRSTS = (2, 3, 7, 8)
-# The fields of moments.
+# The fields that contain moments.
 WHENS = ("moment", "last", "at", "start", "begin")
 SIZES = (0, 1, 512, 513, 1_024, 7_168, 65_536, 16_777_216, 16_777_217, 2**32 - 1)
 BAD_NAMES = [b"", b"a//b", b"a/", b"/a", b"/", b".", b"..", b"a/..", b"./a", b"a/./b", b"%", b"%4", b"%4g"]
@@ -39,20 +39,18 @@ TEXTS = {"name": NAMES + BAD_NAMES, "type": TYPES + BAD_TYPES, "base": BASES + B
 
 
 def numbers(width, value, more=()):
-    """The edges of a number of this many bytes that has this value."""
+    """Return the edge values of a number of this width in bytes that has this value."""
     every = {0, *more, *MARKS[width], value - 1, value + 1, 2 ** (8 * width) - 1}
     return [number(edge, width) for edge in sorted(every - {value}) if 0 <= edge < 2 ** (8 * width)]
 
 
 def set_to(field, value):
-    """The change that sets a field to these bytes."""
+    """Return the change that sets a field to these bytes."""
     return f"{field}=x{value.hex()}"
 
 
 def edges(part, field, value):
-    """The changes that set a field to each of its edges. A text has its length set right; a page that it makes longer
-    lies behind all others.
-    """
+    """Return the changes that set a field to its edge values. A text gets its length; a longer page goes to the end."""
     where, name = f"{part}.{field}", field.rsplit(".")[-1]
     if name in TEXTS:
         texts = [text for text in TEXTS[name] if text != value]
@@ -68,7 +66,7 @@ def edges(part, field, value):
 
 
 def lengths(part, of):
-    """The changes that set a length that has blocks beside it to each of its edges, and the blocks with it."""
+    """Return the changes that set a length to its edge values, and its number of blocks to match."""
     pairs = [(f"{part}.{field}", f"{part}.{field.removesuffix('length')}blocks") for field in of
              if f"{field.removesuffix('length')}blocks" in of]
     return [[f"{length}={size}", f"{blocks}={(size + BLOCK - 1) // BLOCK}"] for length, blocks in pairs
@@ -76,7 +74,7 @@ def lengths(part, of):
 
 
 def an_edge_of(fields, rng):
-    """The changes that set one of the fields to one of its edges."""
+    """Return the changes that set a random field to an edge value."""
     part = rng.choice(list(fields))
     field, value = rng.choice(list(fields[part].items()))
     beside = {name: 0 for name in fields[part] if name.startswith(field.removesuffix("length"))}
@@ -84,37 +82,37 @@ def an_edge_of(fields, rng):
 
 
 def all_edges(fields):
-    """The changes that set each field of each part to each of its edges."""
+    """Return the changes that set every field of every part to its edge values."""
     single = [edge for part, of in fields.items() for field, value in of.items() for edge in edges(part, field, value)]
     return single + [edge for part, of in fields.items() for edge in lengths(part, of)]
 
 
 def with_bit(part, field, value, bit):
-    """The change that turns a bit of a field."""
+    """Return the change that flips a bit of a field."""
     return [set_to(f"{part}.{field}", (int.from_bytes(value, "big") ^ (1 << bit)).to_bytes(len(value), "big"))]
 
 
 def a_bit_of(fields, rng):
-    """The change that turns one bit of one of the fields that have any."""
+    """Return the change that flips one bit of a random field that is not empty."""
     part = rng.choice(list(fields))
     field, value = rng.choice([pair for pair in fields[part].items() if pair[1]])
     return with_bit(part, field, value, rng.randrange(8 * len(value)))
 
 
 def all_bits(fields):
-    """Each field with each of its bits turned."""
+    """Return the changes that flip every bit of every field."""
     every = [(part, field, value) for part, of in fields.items() for field, value in of.items()]
     return [with_bit(*part, bit) for part in every for bit in range(8 * len(part[2]))]
 
 
 def cuts(part, of):
-    """A part that ends after each number of bytes, and, where it is a page, one that has no items and says so."""
+    """Return all cuts of a part, and for a page also the empty page."""
     each = [[f"{part}.front={size}"] for size in range(sum(map(len, of.values())))]
     return each + ([[f"{part}.count=0", f"{part}.front=5"]] if "count" in of else [])
 
 
 def a_cut_of(fields, rng):
-    """The changes that cut one of the parts."""
+    """Return the changes that cut a random part."""
     return rng.choice(cuts(*rng.choice(list(fields.items()))))
 
 
@@ -125,17 +123,17 @@ BITS = [("sound", bit) for bit in all_bits(SPELLED["sound"].fields())]
 
 
 def spread(index, size):
-    """A place below the size, each once in this many indices."""
+    """Return a number below the size; `size` consecutive indices give all of them."""
     return index * next(step for step in STEPS if math.gcd(step, size) == 1) % size
 
 
 def turned(disk, bit):
-    """A disk with a bit turned."""
+    """Return a disk with one bit flipped."""
     return disk[: bit // 8] + bytes([disk[bit // 8] ^ (1 << bit % 8)]) + disk[bit // 8 + 1 :]
 
 
 def a_bit_turned(index, rng):
-    """One bit of the small disk, then some of any."""
+    """Flip one bit of the small disk, and after all its bits some bits of any disk."""
     if index < 8 * len(SMALL):
         bit = spread(index, 8 * len(SMALL))
         return f"bit {bit} of the small disk", turned(SMALL, bit)
@@ -147,7 +145,7 @@ def a_bit_turned(index, rng):
 
 
 def of_all(every, otherwise, index, rng):
-    """The changes at an index of those that there are, or, behind them, of a random source."""
+    """Return the changes at an index of the list, or after its end those of a random source."""
     if index < len(every):
         name, changes = every[spread(index, len(every))]
         return f"{name} {' '.join(changes)}", SPELLED[name](*changes)
@@ -157,22 +155,22 @@ def of_all(every, otherwise, index, rng):
 
 
 def a_bit_turned_and_righted(index, rng):
-    """A bit of a field is turned, and what points to it agrees."""
+    """Flip a bit of a field; its length and digests agree with it."""
     return of_all(BITS, a_bit_of, index, rng)
 
 
 def an_edge(index, rng):
-    """A field is set to an edge."""
+    """Set a field to an edge value."""
     return of_all(EDGES, an_edge_of, index, rng)
 
 
 def a_part_cut(index, rng):
-    """A part is cut."""
+    """Cut a part."""
     return of_all(CUTS, a_cut_of, index, rng)
 
 
 def some_edges(index, rng):
-    """Two to four fields at once, and some at equal values."""
+    """Set two to four fields at once, and some to equal values."""
     name = rng.choice(list(SPELLED))
     fields = SPELLED[name].fields()
     chosen = {}
@@ -186,7 +184,7 @@ def some_edges(index, rng):
 
 
 def truncated(index, rng):
-    """Cut at any byte or next to the end of a block, and perhaps as long as it was, of zeros or ones."""
+    """Cut a disk at any byte or near a block boundary, and perhaps fill it to its old length with zeros or ones."""
     disk = any_source(rng)()
     ends = [rng.randrange(len(disk) + 1),
             max(0, rng.randrange(len(disk) // BLOCK + 1) * BLOCK + rng.choice((-1, 0, 1)))]
@@ -196,7 +194,7 @@ def truncated(index, rng):
 
 
 def doubled(index, rng):
-    """Twice the whole, each block twice, its front twice, or one run of blocks in the place of another, too."""
+    """Repeat the whole disk, every block, or its front, or copy one run of blocks over another."""
     disk = any_source(rng)()
     blocks = [disk[at : at + BLOCK] for at in range(0, len(disk), BLOCK)]
     way, at, to = rng.randrange(5), rng.randrange(len(blocks)), rng.randrange(len(blocks))
@@ -212,13 +210,13 @@ def doubled(index, rng):
 
 
 def with_slot(disk, at, source, generation):
-    """A disk with the open root of another one in one of its slots."""
+    """Return a disk whose slot has the open root of another disk."""
     opened = next(slot for slot in (source[:BLOCK], source[BLOCK : 2 * BLOCK]) if slot[0] == 1)
     return disk[: at * BLOCK] + opened[:2] + number(generation, 8) + opened[10:] + disk[(at + 1) * BLOCK :]
 
 
 def spliced(index, rng):
-    """The front of one and the rest of another, blocks of both, or the root of one in a slot of the other."""
+    """Join the front of one disk and the rest of another, mix their blocks, or copy a root between them."""
     one, other = any_source(rng)(), any_source(rng)()
     way, cut, slot = rng.randrange(4), rng.randrange(len(one) + 1), rng.randrange(2)
     picked = [rng.choice((one, other))[at : at + BLOCK] for at in range(0, max(len(one), len(other)), BLOCK)]
@@ -232,18 +230,18 @@ def spliced(index, rng):
 
 
 def any_number(rng, width):
-    """A number at an edge of its width, or any other."""
+    """Return an edge value of this width, or a random number."""
     return rng.choice((*numbers(width, 0), rng.randbytes(width)))
 
 
 def any_extent(rng):
-    """Blocks, or whatever 8 bytes say."""
+    """Return a random extent, most often a plausible one."""
     return number(
         rng.randrange(20)) + number(rng.randrange(4)) if rng.random() < 0.8 else any_number(rng, 4) + any_number(rng, 4)
 
 
 def any_page(rng, kind):
-    """A page of right items, some of them with wrong facts, or of random bytes."""
+    """Return a page of right items, of items with wrong fields, or of random bytes."""
     way, names = rng.randrange(4), sorted(rng.sample(NAMES, rng.randrange(1, 5)))
     if way == 0:
         return rng.randbytes(rng.randrange(600))
@@ -263,7 +261,7 @@ def any_page(rng, kind):
 
 
 def random_directory(rng):
-    """Random bytes, behind a right header or not."""
+    """Return random bytes, with or without a right header."""
     header = spelled(header_fields(last=1004, start=1000, at=1004)) if rng.random() < 0.7 else b""
     counts = b"".join(rng.choice((number(rng.randrange(3)), any_number(rng, 4))) for _ in range(3)) if header else b""
     entries = [any_extent(rng) + any_number(rng, 4) + rng.randbytes(32) for _ in range(rng.randrange(5))]
@@ -271,7 +269,7 @@ def random_directory(rng):
 
 
 def behind_a_right_root(index, rng):
-    """A slot, and often a directory, that are right; what they point to is random."""
+    """Return a disk whose root, and often directory, are right and point to random bytes."""
     pages = []
     if rng.random() < 0.3:
         directory = random_directory(rng)
@@ -288,7 +286,7 @@ def behind_a_right_root(index, rng):
 
 
 def random_source(index, rng):
-    """What random commands lead to, as it is or with some edges."""
+    """Return a source made by random commands, unchanged or with some edge values."""
     disk = any_sources.at_random(rng)
     fields, chosen = disk.fields(), {}
     for _ in range(rng.choice((0, 0, 1, 1, 2))):
@@ -297,7 +295,7 @@ def random_source(index, rng):
 
 
 def scribbled(index, rng):
-    """Some places of a source with other bytes, behind its slots."""
+    """Overwrite some places of a source after its slots."""
     disk = bytearray(any_source(rng)())
     for _ in range(rng.randrange(1, 5)):
         at, size = rng.randrange(3 * BLOCK, len(disk)), rng.choice((1, 1, 8, 100, 600))
@@ -306,7 +304,7 @@ def scribbled(index, rng):
     return "a source that was scribbled on", bytes(disk)
 
 
-# This many of a hundred disks are of each kind.
+# The number of disks of every kind, of a hundred.
 SHARES = {
     a_bit_turned: 29,
     an_edge: 33,
@@ -326,7 +324,7 @@ TURNS = [turn for _, turn in sorted((((i + 0.5) / share, k), kind) for k, (kind,
 
 
 def disk_of(seed, at):
-    """What was done, and the bytes, of the disk of this number."""
+    """Return the description and the bytes of the disk of this number."""
     hundred, turn = divmod(at, len(TURNS))
     kind = TURNS[turn]
     index = hundred * SHARES[kind] + TURNS[:turn].count(kind)

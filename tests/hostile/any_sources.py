@@ -1,7 +1,7 @@
-"""Sound sources for the hunt: small ones field by field, what commands leave, and random ones.
+"""Sound sources for the search: small ones with known fields, results of commands, and random ones.
 
-Each is a function that spells a disk with changes (damaged_disks.py), or without any where it is not spelled field by
-field.
+A source is a function that builds a disk with changes of fields (damaged_disks.py); a disk without known fields takes
+no changes.
 """
 import collections
 
@@ -9,7 +9,7 @@ from tests.disks import commanded_disks, damaged_disks, made_disks
 from tests.reading.disk_formats import BLOCK, CHANGES, CREATED, DELETED, OLD_VERSION, RECORDS, UPDATED
 from tests.reading.disk_formats import VERSION, change_fields, page_fields, record_fields, spelled
 
-# Those whose every field is set to each of its edges.
+# The sources whose fields are all set to their edge values.
 FIELDS = ["sound", "shared", "unpublished", "unchanged", "empty", "two_held_pages", "two_change_pages",
           "two_listed_pages", "both_shared"]
 FIELDS += ["first_shared", "last_shared", "none_shared", "held_past_a_block", "changes_past_a_block",
@@ -22,14 +22,14 @@ NAMES = [b"%41", b"A", b"a", b"a/b", b"a/b/c", b"b", b"x&y", b"o'k", b"x&amp;y",
 TYPES = [b"text/plain", b'text/html; charset="utf-8"', b"a/b", b"a/b; x=<y>&'z'", b"x/" + b"y" * 98]
 BASES = [b"http://127.0.0.1:8080", b"http://a", b"https://a.b/c", b"https://" + b"a" * 120]
 LENGTHS = (0, 0, 1, 5, 40, 511, 512, 513, 1024, 1500)
-# How much later than the one before it a command comes.
+# The time in milliseconds between two commands.
 LATER = (1, 1, 1, 2, 1_000, 86_400_000)
-# A record's fields without its block, which is found when all parts are placed, and its body.
+# The fields of a record without its block, which is known once all parts are placed, and its body.
 Put = collections.namedtuple("Put", "name kind body moment")
 
 
 class Commands:
-    """Random commands, and the lists that they lead to. Version 1 dropped no changes."""
+    """Random commands, and the lists that result. Version 1 drops no changes."""
 
     def __init__(self, rng, count, limit, version):
         self.start = self.begin = self.last = self.at = rng.choice((0, 1_000, 951_782_400_000))
@@ -47,7 +47,7 @@ class Commands:
                 self.put(Put(name, rng.choice(TYPES), rng.randbytes(rng.choice(LENGTHS)), self.last))
 
     def publish(self):
-        """Publishes, and drops the parts that need not be kept."""
+        """Publish, and drop the parts that need not be kept."""
         moments = [int.from_bytes(change["moment"], "big") for change in self.changes]
         parts = 0 if self.version == OLD_VERSION else sum(moment <= self.at for moment in moments) // self.limit
         count = parts * self.limit
@@ -56,45 +56,45 @@ class Commands:
         self.number, self.at, self.listed, self.is_listed = self.number + 1, self.last, self.resources.copy(), True
 
     def put(self, resource):
-        """Puts a resource."""
+        """Put a resource."""
         what = UPDATED if resource.name in self.resources else CREATED
         self.resources[resource.name] = resource
         self.change(change_fields(what, resource.name, resource.moment, resource.body, resource.kind))
 
     def change(self, fields):
-        """Adds a change, so the list is not that of what is held."""
+        """Add a change, so that the list differs from the held resources."""
         self.changes.append(fields)
         self.is_listed = False
 
 
 class Places:
-    """Gives out blocks, with gaps between them."""
+    """An allocator of blocks, with gaps between them."""
 
     def __init__(self, rng):
         self.rng, self.next = rng, 2
 
     def of(self, length):
-        """The first block of this many bytes, behind those before it or further off."""
+        """Return the first block for this many bytes, after the earlier ones or further on."""
         first = self.next + self.rng.choice((0, 0, 0, 1, 3))
         self.next = first + (length + BLOCK - 1) // BLOCK
         return first
 
 
 def records_of(puts, firsts):
-    """The fields of records in the order of their names."""
+    """Return the fields of records, ordered by name."""
     return [record_fields(put.name, put.body, put.moment, firsts.get(put, 2), put.kind)
             for _, put in sorted(puts.items())]
 
 
 def pages_of(rng, kind, items, names):
-    """One page of these items or two, by the names that they have in a disk's spelling."""
+    """Return one page or two of these items, with their names in the disk's description."""
     cut = rng.randrange(1, len(items)) if len(items) > 1 and rng.random() < 0.5 else len(items)
     parts = [part for part in (items[:cut], items[cut:]) if part]
     return {name: page_fields(kind, {f"{i}": item for i, item in enumerate(part)}) for name, part in zip(names, parts)}
 
 
 def at_random(rng):
-    """A function that spells what random commands led to."""
+    """Return a function that builds the result of random commands."""
     base, limit, version = rng.choice(BASES), rng.choice((2, 2, 3, 5,
                                                           4_000)), rng.choice((OLD_VERSION, *3 * (VERSION,)))
     commands, places = Commands(rng, rng.randrange(30), limit, version), Places(rng)
@@ -123,7 +123,7 @@ def at_random(rng):
 
 
 def any_source(rng):
-    """A sound source of any kind."""
+    """Return a sound source of any kind."""
     choice = rng.random()
     if choice < 0.4:
         return at_random(rng)

@@ -1,4 +1,4 @@
-"""Fields at their edges, and bytes that are changed, for the made scripts and the made requests of the hunt."""
+"""Edge values of fields, and changed bytes, for the scripts and requests of the search."""
 import itertools
 
 NAMES = [
@@ -21,7 +21,7 @@ BAD_TYPES = [
     b"a/b\tc", b"a/b\x7f", b"a/b\x80", b"a/\xff", b"a\0/b", b"(/b", b"a/(b", b"a,b/c", b"a/,", b"a//b",
     b"x/" + b"y" * 99, b"x/y" + b" " * 97 + b"z", b"a/b\rc", b"a" * 100, b"x/" + b"y" * 254,
 ]
-# Numbers of a path: some that there may be, the last of 64 bits and one past it, and none.
+# Numbers in a path: some permitted ones, the greatest of 64 bits and the next, and texts that are no numbers.
 PLACES = [b"0", b"1", b"2", b"3", b"10", b"18446744073709551615"]
 BAD_PLACES = [
     b"", b"00", b"01", b"-1", b"+1", b"1_0", b" 1", b"1 ", b"0x1", b"1.0", b"a", b"%30", b"\xd9\xa1", b"1/1",
@@ -43,14 +43,14 @@ OTHER_PATHS = [
     b"/publish/1", b"publish", b"/p\xc3\xa9",
 ]
 PATHS = [*HEADS, *PARTS, *OTHER_PATHS, b"/publish"]
-# Bytes that mean something to a parser, and some that mean nothing anywhere.
+# Bytes with a meaning for a parser, and some without.
 MARKS = [bytes([byte]) for byte in b"\0\x01\t\n\x0b\x0c\r \"#%&'*+,-./0:;<=>?@Aaz\x7f\x80\xc3\xff"]
 WAYS = ["cut", "removed", "doubled"]
 WAYS += [*(("set", mark) for mark in MARKS), *(("put in", mark) for mark in MARKS), *range(8)]
 
 
 def changed(data, at, way):
-    """The bytes cut at a place, or with a byte there removed, doubled, set, put before it, or with a bit turned."""
+    """Return the bytes cut at a place, or with a byte there removed, doubled, replaced, inserted or flipped."""
     front, byte, behind = data[:at], data[at : at + 1], data[at + 1 :]
     if way == "cut":
         return front
@@ -64,12 +64,12 @@ def changed(data, at, way):
 
 
 def all_changes(count, lengths):
-    """Each change of each of this many texts of these lengths, as the text's number, the place and the way."""
+    """Return all changes of texts of these lengths: the number of the text, the place, and the way."""
     return [(template, at, way) for template in range(count) for at in range(lengths[template]) for way in WAYS]
 
 
 def scribbled(rng, data):
-    """The bytes with some changes at random places."""
+    """Return the bytes with some changes at random places."""
     for _ in range(rng.choice((1, 1, 1, 2, 3, 8))):
         if data:
             data = wide(rng, data) if rng.random() < 0.3 else changed(data, rng.randrange(len(data)), rng.choice(WAYS))
@@ -77,7 +77,7 @@ def scribbled(rng, data):
 
 
 def wide(rng, data):
-    """The bytes with a run of them removed, doubled, moved or set, or with all spaces, line ends or letters changed."""
+    """Return the bytes with a run removed, doubled, moved or set, or with all spaces, line ends or letters changed."""
     at, size = rng.randrange(len(data)), rng.choice((1, 2, 3, 8, 30))
     front, run, behind, to = data[:at], data[at : at + size], data[at + size :], rng.randrange(len(data))
     ways = [
@@ -94,7 +94,7 @@ def wide(rng, data):
 
 
 def pieces_of(rng, data, way):
-    """The bytes in the pieces in which they are given: in whole, byte by byte, or at random."""
+    """Split bytes into pieces: whole, byte by byte, or at random."""
     if way == "whole":
         return [data]
     if way == "bytes":

@@ -1,8 +1,7 @@
-"""The requests of the hunt (tests/hostile/requests.py), a round of them made anew from its number and the seed.
+"""The requests of the search (tests/hostile/test_requests.py), made in rounds from a number and the seed.
 
-A round has some of the requests that have one part at an edge, some lawful requests with a byte changed, and random
-ones, most of which have a part or two that they should not have. All edges, and each change of each byte of some
-requests, come up in turn.
+A round has some requests with one part at an edge, some lawful requests with a byte changed, and random requests, most
+of them with one or two wrong parts. Successive rounds cover all edges, and all changes of all bytes of some requests.
 """
 import collections
 import itertools
@@ -13,12 +12,12 @@ from tests.hostile.made_fields import BAD_NAMES, BAD_TYPES, HEADS, NAMES, PATHS,
 from tests.hostile.made_fields import pieces_of, scribbled
 from tests.hostile.made_scripts import in_turn
 
-# What the request is, its bytes, how they are given, and how the client ends: its sending alone, all at once, or by a
-# reset.
+# A request: its description, its bytes, its pieces, and how the client ends: by ending its output, by leaving, or by a
+# A request: its description, its bytes, their pieces, and how the client ends: half-closed, leaving, or by a reset.
 Made = collections.namedtuple("Made", "what data way pieces ending")
 EDGES_IN, CHANGES_IN, MORE = 110, 100, 190
 REQUESTS_IN = EDGES_IN + CHANGES_IN + MORE
-# No body is longer than this, but those that are longer than any disk here.
+# The longest body, except for bodies longer than any disk here.
 LONG = 60_000
 HOST = (b"Host", b"a")
 METHODS = [
@@ -83,35 +82,35 @@ VALUES = {
 
 
 def request(method=b"GET", target=b"/resource/a", version=b"HTTP/1.1", fields=(HOST,), body=b"", end=b"\r\n"):
-    """The bytes of a request."""
+    """Return the bytes of a request."""
     lines = [b"%s %s %s" % (method, target, version), *(b"%s: %s" % field for field in fields), b""]
     return b"".join(line + end for line in lines) + body
 
 
 def put(*fields, target=b"/resource/a", version=b"HTTP/1.1", body=b"abc", length=b"3"):
-    """A put, lawful but for what is set otherwise."""
+    """Return a put that is lawful except for the given parts."""
     return request(b"PUT", target, version, [HOST, (b"Content-Length", length), *fields], body)
 
 
 def with_line(line, method=b"GET"):
-    """A request that has this among its lines."""
+    """Return a request with this line in its head."""
     return b"%s /resource/a HTTP/1.0\r\nB: c\r\n%s\r\nD: e\r\n\r\n" % (method, line)
 
 
 def of_length(length, method, end, ends):
-    """A head of this many bytes, or its front, which has no end."""
+    """Return a head of this many bytes, or its beginning, which has no end."""
     front = b"%s /resource/a HTTP/1.0%sX: " % (method, end)
     filling = b"y" * (length - len(front) - (2 * len(end) if ends else 0))
     return front + filling + (2 * end if ends else b"")
 
 
 def of_fields(count, method, field=b"A: b\r\n"):
-    """A head of this many fields."""
+    """Return a head with this many fields."""
     return b"%s /resource/a HTTP/1.0\r\n%sHost: a\r\n\r\n" % (method, field * (count - 1))
 
 
 def edges_of_fields():
-    """One field, or two of a name, at each edge."""
+    """Return requests with a field at an edge, or with two of a name."""
     methods, versions = (b"GET", b"HEAD", b"PUT", b"POST", b"DELETE"), VERSIONS[:2]
     counts = [[HOST] * count for count in range(4)]
     counts += [[field] for field in itertools.product((b"hOST", b"Hosts", b"Hos", b"HOST"), (b"", b"a b"))]
@@ -131,7 +130,7 @@ def edges_of_fields():
 
 
 def edges_of_groups():
-    """Posted groups, each with one part at its edge."""
+    """Return posted groups with one part at an edge."""
     lines = (b"", b"\n", b"\r\n", b"put a - a/b", b"put a - a/b\n", b"put a - a/b\r\n", b"put a - a/b\r",
              b"put a - a/b\n\n")
     lines += (b"delete none", b"put a 6 a/b\nput", b"put a - a\nput a 6 a/b", b"at 5", b"publish",
@@ -148,7 +147,7 @@ def edges_of_groups():
 
 
 def edges_of_heads():
-    """Heads that are too long, or that have too many fields, or a line that is none, each at its edge."""
+    """Return heads near the limits of length and of fields, or with a malformed line."""
     styles = list(itertools.product((b"GET", b"HEAD", b"PUT"), (b"\r\n", b"\n"), (True, False)))
     found = [of_length(length, *style) for length in range(8_189, 8_196) for style in styles]
     counts = itertools.product((1, 31, 32, 33, 34, 300), (b"GET", b"HEAD", b"PUT", b"OPTIONS"))
@@ -162,7 +161,7 @@ def edges_of_heads():
 
 
 def edges_of_first_lines():
-    """Each method, target and version."""
+    """Return requests with all methods, targets and versions."""
     targets = [b"/resource/a", b"/resource/", b"/resourcelist.xml", b"/changelist/7.xml", b"/publish", b"/"]
     found = [request(method, target) for method in METHODS + BAD_METHODS for target in targets]
     found += [request(method, version=version) for method in (b"GET", b"HEAD", b"PUT") for version in VERSIONS]
@@ -181,13 +180,13 @@ random.Random(4).shuffle(CHANGES)
 
 
 class Maker:
-    """Makes random requests, and knows about how far they have moved the source on."""
+    """Makes random requests, and estimates the state of the source."""
 
     def __init__(self, rng, limit):
         self.rng, self.lines = rng, made_scripts.Maker(rng, limit)
 
     def put(self):
-        """A put of random bytes."""
+        """Return a put of random bytes."""
         self.lines.changes += 1
         body = self.rng.randbytes(self.rng.choice((0, 0, 1, 3, 40, 511, 512, 513, 4_095, 4_096, 4_097, 9_000)))
         if self.rng.random() < 0.003:
@@ -198,17 +197,17 @@ class Maker:
         return b"PUT", self.lines.resource(), fields, body
 
     def delete(self):
-        """A delete of some name."""
+        """Return a random delete."""
         self.lines.changes += 1
         return b"DELETE", self.lines.resource(), [], b""
 
     def publish(self):
-        """A publication."""
+        """Return a publication."""
         self.lines.number += 1
         return b"POST", b"/publish", [], b""
 
     def group(self):
-        """The items of a group of a script, and rarely more of them than there may be."""
+        """Return the items of a group of a script, rarely more than permitted."""
         body = self.lines.group().split(b"\n", 1)[1]
         body = b"\n".join([body] * 9) if self.rng.random() < 0.05 else body
         body += self.rng.choice((b"\n", b"\r\n", b"", b"\n\n"))
@@ -217,11 +216,11 @@ class Maker:
         return b"POST", b"/group", fields, body
 
     def get(self):
-        """A request for a document or a resource."""
+        """Return a request for a document or a resource."""
         return self.rng.choice((b"GET", b"GET", b"GET", b"HEAD")), self.lines.show()[len(b"show ") :], [], b""
 
     def lawful(self):
-        """The parts of a request that is mostly accepted."""
+        """Return the parts of a request that most sources accept."""
         kinds = ((self.put, 35), (self.delete, 9), (self.group, 6), (self.publish, 8), (self.get, 42))
         makers, weights = [maker for maker, _ in kinds], [weight for _, weight in kinds]
         method, target, fields, body = self.rng.choices(makers, weights)[0]()
@@ -232,7 +231,7 @@ class Maker:
         return {"method": method, "target": target, "version": version, "fields": fields, "body": body}
 
     def spoil(self, parts):
-        """One part as it should not be, or as it need not be."""
+        """Replace one part by a wrong or unusual one."""
         rng, fields, name = self.rng, parts["fields"], self.rng.choice(list(VALUES))
         value, bad_name = rng.choice(VALUES[name]), b"/resource/" + rng.choice(BAD_NAMES)
         ways = [
@@ -253,7 +252,7 @@ class Maker:
         return {**parts, **rng.choice(ways)()}
 
     def any(self):
-        """The bytes of a request with some parts that it should not have, or some bytes."""
+        """Return the bytes of a request with some wrong parts, or random bytes."""
         parts = self.lawful()
         for _ in range(self.rng.choice((0, 0, 0, 1, 1, 2, 3))):
             parts = self.spoil(parts)
@@ -263,7 +262,7 @@ class Maker:
 
 
 def made(rng, what, data):
-    """A request, how it is given, and how its client ends."""
+    """Return a request with random pieces and a random end of its client."""
     last = "bytes" if len(data) < 1_000 or rng.random() < 0.03 else "random"
     way = rng.choice(("whole", "whole", "whole", "random", last))
     ending = rng.choices(("half", "leave", "reset"), (94, 4, 2))[0]
@@ -271,7 +270,7 @@ def made(rng, what, data):
 
 
 def requests_of(rng, number, limit):
-    """The requests of the round of this number."""
+    """Return the requests of the round of this number."""
     maker = Maker(rng, limit)
     turns = [("an edge", edge) for edge in in_turn(EDGES, number, EDGES_IN)]
     turns += [("a change", changed(TEMPLATES[template], at, way))

@@ -1,8 +1,8 @@
-"""The scripts of the hunt (tests/hostile/lines.py), each made anew from its number and the seed.
+"""The scripts of the search (tests/hostile/test_lines.py), made from a number and the seed.
 
-A script has some lines that move the source on, some of the lines that have one field at an edge, some lawful lines
-with a byte changed, and some that are scribbled on. All edges, and each change of each byte of each kind of line,
-come up in turn, in an order that is spread out; so a hunt of 100,000 lines has them all.
+A script has some lines that change the source, some with one field at an edge, some lawful lines with a byte changed,
+and some with random changes. Successive scripts cover all edges and all changes of all bytes of every kind of line, in
+a spread-out order; a search of 100,000 lines has them all.
 """
 import collections
 import itertools
@@ -12,13 +12,13 @@ import re
 from tests.hostile.made_fields import BAD_NAMES, BAD_TYPES, HEADS, NAMES, PATHS, TYPES, all_changes, changed
 from tests.hostile.made_fields import pieces_of, scribbled
 
-# What the script is, the words of the program, its bytes, and the pieces in which it is given.
+# A script: its description, the program's arguments, its bytes, and its pieces.
 Made = collections.namedtuple("Made", "what size base limit data way pieces")
-# Of disks; the large one has room for the longest body and little more.
+# The sizes of disks; the large one has room for the longest body and little more.
 SIZE, LARGE = 524_288, 17_825_792
 BASES = ["http://127.0.0.1:8080", "http://a", "https://a.b/c", "https://" + "a" * 120]
 LIMITS = [2, 2, 2, 3, 4, 5, 7, 4_000]
-# How many lines of a script are edges, how many have one byte changed, and how many more are at random.
+# The numbers of lines with an edge, with a changed byte, and of further random lines in a script.
 EDGES_IN, CHANGES_IN, MORE = 22, 28, range(20, 150)
 LINES_IN = 120
 LONGEST = 33_600_000
@@ -73,14 +73,14 @@ random.Random(2).shuffle(CHANGES)
 
 
 class Maker:
-    """Makes lines that move a source on, and knows about how far they have."""
+    """Makes lines that change a source, and estimates its state."""
 
     def __init__(self, rng, limit):
         self.rng, self.limit, self.names = rng, limit, rng.sample(NAMES, 7)
         self.now, self.changes, self.number, self.latest = 951_782_400_000, 0, 0, b"put a - a/b"
 
     def put(self):
-        """A put, some of them equal to the one before."""
+        """Return a put, sometimes equal to the previous one."""
         self.changes += 1
         if self.rng.random() < 0.9:
             length = self.rng.choice((0, 0, 1, 3, 40, 511, 512, 513, 1_024))
@@ -89,12 +89,12 @@ class Maker:
         return self.latest
 
     def delete(self):
-        """A line that deletes some name."""
+        """Return a line that deletes a random name."""
         self.changes += 1
         return b"delete " + self.rng.choice(self.names)
 
     def group(self):
-        """Up to five items, most of which a source accepts, and rarely a line that is none."""
+        """Return a group of up to five items, mostly acceptable, and rarely a malformed one."""
         lines = [self.put() if self.rng.random() < 0.8 else self.delete()
                  for _ in range(self.rng.choice((1, 2, 2, 3, 5)))]
         if self.rng.random() < 0.1:
@@ -103,21 +103,21 @@ class Maker:
         return b"\n".join([b"group %d" % len(lines), *lines])
 
     def publish(self):
-        """A line that publishes."""
+        """Return a line that publishes."""
         self.number += 1
         return b"publish"
 
     def at(self):
-        """A line that sets the time."""
+        """Return a line that sets the time."""
         self.now += self.rng.choice((-1_000, 0, 0, 1, 5, 1_000, 86_400_000))
         return b"at %d" % self.now
 
     def resource(self):
-        """The path of some resource."""
+        """Return the path of a random resource."""
         return b"/resource/" + self.rng.choice(self.names)
 
     def show(self):
-        """A line that shows a document or a resource, which may not be there."""
+        """Return a line that shows a document or resource, which may be missing."""
         part = self.rng.randrange(self.changes // self.limit + 2)
         number = max(0, self.number - self.rng.choice((0, 0, 0, 1, -1)))
         listed = b"/resourcelist/%d/%d.xml" % (number, self.rng.randrange(5))
@@ -126,13 +126,13 @@ class Maker:
         return b"show " + (path if self.rng.random() < 0.85 else re.sub(rb"/(?=[0-9])", b"/0", path))
 
     def lawful(self):
-        """One of the lines that are mostly accepted."""
+        """Return a line that most sources accept."""
         counts = ((self.put, 30), (self.delete, 9), (self.group, 5), (self.publish, 8), (self.at, 5), (self.show, 40))
         kinds = [*counts, (lambda: b"status", 5), (lambda: b"verify", 3)]
         return self.rng.choices([maker for maker, _ in kinds], [weight for _, weight in kinds])[0]()
 
     def any(self):
-        """One line: lawful, at an edge, or scribbled on."""
+        """Return a line: lawful, at an edge, or changed at random."""
         choice = self.rng.random()
         if choice < 0.75:
             return self.lawful()
@@ -140,12 +140,12 @@ class Maker:
 
 
 def in_turn(every, number, count):
-    """This many of these, for the script of this number."""
+    """Return the share of these for the script of this number."""
     return [every[at % len(every)] for at in range(number * count, (number + 1) * count)]
 
 
 def usual(rng, number, limit, more=MORE):
-    """Edges, changes and random lines, in any order."""
+    """Return edges, changes and random lines, in any order."""
     maker = Maker(rng, limit)
     lines = in_turn(EDGES, number, EDGES_IN)
     lines += [changed(TEMPLATES[template], at, way) for template, at, way in in_turn(CHANGES, number, CHANGES_IN)]
@@ -154,7 +154,7 @@ def usual(rng, number, limit, more=MORE):
 
 
 def mixed(rng, lines, others):
-    """Two lists as one, each in its order."""
+    """Merge two lists at random, each in its order."""
     picks = [0] * len(lines) + [1] * len(others)
     rng.shuffle(picks)
     lists = iter(lines), iter(others)
@@ -162,14 +162,14 @@ def mixed(rng, lines, others):
 
 
 def at_the_end(rng, number, limit):
-    """The last moment comes on the way, at once or after a few commands."""
+    """Return lines that reach the last moment, at once or after a few commands."""
     lines = usual(rng, number, limit)
     half = len(lines) // 2
     return [*lines[:half], b"at %d" % (int(LAST) - rng.randrange(4)), *lines[half:]]
 
 
 def long_lines(rng, number, limit):
-    """Lines about as long as a line may be, and bodies about as long as a body may be."""
+    """Return lines near the greatest length, and bodies near the greatest length."""
     front = b"put %s " % rng.choice(NAMES[:9])
     every = [
         lambda: b"x" * LONGEST + b"\r",
@@ -191,18 +191,18 @@ def long_lines(rng, number, limit):
 
 
 def large_bodies(rng, number, limit):
-    """Bodies that are larger than the disk."""
+    """Return lines with bodies larger than the disk."""
     over = [b"put %s %s %s" % (rng.choice(NAMES[:9]), b"00" * (SIZE + more), rng.choice(TYPES)) for more in (1, 512)]
     return mixed(rng, usual(rng, number, limit), over)
 
 
-# The kinds of some of these numbers; all others are usual.
+# The kinds of scripts with some of these numbers; all others are usual.
 TURNS = 120
 KINDS = {11: long_lines, 5: at_the_end, 45: at_the_end, 85: at_the_end, 3: large_bodies, 83: large_bodies}
 
 
 def ended(rng, lines):
-    """The bytes of lines, each with an end, the last one perhaps with none."""
+    """Return the bytes of lines, the last one perhaps without a line end."""
     mixed_ends, odd_ends = [b"\n", b"\n", b"\r\n", b"\r\r\n", b"\n\r"], [b"\n"] * 20 + [b"\n\n", b"\r", b""]
     ends = rng.choice(([b"\n"], [b"\n"], [b"\r\n"], mixed_ends, odd_ends))
     last = rng.choice((b"\n", b"\n", b"\n", b"", b"", b"\r", b"\r\n", b"\n\n", b"\n\r"))
@@ -210,7 +210,7 @@ def ended(rng, lines):
 
 
 def script_of(seed, number):
-    """The script of this number."""
+    """Return the script of this number."""
     rng = random.Random(f"script {seed} {number}")
     kind, limit = KINDS.get(number % TURNS, usual), rng.choice(LIMITS)
     data = ended(rng, kind(rng, number, limit))

@@ -1,98 +1,100 @@
-"""What the self-tests of made scripts and made requests share: wrong rules of names, types, moments and lists, and
-how they are tried.
+"""Wrong rules of names, types, moments and lists, which both scripts and requests must show.
 
-A program that breaks a rule answers as the plain reading does that has the wrong rule in the place of the right one.
-So each wrong rule is put into the reading, and the first scripts or rounds of the hunt have to tell it from the right
-one (tests/hostile/wrong_lines.py, tests/hostile/wrong_requests.py).
+A program that breaks a rule answers like the independent reading with a wrong rule. The tests put every wrong rule into
+that reading; the first scripts or rounds of the search must show the difference (test_line_judge.py,
+test_request_judge.py).
 """
-import contextlib
 import dataclasses
 import re
+from collections.abc import Callable
+from contextlib import AbstractContextManager
+from typing import Any
 from unittest import mock
 
 from tests.reading import crash_model, front_model
 from tests.reading.crash_model import State
 from tests.reading.front_model import Source
 
+Rules = dict[str, Callable[[], AbstractContextManager[object]]]
 LAWFUL, PUT, DELETE, DOCUMENTS = front_model.is_lawful, Source.put, Source.delete, crash_model.documents
 
 
-def rule(of, name, wrong):
-    """Puts a wrong rule in the place of one."""
+def rule(of: object, name: str, wrong: object) -> AbstractContextManager[object]:
+    """Replace a rule by a wrong one."""
     return mock.patch.object(of, name, wrong)
 
 
-def pattern(of, name, old, new):
-    """A pattern of a module with some of it replaced."""
+def pattern(of: object, name: str, old: bytes, new: bytes) -> AbstractContextManager[object]:
+    """Replace a part of a pattern of a module."""
     expression = getattr(of, name)
     if old not in expression.pattern:
         raise ValueError(f"{name} has no {old!r}")
     return rule(of, name, re.compile(expression.pattern.replace(old, new), expression.flags))
 
 
-def more_bytes(kind, shortest, longest, text):
-    """A text may have a byte more."""
+def more_bytes(kind: Any, shortest: int, longest: int, text: bytes) -> Any:
+    """A text may have one byte more."""
     return LAWFUL(kind, shortest, longest + 1, text)
 
 
-def kept_moment(self, name, now):
-    """A delete that is refused uses up a moment."""
+def kept_moment(self: Source, name: str, now: int) -> Any:
+    """A refused delete uses up a moment."""
     if name not in self.state.held:
         self.become(dataclasses.replace(self.state, last=self.moment(now)))
     return DELETE(self, name, now)
 
 
-def equal_puts(self, name, kind, length, body, now):
-    """A put of what is held changes nothing."""
+def equal_puts(self: Source, name: str, kind: str, length: int, body: bytes, now: int) -> Any:
+    """A put of an equal resource changes nothing."""
     resource = self.state.held.get(name)
     if resource and body == resource[0] and kind == resource[1].kind:
         return f"updated {crash_model.moment_text(resource[1].moment)}"
     return PUT(self, name, kind, length, body, now)
 
 
-def chunks_with_an_empty_one(items, limit):
-    """The lines of resources, in parts of which the last one may be empty; changes are in parts as they have to be."""
+def chunks_with_an_empty_one(items: Any, limit: int) -> list[Any]:
+    """The last part of a list of resources may be empty; changes are split by the right rule."""
     end = len(items) + (len(items) > limit and isinstance(items[0], str))
     return [items[at : at + limit] for at in range(0, end, limit)]
 
 
-def chunks_of_one_more(items, limit):
-    """A part has an entry more than the limit."""
+def chunks_of_one_more(items: Any, limit: int) -> list[Any]:
+    """A part has one entry more than the limit."""
     return [items[at : at + limit + 1] for at in range(0, len(items), limit + 1)]
 
 
-def by_any_number(self, path, document=Source.document):
-    """The parts of each publication stay."""
+def by_any_number(self: Source, path: bytes, document: Any = Source.document) -> Any:
+    """The parts of all publications remain."""
     return document(self, re.sub(rb"^/resourcelist/[0-9]+/", b"/resourcelist/%d/" % self.state.number, path))
 
 
-def held_documents(state):
-    """The Resource List lists what is held now."""
+def held_documents(state: State) -> Any:
+    """The Resource List has the present resources instead of the published ones."""
     return DOCUMENTS(dataclasses.replace(state, listed=state.entries()))
 
 
-def dropped_too_soon(state):
-    """The parts that end no later than the publication itself are dropped, not those that end before the one before."""
+def dropped_too_soon(state: State) -> int:
+    """A publication drops the parts that end before itself, not only those before the previous publication."""
     return len(state.changes) // state.limit
 
 
-def parts_numbered_anew(state):
-    """The first part that is kept has the number 0 again."""
+def parts_numbered_anew(state: State) -> Any:
+    """The first remaining part gets the number 0 again."""
     return DOCUMENTS(dataclasses.replace(state, first=0))
 
 
-def begun_at_the_start(state):
-    """The Change List tells the start after parts were dropped, too."""
+def begun_at_the_start(state: State) -> Any:
+    """The Change List keeps its first start after parts were dropped."""
     return DOCUMENTS(dataclasses.replace(state, begin=0))
 
 
-def last_changes(state):
-    """Of two changes of a resource the later one alone is kept."""
+def last_changes(state: State) -> Any:
+    """The list keeps only the later of two changes of a resource."""
     latest = {change.name: change for change in state.changes}
     return DOCUMENTS(dataclasses.replace(state, changes=tuple(latest.values())))
 
 
-SHARED_RULES = {
+SHARED_RULES: Rules = {
     "names and types have one byte more": lambda: rule(front_model, "is_lawful", more_bytes),
     "names have dots": lambda: pattern(front_model, "NAME", rb"(?!\.{1,2}(?:/|\Z))", b""),
     "names have a percent sign alone": lambda: pattern(front_model, "NAME", rb"@]", rb"@%]"),
@@ -112,24 +114,3 @@ SHARED_RULES = {
     "the Change List begins at the start for ever": lambda: rule(crash_model, "documents", begun_at_the_start),
     "an ampersand alone is escaped": lambda: rule(crash_model, "REFERENCES", {"&": "&amp;"}),
 }
-
-
-def passing_rules(rules, tells):
-    """The wrong rules that are not noticed. One that leads to a moment that has no date is."""
-    tells()
-    blind = []
-    for name, wrong in rules.items():
-        with wrong(), contextlib.suppress(OverflowError):
-            blind += [] if tells() else [name]
-    return blind + (["the right rules, which are as they have to be"] if tells() else [])
-
-
-def report(what, rules, tells, answers):
-    """Tells what is not noticed. Gives how many are not."""
-    passing, count = answers
-    blind = [*passing_rules(rules, tells), *passing]
-    for name in blind:
-        print(f"not noticed: {name}")
-    noticed = len(rules) + count - len(blind)
-    print(f"self-test of {what}: {noticed} wrong rules and answers were noticed, {len(blind)} were not", flush=True)
-    return len(blind)

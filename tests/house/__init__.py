@@ -1,1 +1,1 @@
-"""What is held of the repository itself: its folders, its set-up, its proofs by hand."""
+"""Checks of the repository itself: its folders, its pages, its set-up and its proofs by hand."""

@@ -14,14 +14,14 @@ from tests.program import ROOT
 
 PAGE = ROOT / "docs" / "ARCHITECTURE.md"
 MADE = Made("crates.txt", "tests.house.layers")
-# A line of the picture: the layer, the crate, and what it is.
+# A line of the picture: the layer, the crate, and its meaning.
 LINE = re.compile(r"(?m)^ *\d+  (rs_\w+) +(\S.*?)(?:  +rs_\w+(?: rs_\w+)*)?$")
-# The layer of a crate, and those that it stands on.
+# The layer of a crate, and the crates that it uses.
 Layer = tuple[int, list[str]]
 
 
 def layers(uses: dict[str, list[str]]) -> dict[str, Layer]:
-    """Of each crate its layer, and the crates that it stands on, without those that stand below another one of them."""
+    """Return the layer of every crate and the crates that it uses, without those below another used crate."""
     found: dict[str, Layer] = {}
     for name, needs in uses.items():
         own = [other for other in uses if other in needs]
@@ -31,7 +31,7 @@ def layers(uses: dict[str, list[str]]) -> dict[str, Layer]:
 
 
 def drawn(uses: dict[str, list[str]], meanings: dict[str, str]) -> str:
-    """The lines of the picture, the highest layer first, and those of crates of tests behind the others."""
+    """Return the lines of the picture, the highest layer first, and the crates of tests last."""
     parts: tuple[list[str], list[str]] = [], []
     for name, (layer, own) in sorted(layers(uses).items(), key=lambda each: -each[1][0]):
         line = f"{layer:3}  {name:<19}{meanings.get(name, 'NOBODY SAYS WHAT IT IS'):<45}{' '.join(own)}"
@@ -40,7 +40,7 @@ def drawn(uses: dict[str, list[str]], meanings: dict[str, str]) -> str:
 
 
 def with_picture(page: str, uses: dict[str, list[str]]) -> str:
-    """The page with its picture as it has to be."""
+    """Return the page with the correct picture."""
     return MADE.with_part(page, drawn(uses, dict(LINE.findall(MADE.part_of(page)))))
 
 

@@ -18,8 +18,7 @@ MADE = Made("the code", "tests.house.limits")
 
 @dataclass(frozen=True)
 class Limit:
-    """A limit: what has it, the file of crates/ and the text there that tells its figures, by what they are multiplied,
-    and how the table tells them."""
+    """A limit: its description, the file of crates/ and the pattern with its figures, their factor and their format."""
 
     what: str
     file: str
@@ -28,7 +27,7 @@ class Limit:
     words: str = "{:,}"
 
     def figures(self, root: Path = ROOT) -> str:
-        """The figures as the table tells them."""
+        """Return the figures in the format of the table."""
         found = re.search(self.pattern, (root / "crates" / self.file).read_text())
         if not found:
             raise ValueError(f"{self.file} does not tell: {self.what}")
@@ -61,7 +60,7 @@ LIMITS = [
 
 
 def drawn(figures: Mapping[Limit, str]) -> str:
-    """The table as the page has it."""
+    """Return the table of the page."""
     rows = [f"| {limit.what} | {figures[limit]} | `crates/{limit.file}` |" for limit in LIMITS]
     return "\n".join(["| limit | figure | where the code has it |", "|---|---|---|", *rows])
 

@@ -1,8 +1,7 @@
-"""Sees that the machine has what the tests use of Debian (packages.txt): installs what is missing, or names what is
-left out for it.
+"""Install the Debian packages that the tests need (packages.txt), or name the parts of the tests that are left out.
 
-It installs where it runs as root, by apt-get, and says so first; SETUP=no in the environment leaves the machine alone.
-No service is started by what is installed, now or later.
+As root, the module installs missing packages by apt-get and announces it first; SETUP=no in the environment prevents
+this. The installed packages start no service, now or later.
 """
 
 import contextlib
@@ -14,21 +13,21 @@ from collections.abc import Iterator
 from dataclasses import dataclass
 from pathlib import Path
 
-from tests.skipped import not_tried
-from tests.table import lines
+from gate.tested import line_of
+from rattle.tables import lines
 
 ROOT = Path(__file__).resolve().parents[2]
-# Where Debian has what is not on every user's path.
+# The folders of Debian's commands that are missing from the path of some users.
 PATH = "/usr/local/sbin:/usr/sbin:/sbin"
-# By this file, where there is one, Debian's packages ask whether a service may be started; 101 forbids it.
+# Debian's packages ask this file, if it exists, whether to start a service; 101 forbids it.
 POLICY = Path("/usr/sbin/policy-rc.d")
-# What packages would start when the machine does: they are installed for their commands alone.
+# Services that packages would start at boot; only the commands of these packages are needed.
 SERVICES = {"nginx": "nginx.service"}
 
 
 @dataclass(frozen=True)
 class Package:
-    """A package, the command or the file by which it is missed, who uses it, and what for."""
+    """A package, the command or file that shows it is installed, its user, and its use."""
 
     name: str
     mark: str
@@ -37,25 +36,25 @@ class Package:
 
     @property
     def is_there(self) -> bool:
-        """Whether this machine has it."""
+        """Return whether this machine has it."""
         if self.mark.startswith("/"):
             return Path(self.mark).exists()
         return bool(shutil.which(self.mark, path=f"{os.environ.get('PATH', os.defpath)}:{PATH}"))
 
 
 def packages(text: str) -> list[Package]:
-    """The packages of a table, in its order."""
+    """Return the packages of a table, in order."""
     return [Package(*(field.strip() for field in line.split(" | "))) for line in lines(text)]
 
 
 def missing(text: str) -> list[Package]:
-    """The packages that the tests use and this machine has not."""
+    """Return the packages that the tests use and this machine lacks."""
     return [package for package in packages(text) if package.user in ("gate", "test") and not package.is_there]
 
 
 @contextlib.contextmanager
 def nothing_is_started() -> Iterator[None]:
-    """While this lasts no package starts a service. A policy that is there already stays as it is."""
+    """Prevent packages from starting services within the context. An existing policy stays unchanged."""
     if POLICY.exists():
         yield
         return
@@ -68,7 +67,7 @@ def nothing_is_started() -> Iterator[None]:
 
 
 def run(*words: str) -> bool:
-    """Whether a command ends well; where it does not, its last lines are printed."""
+    """Run a command and return whether it succeeds; print its last lines if it fails."""
     try:
         quiet = {**os.environ, "DEBIAN_FRONTEND": "noninteractive"}
         done = subprocess.run(words, env=quiet, stdin=subprocess.DEVNULL, capture_output=True, text=True)
@@ -81,7 +80,7 @@ def run(*words: str) -> bool:
 
 
 def install(names: list[str]) -> bool:
-    """Whether Debian's registry gives these packages, and they are installed."""
+    """Install packages from Debian's registry and return whether this succeeded."""
     with nothing_is_started():
         if not run("apt-get", "update", "-q") or not run("apt-get", "install", "-q", "-y", "--no-install-recommends",
                                                          *names):
@@ -91,7 +90,7 @@ def install(names: list[str]) -> bool:
 
 
 def setup(text: str) -> bool:
-    """Installs what is missing where it may, names what is left out then, and gives whether the gate can begin."""
+    """Install missing packages if allowed, name the parts left out, and return whether the gate can begin."""
     lacking = missing(text)
     if not lacking:
         return True
@@ -107,12 +106,12 @@ def setup(text: str) -> bool:
               if install([package.name for package in lacking]) else "not all could be installed", flush=True)
     still_missing = missing(text)
     for package in still_missing:
-        not_tried(package.name, f"there is no {package.mark} here: {package.use}")
+        print(line_of(package.name, f"there is no {package.mark} here: {package.use}"), flush=True)
     return all(package.user == "test" for package in still_missing)
 
 
 def main() -> None:
-    """Sets the machine up by packages.txt."""
+    """Set the machine up by packages.txt."""
     if not setup(Path(ROOT, "packages.txt").read_text()):
         sys.exit("the gate cannot begin without what packages.txt has for it")
 

@@ -1,9 +1,13 @@
-"""Tests of the look at imports: which modules import each other."""
+"""Test the check of imports for cycles."""
 import tempfile
 import unittest
 from pathlib import Path
 
 from tests.house import imports
+
+
+def test_the_files_of_python_have_no_fault() -> None:
+    assert imports.faults() == []
 
 
 class Examples(unittest.TestCase):
@@ -19,11 +23,11 @@ class Examples(unittest.TestCase):
 
 class Cycles(unittest.TestCase):
     def test_each_package_is_looked_at(self) -> None:
-        found = {module.partition(".")[0] for module in imports.ours([*imports.FILES, *imports.OTHERS])}
+        found = {module.partition(".")[0] for module in imports.ours(imports.FILES)}
         self.assertEqual(found, {"bench", "gate", "operations", "rattle", "ropepeach", "rust", "statement", "tests"})
 
     def found(self, **texts: str) -> set[str]:
-        """The modules of a cycle in a package of files with these texts."""
+        """Return the modules of a cycle in a package of files with these texts."""
         with tempfile.TemporaryDirectory() as room:
             files = [Path(room, "p", f"{name}.py") for name in texts]
             files[0].parent.mkdir()

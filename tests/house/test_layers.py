@@ -1,5 +1,5 @@
-"""Tests that the picture of docs/ARCHITECTURE.md is made from crates.txt, and of what a crate says of another one's
-proofs: only its `proofs/FromBelow.antt` cites them, and only their `proofs/ForCallers.antt`.
+"""Test that the picture of docs/ARCHITECTURE.md agrees with crates.txt, and the citations of proofs between crates:
+only `proofs/FromBelow.antt` of a crate cites another crate's proofs, and only from their `proofs/ForCallers.antt`.
 """
 
 import re
@@ -9,12 +9,12 @@ from rattle.crates import crates_of
 from tests.house import layers
 from tests.program import ROOT
 
-# What names the proofs of a crate, and the file of them: `Rattle.rs_disk.proofs.Images`.
+# A citation of a crate's proofs, and their file: `Rattle.rs_disk.proofs.Images`.
 CITATION = re.compile(r"\bRattle\.(rs_\w+)\.proofs\.(\w+)")
 
 
 def strays(crate: str, place: str, text: str) -> list[str]:
-    """What a file of a crate cites of proofs and should not: in src/ and specs/ any, in proofs/ another crate's."""
+    """Return forbidden citations of proofs in a file of a crate: any in src/ and specs/, another crate's in proofs/."""
     found = [citation for citation in CITATION.finditer(text)
              if citation[1] != crate or not place.startswith("proofs/")]
     is_taken = place == "proofs/FromBelow.antt"

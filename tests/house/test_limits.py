@@ -1,4 +1,4 @@
-"""Tests that the table of limits is made from the code."""
+"""Test that the table of limits agrees with the code."""
 
 import dataclasses
 import unittest

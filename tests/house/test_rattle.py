@@ -1,4 +1,4 @@
-"""Tests of the readers of Rattle (rattle/): functions with their clauses and bodies, blocks, outlines and crates."""
+"""Test the readers of Rattle (rattle/): functions with their clauses and bodies, blocks, outlines and crates."""
 
 import tempfile
 import unittest

@@ -1,4 +1,4 @@
-"""Tests of the set-up: who misses what, and what it prints where it may install nothing."""
+"""Test the set-up: the missing packages, their users, and the output if nothing may be installed."""
 
 import contextlib
 import io
@@ -7,7 +7,7 @@ import unittest
 from pathlib import Path
 from unittest import mock
 
-from tests import skipped
+from gate.tested import line_of
 from tests.house import setup
 
 TABLE = """# a remark
@@ -25,7 +25,7 @@ class SetUp(unittest.TestCase):
         self.assertEqual([package.name for package in setup.missing(TABLE)], ["none", "file"])
 
     def run_setup(self, user: int, **environment: str) -> tuple[str, list[str]]:
-        """What it prints for a user, and what it installed."""
+        """Return the output for a user, and the installed packages."""
         installed: list[str] = []
         with (contextlib.redirect_stdout(io.StringIO()) as out, mock.patch.dict(os.environ, environment),
               mock.patch.object(os, "getuid", lambda: user), mock.patch.object(setup, "install", installed.extend)):
@@ -38,7 +38,7 @@ class SetUp(unittest.TestCase):
             self.assertEqual(installed, wanted)
             self.assertTrue(output.startswith("== this machine lacks of Debian: none, file (packages.txt)\n"))
             left_out = [("none", "no-such-command", "the tour"), ("file", "/no/such/file", "pages")]
-            self.assertTrue(output.endswith("".join(f"{skipped.line_of(name, f'there is no {what} here: {part}')}\n"
+            self.assertTrue(output.endswith("".join(f"{line_of(name, f'there is no {what} here: {part}')}\n"
                                                     for name, what, part in left_out)))
 
     def test_nothing_is_said_where_nothing_is_missing(self) -> None:

@@ -1,11 +1,11 @@
-"""Tests that VERSION has one number, and that all other places have the same."""
+"""Test that VERSION has one number, and that all other places have the same."""
 
 import re
 import unittest
 
 from tests.program import ROOT
 
-PLACES = {"CHANGELOG.md": r"(?m)^## \[(.*?)\]",
+PLACES = {"CHANGELOG.md": r"(?m)^## \[(\d.*?)\]",
           "operations/install/rs_source.8": r"(?m)^This page is that of Ropepeach (\S+)\.$",
           "operations/ropepeach/__init__.py": r'(?m)^__version__ = "(.*)"$',
           "debian/changelog": r"\Aropepeach \((\S+)\)"}

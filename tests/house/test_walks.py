@@ -1,4 +1,4 @@
-"""The walks of docs/ARCHITECTURE.md name functions that stand in the crates they name."""
+"""Test that the crates in the walks of docs/ARCHITECTURE.md have the functions that the walks name."""
 
 import functools
 import re
@@ -14,7 +14,7 @@ STEP = re.compile(r"^ (rs_\w+) +([a-z_]+(?:, [a-z_]+)*)$")
 
 
 def steps(text: str) -> list[tuple[str, list[str]]]:
-    """The lines of all walks of a page: each crate with its functions."""
+    """Return the lines of all walks of a page: crates with their functions."""
     walks = text.partition("\n## Three walks\n")[2].partition("\n## ")[0]
     found = [STEP.match(line) for block in walks.split("```")[1::2] for line in block.strip("\n").splitlines()]
     return [(step[1], step[2].split(", ")) for step in found if step]
@@ -22,12 +22,12 @@ def steps(text: str) -> list[tuple[str, list[str]]]:
 
 @functools.cache
 def functions_of(crate: Path) -> set[str]:
-    """The functions of a crate's source."""
+    """Return the functions of a crate's source."""
     return {found.name for file in crate.glob("src/**/*.rt") for found in code.functions_of(file.read_text())}
 
 
 def missing(text: str) -> list[str]:
-    """The functions of a page's walks that their crates do not have."""
+    """Return the functions that the walks of a page name, but their crates do not have."""
     return [f"{crate}: {name}" for crate, names in steps(text) for name in names
             if name not in functions_of(ROOT / "crates" / crate)]
 

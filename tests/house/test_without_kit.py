@@ -1,4 +1,4 @@
-"""Tests of the make targets where there is no Rattle kit: each says so in one line."""
+"""Test that the make targets report a missing Rattle kit in one line."""
 
 import os
 import re
@@ -9,26 +9,26 @@ from pathlib import Path
 
 ROOT = Path(__file__).resolve().parents[2]
 KIT, SECONDS = "rt", 120
-# What needs no kit; `make quick` needs one where a crate changed (gate/tests/test_quick.py).
+# Targets that need no kit; `make quick` needs one after a change of a crate (gate/tests/test_quick.py).
 WITHOUT = {"help", "setup", "quick", "statement", "install", "uninstall", "proof-times"}
-# How many targets there are at least: fewer were not found.
+# The least number of targets; fewer mean that the search failed.
 LEAST = 20
 
 
 def targets() -> list[str]:
-    """The targets of the rules of both Makefiles, but for checks by their names."""
+    """Return the targets of the rules of both Makefiles, except checks by their names."""
     texts = [(ROOT / name).read_text() for name in ("Makefile", "operations/Makefile")]
     return [word for text in texts for line in re.findall(r"(?m)^([a-z][\w -]*):", text) for word in line.split()]
 
 
 def path_without_kit() -> str:
-    """The folders of commands that have no kit."""
+    """Return the folders of commands that have no kit."""
     folders = os.environ.get("PATH", os.defpath).split(os.pathsep)
     return os.pathsep.join(folder for folder in folders if not Path(folder, KIT).exists())
 
 
 def is_one_line(output: str) -> bool:
-    """Whether a target says in one line that there is no kit; make itself may add why it ended."""
+    """Return whether the output reports in one line that there is no kit; make itself may add why it ended."""
     lines = [line for line in output.splitlines() if not re.match(r"make(\[\d+\])?: ", line)]
     return len(lines) == 1 and "no Rattle kit here" in lines[0]
 
@@ -52,7 +52,7 @@ class WithoutKit(unittest.TestCase):
         self.assertEqual(sorted(re.findall(r"(?m)^make (\S+)", told)), sorted(targets()))
 
     def test_no_target_is_a_file(self) -> None:
-        """What the help tells is .PHONY: make's own list of its rules has them all."""
+        """The targets in the help are .PHONY: make's own list of its rules has them all."""
         rules = subprocess.run(["make", "-pRrnq", "help"], cwd=ROOT, capture_output=True, text=True).stdout
         phony = re.findall(r"(?m)^\.PHONY:(.*)$", rules)
         self.assertEqual(sorted(" ".join(phony).split()), sorted(targets()))

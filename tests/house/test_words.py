@@ -1,4 +1,4 @@
-"""Tests of what the pages are held to: a page that is true passes, and each wrong thing that it may say is found."""
+"""Test the checks of pages: a correct page passes, and every kind of wrong statement on it is found."""
 
 import tempfile
 import unittest
@@ -36,6 +36,10 @@ pub fn find(at: u64, n: u32) -> Run
 """
 
 
+def test_the_pages_have_no_fault() -> None:
+    assert words.faults(ROOT) == []
+
+
 class Pages(unittest.TestCase):
     def setUp(self) -> None:
         folder = tempfile.TemporaryDirectory()
@@ -47,7 +51,7 @@ class Pages(unittest.TestCase):
         self.repo = Repository(self.root)
 
     def faults(self, old: str = "", new: str = "") -> list[str]:
-        """What is found on the page with a text in the place of another."""
+        """Return the faults found on the page after a text is replaced."""
         self.assertIn(old, PAGE)
         page = self.root / "crates/rs_a/README.md"
         return [what for look in words.LOOKS for _, what in look(self.repo, page, PAGE.replace(old, new, 1))]

@@ -1,22 +1,21 @@
-"""Whether the pages say what is there. A line for each place where one does not; the status is 1 where there is any.
+"""Find faults of the pages: words, paths, commands and clauses that do not exist.
 
-  - A clause or signature in a block of Rust stands so in the code of the page's crate (for docs/: of any), within the
-    function quoted before it. White space and comments do not count. `..` marks what is cut, with the brackets that it
+  - A clause or signature in a block of Rust occurs in the code of the page's crate (for docs/: of any), within the
+    function quoted before it. White space and comments do not count. `..` marks a cut, including the brackets that it
     leaves open; so does `(.. words ..)`.
   - A word in backticks is a word of the sources: code, definitions and proofs without their comments, Python, Makefile,
     operations/install/, names of files, crates.txt, packages.txt, statement/kit_words.txt (the kit's),
-    tests/house/words.txt (the world's). Of a text of letters, digits and `_ : . < > ( )` alone, each name counts, but
-    for digests and what begins with a digit; of any other text, each name with `_` or a capital within, but for paths
-    and options. A word in capitals alone is a placeholder. A word at the front of a line of a crate's "Its words" is
-    defined in that crate, or the line names another crate.
-  - A path exists: what begins with a folder of ours, or ends as our files do. `NAME` and `*` stand for anything, and
-    what is below out/ is passed over. So does the target of a link, that of a `make`, the module of a `python3 -m`, and
-    a flag beside a command of ours.
-  - No word stands there that readers stumble at (strange.txt).
+    tests/house/words.txt (the world's). In a text of letters, digits and `_ : . < > ( )` alone, every name is checked,
+    except digests and words that begin with a digit; in any other text, every name with `_` or a capital within, except
+    paths and options. A word in capitals alone is a placeholder. A word at the front of a line of a crate's "Its words"
+    is defined in that crate, or the line names another crate.
+  - A path exists; a word is a path if it begins with a folder of ours, or ends as our files do. `NAME` and `*` match
+    anything, and paths below out/ are not checked. The target of a link, the target of a `make`, the module of a
+    `python3 -m`, and a flag of a command of ours exist too.
+  - No word is strange to readers (strange.txt).
 """
 
 import re
-import sys
 from collections.abc import Callable, Iterator
 from pathlib import Path
 
@@ -25,7 +24,7 @@ from tests.house.repository import COMMENT, FENCE, FLAG, SPAN, WORD, Repository,
 PAGES = ["README.md", "CONTRIBUTING.md", "SECURITY.md", "docs/**/*.md", "crates/*/README.md", "tests/**/README.md",
          "operations/**/*.md", "examples/README.md", "rust/README.md"]
 STRANGE = Path(__file__).with_name("strange.txt")
-# What is found on a page: where, and what is wrong.
+# Faults of a page: their places and descriptions.
 Found = Iterator[tuple[int, str]]
 CLAUSE, CUT = r"^ *(?:pub |fn |requires\b|ensures\b)", r"(?:(?!\b(?:ensures|requires|fn)\b)[\s\S])*?"
 FILE = re.compile(r"(?<![\w/.:~%-])(?:(?:crates|docs|tests|gate|rattle|rust|statement|bench|debian|examples|operations"
@@ -39,12 +38,12 @@ SUBCOMMAND = re.compile(r"\bropepeach ([a-z]+)")
 
 
 def crate_of(page: Path) -> list[str]:
-    """The crate of a page, if it is one's."""
+    """Return the crate of a page in a list, which is empty for a page of no crate."""
     return [page.parent.name] if page.parent.parent.name == "crates" else []
 
 
 def pattern(quoted: str) -> re.Pattern[str]:
-    """What finds a quoted piece of code, whatever its spaces, line breaks and cuts."""
+    """Return a pattern for a quoted piece of code that ignores spaces and line breaks and matches any text at cuts."""
     tokens = re.findall(r"\.\.|\w+|[^\w\s]", re.sub(r"\(\.\. [^()]* \.\.\)", "..", quoted).rstrip("; \n"))
     marks = {"..": CUT, ")": r",?\s*\)", "}": r"[)\s]*\}"}
     return re.compile(r"\s*".join(marks.get(token) or (rf"\b{token}\b" if token[0].isalnum() else re.escape(token))
@@ -52,13 +51,13 @@ def pattern(quoted: str) -> re.Pattern[str]:
 
 
 def clauses(repo: Repository, page: Path, text: str) -> Found:
-    """Quoted clauses that no source has."""
+    """Yield quoted clauses that no source has."""
     for block in (block for block in FENCE.finditer(text) if block[1] == "rust"):
         scope = texts = repo.texts(*crate_of(page))
         for part in re.finditer(rf"(?ms){CLAUSE}.*?(?={CLAUSE}|\Z)", blanked(COMMENT, block[2])):
             wanted = pattern(part[0])
             is_head = part[0].split()[0] in ("pub", "fn")
-            # What stands behind each place where it is found, up to the next function.
+            # The texts after the places where it is found, up to the next function.
             found = [re.split(r"\bfn\b", text[place.end() :], maxsplit=1)[0] for text in (texts if is_head else scope)
                      for place in wanted.finditer(text)]
             scope = (found or texts) if is_head else scope
@@ -67,7 +66,7 @@ def clauses(repo: Repository, page: Path, text: str) -> Found:
 
 
 def words(repo: Repository, page: Path, text: str) -> Found:
-    """Words in backticks that no source has."""
+    """Yield words in backticks that no source has."""
     for span in SPAN.finditer(prose(text)):
         is_name = re.fullmatch(r"(?![0-9a-f]{16})[A-Za-z_][\w:.<>()]*", span[1])
         for word in WORD.findall(re.sub(r"\S*[*/]\S*|(?<!\S)-\w+", "", span[1])):
@@ -76,7 +75,7 @@ def words(repo: Repository, page: Path, text: str) -> Found:
 
 
 def own_words(repo: Repository, page: Path, text: str) -> Found:
-    """Words of a crate's \"Its words\" that it does not define."""
+    """Yield words of a crate's \"Its words\" that it does not define."""
     part = re.search(r"(?ms)^## Its words\n(.*?)(?=^## |\Z)", text)
     code = "\n".join(repo.texts(*crate_of(page)))
     for line in re.finditer(r"(?m)^- ((?:`[^`]+`(?:, )?)+).*(?:\n  .*)*", part[1] if part else ""):
@@ -90,7 +89,7 @@ def own_words(repo: Repository, page: Path, text: str) -> Found:
 
 
 def paths(repo: Repository, page: Path, text: str) -> Found:
-    """Paths and links that lead to nothing."""
+    """Yield paths and links that lead to nothing."""
     for match in FILE.finditer(text):
         path, near = match[0].rstrip("./"), re.findall(r"\brs_\w+", text[max(0, match.start() - 30) : match.start()])
         ends = [f"{crate}/{path}" for crate in crate_of(page) + near
@@ -103,12 +102,12 @@ def paths(repo: Repository, page: Path, text: str) -> Found:
 
 
 def is_ours(repo: Repository, code: str) -> bool:
-    """Whether a line runs a program of ours, so that its flags are ours too."""
+    """Return whether a line runs a program of ours, so that its flags are ours too."""
     return bool(OURS.search(code)) or not repo.subcommands.isdisjoint(SUBCOMMAND.findall(code))
 
 
 def commands(repo: Repository, page: Path, text: str) -> Found:
-    """Targets, modules and flags that are not there."""
+    """Yield targets, modules and flags that do not exist."""
     lines = [(block.start(2) + line.start(), line[0]) for block in FENCE.finditer(text)
              for line in re.finditer(r".+", block[2])]
     for at, code in lines + [(span.start(), span[1]) for span in SPAN.finditer(prose(text))]:
@@ -124,7 +123,7 @@ def commands(repo: Repository, page: Path, text: str) -> Found:
 
 
 def strange(repo: Repository, page: Path, text: str) -> Found:
-    """Words that a reader stumbles at."""
+    """Yield words that are strange to readers."""
     for line in STRANGE.read_text().splitlines():
         phrase, _, plain = line.partition(" | ")
         wanted = rf"(?i)\b{phrase}\b".replace(" ", r"\s+")
@@ -135,15 +134,8 @@ def strange(repo: Repository, page: Path, text: str) -> Found:
 LOOKS: tuple[Callable[[Repository, Path, str], Found], ...] = clauses, words, own_words, paths, commands, strange
 
 
-def main(root: Path) -> int:
-    """Looks at all pages of a repository, and gives the status."""
+def faults(root: Path) -> list[str]:
+    """Return a line for each wrong place on the pages of a repository."""
     repo, texts = Repository(root), {path: path.read_text() for kind in PAGES for path in sorted(root.glob(kind))}
-    found = [(page, at, what) for page, text in texts.items() for look in LOOKS for at, what in look(repo, page, text)]
-    for page, at, what in found:
-        print(f"{page.relative_to(root)}:{texts[page].count(chr(10), 0, at) + 1}: {what}")
-    print(f"{len(texts)} pages, {len(found)} places that say what is not there")
-    return 1 if found else 0
-
-
-if __name__ == "__main__":
-    sys.exit(main(Path(sys.argv[1] if sys.argv[1:] else Path(__file__).resolve().parents[2]).resolve()))
+    found = [(page, at, why) for page, text in texts.items() for look in LOOKS for at, why in look(repo, page, text)]
+    return [f"{page.relative_to(root)}:{texts[page].count(chr(10), 0, at) + 1}: {why}" for page, at, why in found]

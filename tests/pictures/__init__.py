@@ -1,1 +1,1 @@
-"""The pictures of docs/pictures, and what compares them with runs of the program."""
+"""The pictures of docs/pictures, and their comparison with runs of the program."""

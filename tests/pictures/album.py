@@ -1,8 +1,8 @@
-"""The pictures of a folder of pages: they are drawn again from runs of the built program, and compared byte for byte.
+"""Draw the pictures of a folder of pages from runs of the built program, and compare them byte for byte.
 
-Each picture has to be plain SVG: known elements alone, a title and a description, nothing from elsewhere, and no
-text that leaves it by an estimate of its width; and a page has to show it. Before that, recordings and folders that
-are wrong are drawn: each has to be refused or to give another picture, or the check is blind.
+A picture is plain SVG: known elements only, a title and a description, no references to other files, and no text wider
+than the picture by an estimate; and a page shows it. The check first draws wrong recordings and folders, which must be
+refused or give another picture.
 """
 
 import argparse
@@ -20,13 +20,13 @@ from tests.program import PROGRAM, Differs
 SVG = "{http://www.w3.org/2000/svg}"
 ELEMENTS = {"svg", "title", "desc", "rect", "line", "text", "path", "circle", "polyline", "polygon"}
 FAULTS = (Differs, OSError, ValueError, LookupError, StopIteration, subprocess.SubprocessError)
-# Draws a picture of runs of a program in a folder; with a function that makes something wrong, of what is wrong.
+# A function that draws a picture of a run of a program in a folder; its third argument introduces a mistake.
 Draw = Callable[..., Picture]
 Change = Callable[..., object]
 
 
 def compare(what: str, wanted: str, drawn: str) -> None:
-    """Tells the first line that differs."""
+    """Report the first line that differs."""
     if wanted == drawn:
         return
     olds, news = wanted.split("\n"), drawn.split("\n")
@@ -37,7 +37,7 @@ def compare(what: str, wanted: str, drawn: str) -> None:
 
 
 def look_at_form(name: str, picture: Picture) -> None:
-    """Whether a picture is plain, and no text leaves it."""
+    """Check that a picture is plain SVG, and that all its texts fit."""
     root = ElementTree.fromstring(picture.spelled())
     names = {element.tag.removeprefix(SVG) for element in root.iter()}
     if names - ELEMENTS:
@@ -53,7 +53,7 @@ def look_at_form(name: str, picture: Picture) -> None:
 
 
 def notices_a_wide_text() -> bool:
-    """Whether a text that leaves its picture is noticed."""
+    """Return whether the check notices a text that leaves its picture."""
     wide = Picture(100, 50, "a title", "a description")
     wide.text(60, 20, "too long for it")
     try:
@@ -65,34 +65,34 @@ def notices_a_wide_text() -> bool:
 
 @dataclass(frozen=True)
 class Album:
-    """The pictures of a folder of pages, in its folder pictures/."""
+    """The pictures of a folder of pages, kept in its subfolder pictures/."""
 
     name: str
     pages: Path
-    # How each is drawn.
+    # The functions that draw the pictures, by name.
     draws: dict[str, Draw]
-    # What is made wrong, and in which picture.
+    # The mistakes, and the pictures that must show them.
     wrong: list[tuple[str, Change]]
-    # How a drawing refuses.
+    # The exceptions by which a drawing refuses.
     faults: tuple[type[Exception], ...]
 
     def path(self, name: str) -> Path:
-        """Where a picture is kept."""
+        """Return the path of a picture."""
         return self.pages / "pictures" / name
 
     def drawn(self, program: str) -> dict[str, Picture]:
-        """Each picture by its name, of runs in a folder of their own."""
+        """Draw all pictures from runs in a temporary folder; return them by name."""
         with tempfile.TemporaryDirectory(prefix="pictures-") as room:
             return {name: draw(program, room) for name, draw in self.draws.items()}
 
     def is_shown(self, name: str) -> bool:
-        """Whether a page shows a picture, with words for who does not see it."""
+        """Return whether a page shows a picture with alternative text."""
         place = f"](pictures/{name})"
         texts = [page.read_text() for page in self.pages.glob("*.md")]
         return any(place in text and f"![{place}" not in text for text in texts)
 
     def is_noticed(self, program: str, name: str, change: Change) -> bool:
-        """Whether something wrong is refused, or gives another picture than the one that is kept."""
+        """Return whether a mistake is refused, or gives another picture than the kept one."""
         with tempfile.TemporaryDirectory(prefix="pictures-") as room:
             try:
                 picture = self.draws[name](program, room, change)
@@ -101,7 +101,7 @@ class Album:
                 return True
 
     def look(self, program: str) -> list[str]:
-        """What is not as it has to be."""
+        """Return the faults of the pictures."""
         blind = [change.__name__ for name, change in self.wrong if not self.is_noticed(program, name, change)]
         blind += [] if notices_a_wide_text() else ["a text that leaves its picture"]
         failed = [f"{change} is not noticed, and this test is blind" for change in blind]
@@ -116,7 +116,7 @@ class Album:
         return failed
 
     def main(self) -> int:
-        """Looks at the pictures or, with --draw, draws them again where they are kept; the status."""
+        """Check the pictures, or overwrite them with --draw; return the exit status."""
         words = argparse.ArgumentParser(prog=self.name)
         words.add_argument("program", nargs="?", default=PROGRAM)
         words.add_argument("--draw", action="store_true")

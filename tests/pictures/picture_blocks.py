@@ -1,9 +1,7 @@
-"""The picture of the blocks of a disk through ten commands: what each command writes, what lies where then, and
-what is free.
+"""Draw the blocks of a disk through ten commands: the written, the used and the free blocks after every command.
 
-The built program does the commands on a real file, and its calls on the file are recorded (recorded_calls.py). What
-lies in a block is read off the file by disk_reader.py. A command that writes into a used block, or leaves a used
-block without what it had, is a fault here, and not a picture.
+The built program executes the commands on a real file, and recorded_calls.py records its calls. disk_reader.py reads
+the contents of the blocks. A command that overwrites a used block, or damages the contents of a used block, is a fault.
 """
 import collections
 
@@ -17,24 +15,22 @@ CLOCK = 951_782_400_000
 
 
 def put(name, size):
-    """The line of a put of this many bytes, and its label."""
+    """Return the line of a put of this many bytes, and its label."""
     body = (name.encode() * size).hex() or "-"
     return f"put {name} {body} text/plain", f"put {name}, {size:,} bytes"
 
 
-# Each line of the script, and how the picture tells it.
+# The lines of the script with their labels.
 LINES = [put("a", 600), put("b", 1500), ("publish", "publish"), put("c", 512), put("a", 100), ("delete b", "delete b")]
 LINES += [("publish", "publish"), put("d", 2000), put("a", 0), ("publish", "publish")]
-# What lies in some blocks in a row: its kind, the word that is drawn in it, and whether it is a published page beside
-# that.
+# A part of the disk in consecutive blocks: its kind, its word in the picture, and whether it is also a published page.
 Part = collections.namedtuple("Part", "kind word first blocks is_published", defaults=[False])
-# What a strip shows: its label, its parts, the blocks that were written, those that were used before it and
-# no more, and the block of the slot with the root.
+# A strip of the picture: its label, its parts, the written blocks, the freed blocks, and the slot with the root.
 Strip = collections.namedtuple("Strip", "label parts written freed root")
 
 
 def slots(disk):
-    """The two slots, each with its generation, or `-` where it is closed; `*` stands with the root."""
+    """Return the two slots with their generations, `-` if closed; `*` marks the root."""
     found, root = [], disk_reader.root(disk).directory
     for first in (0, 1):
         slot = disk[first * BLOCK : (first + 1) * BLOCK]
@@ -46,7 +42,7 @@ def slots(disk):
 
 
 def parts_of(disk):
-    """All that lies on a disk, in the order of its blocks."""
+    """Return all parts of a disk, in the order of their blocks."""
     source = disk_reader.source_of(disk)
     if why := disk_reader.fault(disk, source):
         raise Unrecorded(why)
@@ -61,12 +57,12 @@ def parts_of(disk):
 
 
 def blocks_of(parts):
-    """The blocks of some parts."""
+    """Return the blocks of some parts."""
     return {block for part in parts for block in range(part.first, part.first + part.blocks)}
 
 
 def commands_of(calls):
-    """The calls of each answered line."""
+    """Return the calls of every answered line."""
     found, begun = [], 0
     for end, call in enumerate(calls):
         if call.kind == ANSWER:
@@ -76,20 +72,20 @@ def commands_of(calls):
 
 
 def written_by(calls):
-    """The blocks that some calls write into."""
+    """Return the blocks that these calls write."""
     writes = [call for call in calls if call.kind == WRITE]
     return {block for call in writes for block in range(call.at // BLOCK, (call.at + len(call.data) - 1) // BLOCK + 1)}
 
 
 def strip_of(label, before, disk, calls):
-    """The strip of a disk that some calls left, where these parts lay before."""
+    """Return the strip of a disk after these calls; `before` has the parts before them."""
     parts = parts_of(disk)
     root = next(part.first for part in parts if part.word.endswith("*"))
     return Strip(label, parts, written_by(calls), blocks_of(before) - blocks_of(parts), root)
 
 
 def strips(program, room, changed):
-    """What each strip shows, of a run of the program."""
+    """Run the program, and return the strips."""
     recorder, state = Recorder(program, room), crash_model.State(BASE, LIMIT)
     formatting = recorder.format(BLOCKS * BLOCK, BASE, LIMIT)
     disk = replayed(b"", formatting)
@@ -106,12 +102,12 @@ def strips(program, room, changed):
     return found
 
 
-# Where things stand in the picture.
+# Positions in the picture.
 LEFT, TOP, CELL, TALL, STEP = 196, 96, 31, 28, 42
 
 
 def draw_part(picture, part, x, y):
-    """One part as a box with its word; a page of two lists has both colours and both words."""
+    """Draw a part as a box with its word; a page of two lists gets both colours and both words."""
     width, middle = part.blocks * CELL, x + part.blocks * CELL / 2
     picture.box(x, y, width, TALL, FILLS[part.kind], INK)
     if part.is_published:
@@ -125,13 +121,13 @@ def draw_part(picture, part, x, y):
 
 
 def draw_cross(picture, x, y):
-    """The mark of a block that was given back."""
+    """Draw the mark of a freed block."""
     picture.line(x + 9, y + 8, x + CELL - 9, y + TALL - 7)
     picture.line(x + 9, y + TALL - 7, x + CELL - 9, y + 8)
 
 
 def draw_strip(picture, strip, number, y):
-    """One strip, with its label on its left, and the number of free blocks on its right."""
+    """Draw a strip, its label on the left, and the number of free blocks on the right."""
     picture.text(30, y + 18, str(number), 12, "end", fill=SOFT)
     picture.text(40, y + 18, strip.label, 13)
     used = blocks_of(strip.parts)
@@ -147,7 +143,7 @@ def draw_strip(picture, strip, number, y):
     picture.text(LEFT + BLOCKS * CELL + 10, y + 18, f"{BLOCKS - len(used)} free", 12, fill=SOFT)
 
 
-# What the colours and the marks mean: a column and a row, what is drawn, and its words.
+# The legend: column, row, sample part, and meaning.
 LEGEND = [(0, 0, Part("slot", "3*", 0, 1), "a slot: generation, * root, - closed")]
 LEGEND += [(0, 1, Part("dir", "dir", 0, 1), "directory"), (0, 2, Part("body", "a", 0, 1), "a body, by its name")]
 LEGEND += [(1, 0, Part("rec", "rec", 0, 1), "page of records"), (1, 1, Part("chg", "chg", 0, 1), "page of changes")]
@@ -157,7 +153,7 @@ COLUMNS = (40, 320, 500, 690)
 
 
 def draw_legend(picture, y):
-    """What the colours and the words of the picture mean."""
+    """Draw the legend of colours and marks."""
     for column, row, part, meaning in LEGEND:
         x, below = COLUMNS[column], y + row * 34
         picture.box(x, below, CELL, TALL, FILLS["free"], EDGE)
@@ -171,12 +167,12 @@ def draw_legend(picture, y):
 
 
 def as_recorded(disk, calls):
-    """The calls as they were recorded."""
+    """Return the calls unchanged."""
     return calls
 
 
 def draw(program, room, changed=as_recorded):
-    """The picture, of the recorded calls or of what they are changed into, command by command."""
+    """Return the picture of the recorded calls, or of changed ones, command by command."""
     found = strips(program, room, changed)
     height = TOP + len(found) * STEP + 122
     commands = "; ".join(f"{strip.label}: writes blocks {', '.join(map(str, sorted(strip.written)))}"

@@ -1,10 +1,9 @@
-"""The picture of the ten calls of a put, and of what an image of a crash within each of them opens to.
+"""Draw the ten calls of a put, and the states that open from images of a crash within them.
 
-The calls are those that the built program makes of a real file for the second put of docs/CRASH.md
-(recorded_calls.py). For each call images of a crash within it are made: each unsettled block is as it was, as it is
-written, or filled with other bytes, by itself, and each combination is made; the gate is any byte where it alone is
-in question. Each image is read by disk_reader.py. One that tells neither the state before the put nor the one after
-it is a fault here, and not a picture.
+The calls are those that the built program makes on a real file for the second put of docs/CRASH.md (recorded_calls.py).
+An image gives every unsettled block its old bytes, its new bytes or filler, in all combinations; the gate has any byte
+if it alone is in question. disk_reader.py reads the images. An image with a state other than those before and after the
+put is a fault.
 """
 import collections
 import itertools
@@ -18,15 +17,15 @@ from tests.reading.disk_formats import BLOCK
 
 BASE, BLOCKS, LIMIT = "http://127.0.0.1:8080", 16, 2
 LINES = ["at 951782400000", "put a 68656c6c6f text/plain", "put b " + "77" * 600 + " text/plain"]
-# Bytes that nobody wrote, and a generation above each other one.
+# Bytes that no call wrote, and a generation above all others.
 FILLER, GREATEST = b"\xa5", b"\x01" + b"\xff" * 8
-# What a row shows: the label of the call, the blocks that it writes, the places that are in question, the
-# generations that are settled in the slots, and how many images tell the old state and the new one.
+# A row of the picture: the label of the call, the blocks that it writes, the places in question, the settled
+# generations of the slots, and the numbers of images with the old and the new state.
 Row = collections.namedtuple("Row", "label written places generations old new")
 
 
 def pieces(places):
-    """The places in question in runs that lie in one block each; the gate of a slot is a run of its own."""
+    """Return the places in question as runs within one block; the gate of a slot is its own run."""
     found = []
     for at in places:
         is_next = found and found[-1][-1] == at - 1 and at % BLOCK != 0 and found[-1][-1] not in (0, BLOCK)
@@ -38,7 +37,7 @@ def pieces(places):
 
 
 def choices(piece, settled, latest, is_alone):
-    """The bytes that a crash is taken to leave in a run of places."""
+    """Return the bytes that a crash may leave in a run of places."""
     first, count = piece[0], len(piece)
     if first in (0, BLOCK) and count == 1:
         few = {settled[first : first + 1], b"\0", b"\1", FILLER}
@@ -49,14 +48,14 @@ def choices(piece, settled, latest, is_alone):
 
 
 def images(moment):
-    """The images of a crash at a moment."""
+    """Yield the images of a crash at a moment."""
     runs, latest = pieces(crash_images.places(moment)), crash_images.kept(moment, None)
     for chosen in itertools.product(*(choices(piece, moment.settled, latest, len(runs) == 1) for piece in runs)):
         yield over(moment.settled, [(run[0], data) for run, data in zip(runs, chosen)])
 
 
 def state_in(image):
-    """The state that an image tells, as far as it is compared: what is held, with the bytes, and what has changed."""
+    """Return the compared part of an image's state: the resources with their bytes, and the changes."""
     source = disk_reader.source_of(image)
     if why := disk_reader.fault(image, source):
         raise disk_reader.Unread(why)
@@ -66,7 +65,7 @@ def state_in(image):
 
 
 def label_of(call, state):
-    """The label of a call. The parts are written in the order of docs/DISK.md."""
+    """Return the label of a call. The program writes the parts in the order of docs/DISK.md."""
     if call.kind == SYNC:
         return "sync"
     first, size = call.at // BLOCK, len(call.data)
@@ -80,7 +79,7 @@ def label_of(call, state):
 
 
 def row_of(moment, label, written, old, new):
-    """The images of a moment, each by what it tells."""
+    """Return the row of a moment, with the numbers of images in the old and the new state."""
     counts = collections.Counter()
     for image in images(moment):
         found = state_in(image)
@@ -92,7 +91,7 @@ def row_of(moment, label, written, old, new):
 
 
 def recorded(program, room, changed):
-    """The disk before the put, its calls, and the disk after it."""
+    """Return the disk before the put, its calls, and the disk after it."""
     recorder = Recorder(program, room)
     disk = replayed(b"", recorder.format(BLOCKS * BLOCK, BASE, LIMIT))
     answers, _, _ = crash_model.run(crash_model.State(BASE, LIMIT), LINES)
@@ -102,7 +101,7 @@ def recorded(program, room, changed):
 
 
 def rows(disk, calls, after):
-    """A row for the disk before the calls, one for each call, and one for the disk after them."""
+    """Return one row for the disk before the calls, one per call, and one for the disk after them."""
     old, new, parts = state_in(disk), state_in(after), parts_of(after)
     moments = list(crash_images.moments(disk, calls))
     first = crash_images.Moment(0, disk, [], 0)
@@ -121,12 +120,12 @@ COLOURED = [
     "Coloured: what the old root reaches, in the last row what the new one reaches: two slots, each with its gate",
     "and its generation (* root), the directory, the page of records, the page of changes, bodies.",
 ]
-# Where things stand in the picture.
+# Positions in the picture.
 LEFT, TOP, CELL, TALL, STEP, OLD, NEW, GATE = 250, 112, 25, 26, 38, 672, 786, 7
 
 
 def draw_block(picture, block, part, word, y):
-    """A block, and what the root in front reaches in it. Of a slot the gate has a box of its own."""
+    """Draw a block, and the part of the source in it. The gate of a slot has its own box."""
     x, gate = LEFT + block * CELL, GATE if block < 2 else 0
     picture.box(x, y, CELL, TALL, FILLS[part.kind if part else "free"], INK if part else EDGE)
     if gate:
@@ -136,7 +135,7 @@ def draw_block(picture, block, part, word, y):
 
 
 def draw_row(picture, row, number, parts, y):
-    """One row: the call, the blocks, and what images tell."""
+    """Draw one row: the call, the blocks, and the counts of images."""
     picture.text(30, y + 17, number, 12, "end", fill=SOFT)
     picture.text(40, y + 17, row.label, 12)
     of_block = {block: part for part in parts for block in blocks_of([part])}
@@ -159,7 +158,7 @@ def draw_row(picture, row, number, parts, y):
 
 
 def draw_counts(picture, row, y):
-    """How many images tell the old state, and how many the new one."""
+    """Draw the numbers of images with the old and the new state."""
     for x, count, fill in ((OLD, row.old, FILLS["rec"]), (NEW, row.new, FILLS["pub"])):
         picture.box(x, y, 100, TALL, fill if count else "none", INK if count else EDGE, rx=5)
         images_of = "1 image" if count == 1 else f"{count:,} images"
@@ -167,7 +166,7 @@ def draw_counts(picture, row, y):
 
 
 def draw(program, room, changed=list):
-    """The picture, of the recorded calls or of what they are changed into."""
+    """Return the picture of the recorded calls, or of changed ones."""
     disk, calls, after = recorded(program, room, changed)
     found, before, then = rows(disk, calls, after), parts_of(disk), parts_of(after)
     title, height = "What a crash within each call of a put leaves", TOP + len(found) * STEP + 58
@@ -188,7 +187,7 @@ def draw(program, room, changed=list):
 
 
 def description(found):
-    """The picture in words."""
+    """Return the description of the picture."""
     counts = [f"{row.label}: {row.old} images tell the old state, {row.new} the new one" for row in found[1:-1]]
     text = "; ".join(f"{number}, {count}" for number, count in enumerate(counts, 1))
     return ("A row of 16 blocks for each of the ten calls of the disk that a put makes, with the blocks that are in "

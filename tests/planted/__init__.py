@@ -1,1 +1,1 @@
-"""Bugs that are planted one at a time, each of which a check has to notice (tests/README.md)."""
+"""Bugs that are planted one at a time, and that tests must notice (test_planted.py). bugs/ has the tables."""

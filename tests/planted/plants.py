@@ -1,174 +1,161 @@
-"""A table of planted bugs: what each changes, which check has to notice it, and how all of them are tried."""
+"""Planted bugs: changes of a file that tests must notice. bugs/ has the tables."""
 from __future__ import annotations
 
-import argparse
+import ast
+import importlib
 import os
+import pkgutil
 import random
 import re
-import signal
-import subprocess
-import sys
-import time
-from dataclasses import dataclass, field
+import shlex
+from collections import Counter
+from collections.abc import Iterator
+from dataclasses import dataclass
+from enum import Enum
 from pathlib import Path
-from typing import Protocol
 
-from tests.skipped import SKIPPED, not_tried
+from tests.planted import bugs as tables
 
-# No check of a bug takes longer than this, in seconds.
-LONGEST = 900
-# The seed of a short form.
-SEED = 20261129
-# What each run of a check has for itself (operations/tests).
-OWN = ("ROPEPEACH_TESTS_STATE", "XDG_STATE_HOME")
-# What a broken text says, which shows nothing of a check.
-BROKEN = re.compile(r"\b(NameError|SyntaxError|IndentationError|ImportError|ModuleNotFoundError|UnboundLocalError)\b")
+# The numbers of bugs of the program and of other files that the gate draws; every bug of the program needs a build.
+OF_PROGRAM, OF_OTHERS = 2, 8
+# A setting of the environment before the command-line arguments of tests.
+SETTING = re.compile(r"[A-Z]+=\S+")
+# The words of a -k expression that are not names of tests.
+OPERATORS = {"and", "or", "not"}
 
 
 class Unfit(Exception):
-    """Why a bug of the table cannot be planted."""
+    """The bug cannot be planted."""
+
+
+class Runner(Enum):
+    """The program that runs the tests of a bug."""
+
+    PYTEST = "pytest"
+    # Tests of a library in Rust.
+    CARGO = "cargo"
 
 
 @dataclass(frozen=True)
 class Bug:
-    """A wrong body: what is wrong, in which file which text becomes which other one, and the words of the check
-    behind `python3 -m` that has to notice it.
+    """A bug: its description, its file, the text that it replaces and the new text, and the tests that must notice it.
+
+    bugs/__init__.py has the forms of `tests`. Only --long tries a bug whose tests take minutes (`is_long`).
     """
 
     what: str
     file: str
     old: str
     new: str
-    check: str
+    tests: str
+    is_long: bool = False
+
+    @property
+    def slug(self) -> str:
+        """Return the description as the id of a test."""
+        return re.sub(r"[^a-z0-9]+", "-", self.what.lower()).strip("-")
+
+    @property
+    def is_of_program(self) -> bool:
+        """Return whether the bug is in the program."""
+        return self.file.startswith("crates/")
+
+    @property
+    def text(self) -> str:
+        """Return the text that PLANTED=TEXT searches for TEXT."""
+        return f"{self.what} {self.file} {self.tests}"
 
     def planted(self, text: str) -> str:
-        """The text of its file with the bug."""
+        """Return the text of the file with the bug. Raise Unfit unless the old text occurs once."""
         count = text.count(self.old)
         if count != 1:
-            raise Unfit(f"{self.file}: the old text stands there {count} times, and not once: {self.old!r}")
+            raise Unfit(f"{self.file}: the old text occurs {count} times instead of once: {self.old!r}")
         return text.replace(self.old, self.new)
 
 
-@dataclass(frozen=True)
-class Outcome:
-    """How a check ended, and the end of what it printed."""
-
-    status: int
-    output: str
-
-    def last_line(self) -> str:
-        """Its last line."""
-        return (self.output.strip().splitlines() or ["without a word"])[-1][:160]
+def runner_of(tests: str) -> Runner:
+    """Return the program that runs these tests."""
+    first = next(word for word in shlex.split(tests) if not SETTING.fullmatch(word))
+    return Runner.CARGO if first == "cargo" else Runner.PYTEST
 
 
-def run_check(check: str, folder: Path, program: str) -> Outcome:
-    """Runs a check in a folder on a program. One that does not end is stopped with all that it began."""
-    words = [sys.executable, "-m", *check.split()]
-    # (a text that changes within a second may be as long as before, so no compiled one may be kept)
-    settings = {name: value for name, value in os.environ.items() if name not in OWN}
-    settings |= {"PROGRAM": program, "PYTHONDONTWRITEBYTECODE": "1"}
-    with subprocess.Popen(words, cwd=folder, env=settings, stdout=subprocess.PIPE, stderr=subprocess.STDOUT, text=True,
-                          errors="replace", start_new_session=True) as process:
-        try:
-            output, _ = process.communicate(timeout=LONGEST)
-        except subprocess.TimeoutExpired:
-            os.killpg(process.pid, signal.SIGKILL)
-            output, _ = process.communicate()
-            return Outcome(SKIPPED, f"{output}\nnot done within {LONGEST} seconds")
-    return Outcome(process.returncode, output)
+def words_of(tests: str) -> list[str]:
+    """Return the command-line arguments for these tests, without settings and the name of the runner."""
+    words = [word for word in shlex.split(tests) if not SETTING.fullmatch(word)]
+    return words[1:] if words[0] in ("pytest", "cargo") else words
 
 
-class Ground(Protocol):
-    """Where bugs are planted."""
-
-    def plant(self, bug: Bug) -> None:
-        """Plants a bug."""
-
-    def put_right(self) -> None:
-        """Takes it away."""
-
-    def run(self, check: str) -> Outcome:
-        """Runs a check there, as it is."""
+def settings_of(tests: str) -> dict[str, str]:
+    """Return the settings of the environment for these tests, as `SEED=74`."""
+    return dict(word.split("=", 1) for word in shlex.split(tests) if SETTING.fullmatch(word))
 
 
-@dataclass
-class Trials:
-    """All that was tried: how many bugs, and what is wrong."""
-
-    ground: Ground
-    wrong: list[str] = field(default_factory=list)
-    skipped: list[str] = field(default_factory=list)
-    noticed: int = 0
-    well: dict[str, Outcome] = field(default_factory=dict)
-
-    def try_bug(self, bug: Bug) -> None:
-        """Plants a bug, and runs its check, which has to pass without the bug and to fail with it."""
-        started = time.monotonic()
-        if bug.check not in self.well:
-            self.well[bug.check] = self.ground.run(bug.check)
-        well = self.well[bug.check]
-        if well.status:
-            self.tell(bug, f"without the bug {bug.check} ends with status {well.status}: {well.last_line()}",
-                      is_tried=well.status != SKIPPED)
-            return
-        try:
-            self.ground.plant(bug)
-            outcome = self.ground.run(bug.check)
-        except Unfit as why:
-            self.tell(bug, str(why))
-            return
-        finally:
-            self.ground.put_right()
-        broken = BROKEN.search(outcome.output)
-        if outcome.status in (0, SKIPPED) or broken:
-            self.tell(bug, f"NOT NOTICED by {bug.check}: {broken[0] if broken else outcome.last_line()}")
-            return
-        self.noticed += 1
-        print(f"{bug.what}: noticed in {time.monotonic() - started:.0f} s by {bug.check}", flush=True)
-
-    def tell(self, bug: Bug, why: str, is_tried: bool = True) -> None:
-        """Notes what is wrong, or not tried."""
-        if is_tried:
-            self.wrong.append(bug.what)
-            print(f"{bug.what}: {why}", flush=True)
-        else:
-            self.skipped.append(bug.what)
-            not_tried(bug.what, why)
-
-    def status(self, name: str, count: int) -> int:
-        """Prints the last line, and gives the exit status."""
-        print(f"{name}: {self.noticed} of {count} planted bugs are noticed, {len(self.wrong)} are wrong, "
-              f"{len(self.skipped)} are not tried")
-        return 1 if self.wrong else SKIPPED if self.skipped else 0
+def all_bugs() -> list[Bug]:
+    """Return the bugs of all lists in the modules of bugs/."""
+    found: dict[int, Bug] = {}
+    for module in pkgutil.iter_modules(tables.__path__):
+        for value in vars(importlib.import_module(f"{tables.__name__}.{module.name}")).values():
+            if isinstance(value, list):
+                found |= {id(bug): bug for bug in value if isinstance(bug, Bug)}
+    return list(found.values())
 
 
-def arguments(name: str, short: int) -> argparse.Namespace:
-    """The command line of a check that plants bugs."""
-    words = argparse.ArgumentParser(usage=f"python3 -m {name} [--short] [--seed N] [--only TEXT] [--folder FOLDER]")
-    words.add_argument("--short", action="store_true", help=f"{short} bugs that the seed draws")
-    words.add_argument("--seed", type=int, default=SEED)
-    words.add_argument("--only", action="append", metavar="TEXT", help="bugs whose line has one of these texts")
-    words.add_argument("--folder", type=Path, help="where what is built stays for the next run")
-    return words.parse_args()
+def drawn(bugs: list[Bug], seed: int) -> list[Bug]:
+    """Return the bugs that the gate plants: some of the program and some of other files, all with quick tests."""
+    draw, quick = random.Random(seed), [bug for bug in bugs if not bug.is_long and "--long" not in bug.tests.split()]
+    kinds = [(OF_PROGRAM, [bug for bug in quick if bug.is_of_program]),
+             (OF_OTHERS, [bug for bug in quick if not bug.is_of_program])]
+    return [bug for most, kind in kinds for bug in draw.sample(kind, min(most, len(kind)))]
 
 
-def drawn(bugs: list[Bug], options: argparse.Namespace, short: int, long: tuple[str, ...] = ()) -> list[Bug]:
-    """The bugs that the command line asks for: those whose words have a text, or some at random with short checks."""
-    chosen = [bug for bug in bugs if any(text in f"{bug.what} {bug.file} {bug.check}" for text in options.only or [""])]
-    if not options.short:
-        return chosen
-    print(f"planted: seed {options.seed}")
-    chosen = [bug for bug in chosen if bug.check not in long]
-    return sorted(random.Random(options.seed).sample(chosen, min(short, len(chosen))), key=chosen.index)
-
-
-def check_texts(bugs: list[Bug], root: Path) -> list[str]:
-    """What is wrong with a table: old texts that are not there once, names that stand twice."""
-    wrong = [f"{bug.what} stands in the table twice" for bug in bugs
-             if [other.what for other in bugs].count(bug.what) > 1]
+def wrong_rows(bugs: list[Bug], root: Path) -> list[str]:
+    """Return the faults of the tables: duplicate ids, old texts that do not occur exactly once, missing tests."""
+    wrong = [f"{slug} is the id of {count} bugs" for slug, count in Counter(bug.slug for bug in bugs).items()
+             if count > 1]
     for bug in bugs:
         try:
-            bug.planted((root / bug.file).read_text())
-        except (Unfit, OSError) as why:
+            text = bug.planted((root / bug.file).read_text())
+            if bug.file.endswith(".py"):
+                ast.parse(text)
+        except (Unfit, OSError, SyntaxError) as why:
             wrong.append(f"{bug.what}: {why}")
+        wrong += [f"{bug.what}: {why}" for why in missing_tests(bug.tests, root)]
     return wrong
+
+
+def missing_tests(tests: str, root: Path) -> Iterator[str]:
+    """Yield a line for every missing file or test among these arguments."""
+    words = words_of(tests)
+    match runner_of(tests):
+        case Runner.CARGO:
+            if not (root / "crates" / words[0]).is_dir():
+                yield f"there is no crate {words[0]}"
+        case Runner.PYTEST:
+            yield from missing_nodes(words, root)
+
+
+def missing_nodes(words: list[str], root: Path) -> Iterator[str]:
+    """Yield a line for every node id of pytest and every word of -k that matches no test."""
+    chosen = [words[at + 1] for at, word in enumerate(words[:-1]) if word == "-k"]
+    names = {name for word in words if "/" in word for name in names_below(root / word.partition("::")[0])}
+    if not any("/" in word for word in words):
+        yield f"these words name no test: {' '.join(words)}"
+    for word in words:
+        path, *parts = word.split("::")
+        if "/" in path and not (root / path).exists():
+            yield f"there is no {path}"
+        elif "/" in path:
+            found = names_below(root / path)
+            yield from (f"{path} has no {part}" for part in parts
+                        if part.partition("[")[0] not in found | {"runTest"})
+    for word in re.findall(r"\w+", " ".join(chosen)):
+        if word not in OPERATORS and not any(word in name for name in names):
+            yield f"no test has {word} in its name"
+
+
+def names_below(path: Path) -> set[str]:
+    """Return the names of the test files at a path, and the names that they define."""
+    files = sorted(path.rglob("test_*.py")) if path.is_dir() else [path] * path.exists()
+    defined = re.compile(r"(?m)^\s*(?:(?:async )?def|class) (\w+)|^(\w+)(?::.*)? = ")
+    found = {name for file in files for pair in defined.findall(file.read_text()) for name in pair if name}
+    return found | {file.stem for file in files}

@@ -1,59 +1,69 @@
-"""What a file has to hold after a cut at a place of the log, and whether the program answers so."""
-import collections
+"""The states that a file may have after a cut at a place of the log, and the check of the program's answers."""
 import contextlib
 import os
 import subprocess
+from pathlib import Path
+from typing import NamedTuple
 
 from tests.powercut.machine import SECONDS
 from tests.reading import crash_lists, crash_model
+from tests.reading.crash_model import State
 
-# Something that a program was asked to do: where in the log it was asked, where it was acknowledged (None if never),
-# and the state that it makes (None if nothing is promised then).
-Event = collections.namedtuple("Event", "begun acknowledged state")
-# What comes of an image, the best first. HELD: a prefix with all that was acknowledged. REPAIRED: the same, but the
-# system had refused the file system before its own repair (machine.REPAIRS). TOLD: the program refuses the file, or a
-# body of it. UNMOUNTED: the system refuses the file system. LOST: a prefix, or no file, and something acknowledged is
-# missing. WRONG: any other state.
+
+
+class Event(NamedTuple):
+    """A request to a program: the places of the log where it began and where it was acknowledged (None if never), and
+    the state after it (None if no state is promised).
+    """
+
+    begun: int
+    acknowledged: int | None
+    state: State | None
+
+
+# The outcomes of an image, the best first. HELD: a prefix with all acknowledged commands. REPAIRED: the same, after the
+# file system's own repair (machine.REPAIRS). TOLD: the program reports damage to the file or a body. UNMOUNTED: the
+# system does not mount the file system. LOST: no file, or an acknowledged command is missing. WRONG: other states.
 HELD, REPAIRED, TOLD, UNMOUNTED, LOST, WRONG = "held", "repaired", "told", "unmounted", "lost", "wrong"
 OUTCOMES = [HELD, REPAIRED, TOLD, UNMOUNTED, LOST, WRONG]
 
 
 class History:
-    """The history of one file, event by event."""
+    """The history of one file, as a list of events."""
 
-    def __init__(self):
+    def __init__(self) -> None:
         self.events = [Event(0, 0, None)]
-        self.served = {}
+        self.served: dict[int, dict[str, bytes]] = {}
 
-    def state(self):
-        """The state after the last event."""
-        return self.events[-1].state
+    def state(self) -> State:
+        """Return the state after the last event."""
+        state = self.events[-1].state
+        assert state
+        return state
 
-    def add(self, begun, acknowledged, state):
-        """Adds an event: where it began, where it was acknowledged, and the state after it."""
+    def add(self, begun: int, acknowledged: int | None, state: State | None) -> None:
+        """Add an event."""
         self.events.append(Event(begun, acknowledged, state))
 
-    def allowed(self, place):
-        """The numbers of the events after which the file may stand if the power is cut there: the last acknowledged
-        one, and what had begun since.
-        """
+    def allowed(self, place: int) -> set[int]:
+        """Return the numbers of possible last events after a cut there: the last acknowledged and the begun ones."""
         last = max(number for number, event in enumerate(self.events)
                    if event.acknowledged is not None and event.acknowledged <= place)
         return {last} | {number for number, event in enumerate(self.events) if number > last and event.begun <= place}
 
-    def numbers_of(self, status):
-        """The numbers of the events whose states have these counts."""
+    def numbers_of(self, status: bytes) -> list[int]:
+        """Return the numbers of the events whose states have these counts."""
         return [number for number, event in enumerate(self.events) if event.state and event.state.status() == status]
 
-    def served_by(self, number):
-        """All that the state after an event serves, by its path."""
+    def served_by(self, number: int) -> dict[str, bytes]:
+        """Return the expected bodies and documents after an event, by path."""
         if number not in self.served:
             self.served[number] = crash_model.all_served(self.events[number].state)
         return self.served[number]
 
 
-def answers_of(output, paths):
-    """The answers to `verify` and to a `show` of each path, cut from an output."""
+def answers_of(output: bytes, paths: list[str]) -> dict[str, bytes]:
+    """Split an output into the answers to `verify` and to a `show` of every path."""
     lines, at = [], 0
     while output[at : at + 8] == b"damaged ":
         lines.append(output[at : output.index(b"\n", at) + 1])
@@ -68,9 +78,10 @@ def answers_of(output, paths):
     return found
 
 
-def compared(history, number, output, paths):
-    """What is wrong with the answers of a program on a file that has the counts of this event, with its outcome."""
+def compared(history: History, number: int, output: bytes, paths: list[str]) -> tuple[str, str]:
+    """Return the outcome and the first fault of a program's answers on a file with the counts of this event."""
     served, state = history.served_by(number), history.events[number].state
+    assert state
     try:
         found = answers_of(output, paths)
     except ValueError:
@@ -89,11 +100,12 @@ def compared(history, number, output, paths):
     return (WRONG, why) if why else (HELD, "")
 
 
-def ask(program, path, history, allowed):
-    """What a file answers: the outcome, the number of the event after which it stands, and why it is not held."""
+def ask(program: str, path: Path, history: History, allowed: set[int]) -> tuple[str, int | None, str]:
+    """Run the program on a file; return the outcome, the number of the event whose state it has, and the fault."""
     pipe = subprocess.PIPE
     with subprocess.Popen([program, "run", path], stdin=pipe, stdout=pipe, stderr=pipe, bufsize=0) as process:
-        numbers, paths = [], []
+        assert process.stdin and process.stdout
+        numbers, paths = list[int](), list[str]()
         try:
             with contextlib.suppress(BrokenPipeError):
                 process.stdin.write(b"status\n")
@@ -115,14 +127,14 @@ def ask(program, path, history, allowed):
     return outcome, number, why
 
 
-def outcome_of(program, path, history, allowed):
-    """The outcome of a file after one of these events, why it is not held, and the event after which it stands."""
+def outcome_of(program: str, path: Path, history: History, allowed: set[int]) -> tuple[str, str, int | None]:
+    """Return the outcome of a file after one of these events, the fault, and the event whose state it has."""
     is_free = any(history.events[number].state is None for number in allowed)
     if not os.path.exists(path):
         return (HELD, "", None) if is_free else (LOST, "there is no file", None)
     outcome, number, why = ask(program, path, history, allowed)
     if is_free and outcome == TOLD:
         return HELD, "", None
-    if outcome == HELD and number not in allowed:
+    if outcome == HELD and number is not None and number not in allowed:
         return (LOST if number < min(allowed) else WRONG), f"event {number} stands, of {sorted(allowed)}", number
     return outcome, why, number

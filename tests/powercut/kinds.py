@@ -1,15 +1,25 @@
-"""The file systems that are tried, and programs and settings under which acknowledged commands have to be seen lost."""
-import collections
+"""The tested file systems, and the programs and settings that must lose acknowledged commands."""
 import subprocess
+from typing import NamedTuple
 
-# How a file system is made and mounted, the bytes of its device, and how many of them a power cut tears at.
-Kind = collections.namedtuple("Kind", "system size make options sector")
-# No table is filled in later, so that the log has little that is not of the program. There is room for a second
-# superblock.
+
+class Kind(NamedTuple):
+    """A file system: its name, the size of its device in bytes, the command that makes it, its mount options, and the
+    sector size in bytes at which a power cut tears writes.
+    """
+
+    system: str
+    size: int
+    make: list[str]
+    options: str
+    sector: int
+
+
+# Fill all tables at once, so that the file system itself writes little. There is room for a second superblock.
 EXT4 = ["mkfs.ext4", "-q", "-b", "4096", "-N", "1024", "-J", "size=4", "-E", "lazy_itable_init=0,lazy_journal_init=0"]
 FAST = ["-O", "fast_commit"]
 XFS, BTRFS = ["mkfs.xfs", "-q"], ["mkfs.btrfs", "-q"]
-# Those that have to keep the promise. Each begins with the name of the program that makes it.
+# The file systems that must keep the promise.
 KINDS = {
     "ext4": Kind("ext4", 192 << 20, EXT4, "data=ordered", 512),
     "ext4-writeback": Kind("ext4", 192 << 20, EXT4, "data=writeback", 512),
@@ -20,17 +30,17 @@ KINDS = {
     "xfs-4096": Kind("xfs", 300 << 20, [*XFS, "-s", "size=4096"], "", 4096),
     "btrfs-4096": Kind("btrfs", 128 << 20, BTRFS, "", 4096),
 }
-# Settings of ext4 that are not the defaults.
+# Settings of ext4 other than the defaults.
 SETTINGS = {
     "ext4-fast-commit": Kind("ext4", 192 << 20, EXT4 + FAST, "", 512),
     "ext4-async-commit": Kind("ext4", 192 << 20, EXT4, "data=writeback,journal_async_commit", 512),
 }
-# Those whose flushes are not sent to the device.
+# Settings that send no flush to the device.
 WITHOUT_BARRIERS = {
     "ext4": Kind("ext4", 192 << 20, EXT4, "barrier=0", 512),
     "btrfs": Kind("btrfs", 128 << 20, BTRFS, "nobarrier", 512),
 }
-# A library whose `fsync` does nothing, and one whose `fsync` does nothing behind the write that opens a gate.
+# A library whose `fsync` does nothing, and one whose `fsync` does nothing after the write that opens a gate.
 NO_SYNC = "int fsync(int fd) { return 0; }\nint fdatasync(int fd) { return 0; }\n"
 NO_LAST_SYNC = r"""
 #define _GNU_SOURCE
@@ -48,10 +58,20 @@ int fsync(int fd) {
     return is_last ? 0 : syscall(SYS_fsync, fd);
 }
 """
-# What is wrong, for a reader; the file system, or the name of one without barriers; the library before the program's;
-# and how many writes the device keeps in its cache though it answers flushes.
-Control = collections.namedtuple("Control", "title kinds library cache")
-# (a cache that hides, and a system that sends no flush, are given the room of a small device)
+
+
+class Control(NamedTuple):
+    """A fault that loses commands: its description, the file systems that show it, a preloaded library, and the number
+    of writes that the device caches although it answers flushes.
+    """
+
+    title: str
+    kinds: dict[str, Kind]
+    library: str | None
+    cache: int | None
+
+
+# (a caching device and a system without flushes get a small device)
 CACHE = 64
 CONTROLS = {
     "no-sync": Control("a program whose fsync does nothing", KINDS, NO_SYNC, None),
@@ -61,8 +81,8 @@ CONTROLS = {
 }
 
 
-def made(kind, path):
-    """A file with a new file system of a kind."""
+def made(kind: Kind, path: str) -> str:
+    """Make a file with a new file system of a kind; return its path."""
     with open(path, "wb") as file:
         file.truncate(kind.size)
     subprocess.run([*kind.make, path], check=True, capture_output=True)

@@ -1,20 +1,21 @@
-"""What is done on a file system while its device is logged."""
+"""Programs' work on a file system while its device is logged."""
 import contextlib
 import os
+from pathlib import Path
 
 from tests.powercut.machine import EACH
-from tests.powercut.recordings import lines_at_random, requests_at_random
+from tests.powercut.recordings import Recording, lines_at_random, requests_at_random
 
 SIZE = 262_144
 
 
 class Life:
-    """Puts, groups, deletes, publications that drop history, `format`, a longer file, `copy`, and requests."""
+    """Run puts, groups, deletes, publications that drop history, `format`, a longer file, `copy`, and requests."""
 
-    def __init__(self, commands, is_served=True):
+    def __init__(self, commands: int, is_served: bool = True) -> None:
         self.commands, self.is_served = commands, is_served
 
-    def __call__(self, recording):
+    def __call__(self, recording: Recording) -> None:
         count = self.commands // 4
         recording.format("a.disk", SIZE)
         recording.run("a.disk", lines_at_random(recording.rng, count))
@@ -27,12 +28,12 @@ class Life:
 
 
 class Full:
-    """A full file system: puts that need room until one meets `Device`, an opening, then room, and puts again."""
+    """Fill the file system: put until a put answers `Device`, open the file, free space, and put again."""
 
-    def __init__(self, commands):
+    def __init__(self, commands: int) -> None:
         self.commands = commands
 
-    def __call__(self, recording):
+    def __call__(self, recording: Recording) -> None:
         recording.format("a.disk", 4 * SIZE)
         recording.run("a.disk", lines_at_random(recording.rng, self.commands // 2))
         filled = recording.path("filled")
@@ -44,8 +45,8 @@ class Full:
         recording.run("a.disk", lines_at_random(recording.rng, self.commands // 2))
 
 
-def fill(path):
-    """Takes all the room that there is."""
+def fill(path: Path) -> None:
+    """Write a file that takes all free space."""
     file = os.open(path, os.O_RDWR | os.O_CREAT, 0o600)
     for length in (1 << 24, 1 << 20, 4_096):
         with contextlib.suppress(OSError):
@@ -56,12 +57,12 @@ def fill(path):
 
 
 class Faulty:
-    """A call on the device fails amid the commands, or each from there on; then a stop, and an opening if it can be."""
+    """Let one call on the device fail during the commands, or all later ones; then stop, and try to open the file."""
 
-    def __init__(self, commands, which, often):
+    def __init__(self, commands: int, which: str, often: bool) -> None:
         self.commands, self.which, self.often = commands, which, often
 
-    def __call__(self, recording):
+    def __call__(self, recording: Recording) -> None:
         recording.format("a.disk", SIZE)
         recording.run("a.disk", lines_at_random(recording.rng, self.commands // 2))
         limit = 6 if self.which == "FAIL_READ" else self.commands

@@ -1,68 +1,68 @@
-"""A device whose writes are logged, and the file system on it: a FUSE file system of one file (device.c), and a loop
+"""A device whose writes are logged, and the file system on it: a FUSE file system with one file (device.c), and a loop
 device over that file.
 
-All of it ends with this process, however that ends: the mounts are in a name space of their own, the server of the file
-dies with its parent, and the loop device is one that the system detaches once nobody has it open. A call of the system
-that waits too long is ended by the end of the server, behind which each call on the device fails.
+All of it ends with this process: the mounts are in their own mount namespace, the FUSE server dies with its parent, and
+the system detaches the loop device when it is closed. If a system call takes too long, the server is killed, after
+which every call on the device fails.
 """
 import contextlib
 import ctypes
 import fcntl
 import os
-import pathlib
 import signal
 import struct
 import subprocess
 import threading
 import time
+from collections.abc import Iterable, Iterator
+from pathlib import Path
 
-SOURCE = pathlib.Path(__file__).with_name("device.c")
-# No mount, no run of the program and no other step takes longer than this.
+SOURCE = Path(__file__).with_name("device.c")
+# The longest mount, run of the program or other step, in seconds.
 SECONDS = 60
-# The calls of the system that Python has not: numbers of <linux/loop.h>, <linux/fs.h>, <linux/btrfs.h> and
-# <sys/prctl.h>.
+# System calls that Python lacks: numbers from <linux/loop.h>, <linux/fs.h>, <linux/btrfs.h> and <sys/prctl.h>.
 FREE_LOOP, CONFIGURE, DROP_CACHE, FORGET, DIES_WITH_PARENT = 0x4C82, 0x4C0A, 0x1261, 0x50009405, 1
 AUTOMATIC, DIRECT = 4, 16
-# What repairs a file system whose superblock is torn, from another superblock, and the statuses with which it has done
-# so. btrfs has no such repair: its other superblocks are older than the last fsync.
+# Commands that repair a torn superblock from another superblock, and their exit statuses after a repair. btrfs has
+# none: its other superblocks are older than the last fsync.
 REPAIRS = {"ext4": (["e2fsck", "-f", "-y"], (0, 1))}
-# The places of the numbers in the control file, as device.c has them.
+# The offsets of the numbers in the control file (device.c).
 FAIL_WRITE, FAIL_FLUSH, FAIL_READ, LOSE_WRITE, HOLD = range(5)
 EACH = 1 << 40
 LIBRARY = ctypes.CDLL(None, use_errno=True)
 
 
 class Unready(Exception):
-    """The device, or a file system on it, cannot be had."""
+    """The device or a file system on it is not available."""
 
 
 class Unmounted(Exception):
-    """The system does not mount the file system on the device."""
+    """The system refuses to mount the file system."""
 
 
-def dies_with_parent():
-    """A process that calls this is killed with its parent."""
+def dies_with_parent() -> None:
+    """Let the system kill this process when its parent ends."""
     LIBRARY.prctl(DIES_WITH_PARENT, signal.SIGKILL)
 
 
-def compiled(room):
-    """The server of the file, built from device.c."""
-    program = pathlib.Path(room, "device")
+def compiled(room: Path) -> Path:
+    """Build the FUSE server from device.c; return its path."""
+    program = Path(room, "device")
     flags = subprocess.run(["pkg-config", "--cflags", "--libs",
                             "fuse3"], capture_output=True, text=True, check=True).stdout.split()
     subprocess.run(["cc", "-O2", "-o", program, SOURCE, *flags, "-pthread"], check=True)
     return program
 
 
-def mount(source, folder, kind, options=""):
-    """Mounts a file system, or raises OSError."""
+def mount(source: str | Path, folder: Path, kind: str, options: str = "") -> None:
+    """Mount a file system, or raise OSError."""
     if LIBRARY.mount(os.fsencode(source), os.fsencode(folder), kind.encode(), 0, options.encode()):
         number = ctypes.get_errno()
         raise OSError(number, os.strerror(number))
 
 
-def unmount(folder):
-    """Unmounts, once nobody uses it any more."""
+def unmount(folder: Path) -> None:
+    """Unmount a file system once it is unused."""
     until = time.monotonic() + SECONDS
     while LIBRARY.umount2(os.fsencode(folder), 0):
         number = ctypes.get_errno()
@@ -72,27 +72,29 @@ def unmount(folder):
 
 
 class Device:
-    """A device of the bytes of a file, which is never changed, and the log of what is written to it."""
+    """A device over the bytes of a file, which never change, and the log of its writes."""
 
-    def __init__(self, program, room, bytes_, sector=512):
-        self.room, self.below, self.top = pathlib.Path(room), pathlib.Path(room, "below"), pathlib.Path(room, "top")
+    def __init__(self, program: Path, room: Path, bytes_: str, sector: int = 512) -> None:
+        self.room, self.below, self.top = Path(room), Path(room, "below"), Path(room, "top")
         self.log, self.control = self.room / "log", self.room / "control"
         for folder in (self.below, self.top):
             folder.mkdir(exist_ok=True)
         self.log.write_bytes(b"")
         self.control.write_bytes(bytes(64))
-        words = [program, self.below, bytes_, self.log, self.control]
+        words: list[str | Path] = [program, self.below, bytes_, self.log, self.control]
         self.server = subprocess.Popen(words, stdout=subprocess.PIPE, stderr=subprocess.DEVNULL,
                                        preexec_fn=dies_with_parent)
+        assert self.server.stdout
         if self.server.stdout.readline() != b"ready\n":
             raise Unready("the server of the file does not start")
-        self.until, self.is_open = None, True
+        self.until: float | None = None
+        self.is_open = True
         threading.Thread(target=self.watch, daemon=True).start()
         self.file = os.open(self.below / "device", os.O_RDWR)
         self.path, self.loop = attached(self.file, sector)
 
-    def watch(self):
-        """Ends the server where a step takes too long."""
+    def watch(self) -> None:
+        """Kill the server if a step takes too long."""
         while self.is_open:
             time.sleep(0.5)
             until = self.until
@@ -100,8 +102,8 @@ class Device:
                 self.server.kill()
 
     @contextlib.contextmanager
-    def patience(self):
-        """A step that ends, since the server ends where it takes too long."""
+    def patience(self) -> Iterator[None]:
+        """Limit the time of a step; kill the server afterwards."""
         self.until = time.monotonic() + SECONDS
         try:
             yield
@@ -112,8 +114,8 @@ class Device:
             raise Unready(f"a step took more than {SECONDS} seconds"
                           if is_late else f"the server of the file ended with {self.server.returncode}")
 
-    def close(self):
-        """Ends the device, and the server of its file."""
+    def close(self) -> None:
+        """End the device, and the server of its file."""
         self.is_open = False
         os.close(self.loop)
         os.close(self.file)
@@ -121,22 +123,23 @@ class Device:
         self.server.wait()
         LIBRARY.umount2(os.fsencode(self.below), 2)
 
-    def order(self, **numbers):
-        """Sets numbers of the control file."""
+    def order(self, **numbers: int) -> None:
+        """Write numbers into the control file."""
         with open(self.control, "r+b", buffering=0) as file:
             for name, number in numbers.items():
                 os.pwrite(file.fileno(), struct.pack("Q", number), 8 * globals()[name])
 
-    def remaining(self, name):
-        """What is left of a number that is counted down."""
-        return struct.unpack_from("Q", self.control.read_bytes(), 8 * globals()[name])[0]
+    def remaining(self, name: str) -> int:
+        """Return the present value of a counter in the control file."""
+        number: int = struct.unpack_from("Q", self.control.read_bytes(), 8 * globals()[name])[0]
+        return number
 
-    def place(self):
-        """How long the log is now."""
+    def place(self) -> int:
+        """Return the length of the log."""
         return os.stat(self.log).st_size
 
-    def begin(self, pieces):
-        """Drops all that was written, and then writes these pieces, which are the beginning of a new log."""
+    def begin(self, pieces: Iterable[tuple[int, bytes]]) -> None:
+        """Drop all writes, write these pieces to the file, and empty the log."""
         fcntl.ioctl(self.loop, DROP_CACHE, 0)
         (self.below / "reset").write_bytes(b"x")
         for at, data in pieces:
@@ -145,8 +148,8 @@ class Device:
         os.truncate(self.log, 0)
 
     @contextlib.contextmanager
-    def mounted(self, kind, options):
-        """The file system on the device, mounted."""
+    def mounted(self, kind: str, options: str) -> Iterator[Path]:
+        """Mount the file system on the device."""
         with self.patience():
             if kind == "btrfs":
                 forget()
@@ -162,8 +165,8 @@ class Device:
             with self.patience():
                 unmount(self.top)
 
-    def is_repaired(self, kind):
-        """Whether the repair of a kind of file system does something of what is on the device."""
+    def is_repaired(self, kind: str) -> bool:
+        """Run the repair of a file system; return whether it repaired something."""
         if kind not in REPAIRS:
             return False
         words, done = REPAIRS[kind]
@@ -174,8 +177,8 @@ class Device:
         return finished.returncode in done
 
 
-def attached(file, sector):
-    """A loop device over an open file, and it opened. The system detaches it once nobody has it open."""
+def attached(file: int, sector: int) -> tuple[str, int]:
+    """Attach a loop device, which the system detaches when it is closed; return its path and descriptor."""
     settings = struct.pack("II232s64x", file, sector, struct.pack("52xI", AUTOMATIC | DIRECT))
     for _ in range(100):
         with open("/dev/loop-control", "rb") as control:
@@ -190,7 +193,7 @@ def attached(file, sector):
     raise Unready("no loop device can be had")
 
 
-def forget():
-    """The system forgets what it knows of devices with btrfs that are not mounted."""
+def forget() -> None:
+    """Let the system forget unmounted btrfs devices."""
     with contextlib.suppress(OSError), open("/dev/btrfs-control", "rb") as control:
         fcntl.ioctl(control, FORGET, bytearray(4096))

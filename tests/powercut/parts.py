@@ -1,6 +1,8 @@
-"""The parts of this test: what is tried on which file system, and what has to come of it."""
+"""The parts of this test: commands on a file system, and the required outcomes of its images."""
 import collections
 import time
+from pathlib import Path
+from typing import Any, NamedTuple
 
 from tests.powercut import cut_images, kinds, lives, machine
 from tests.powercut.histories import HELD, LOST, REPAIRED, UNMOUNTED, WRONG
@@ -8,80 +10,98 @@ from tests.powercut.trials import LOST_WRITES, Trial, in_words
 from tests.program import Differs, interposed
 from tests.served_source import with_clock
 
-# What has to come of the images of a part: each is held; each is held or, a few, not mounted by the system; no state is
-# told that never was; some of them are lost; or nothing, and the figures alone are told.
+# The required outcomes of a part: all images are held; all are held or, for a few, not mounted; none has a state that
+# never was; some are lost; or no requirement, only printed figures.
 ALL_HELD, FEW_UNMOUNTED, NONE_WRONG, SOME_LOST, ANY = "all held", "few unmounted", "none wrong", "some lost", "any"
 KEPT = [ALL_HELD, FEW_UNMOUNTED]
-# The kinds whose superblock, of 4,096 bytes, is torn by a device of smaller sectors. The system mounts none of these.
+# File systems with a superblock of 4,096 bytes, which smaller sectors tear. The system mounts none of these.
 TORN = ["btrfs"]
-# How many of a hundred images of a control have to be lost, and how many may be a few.
+# The percentages of a control's images that must be lost, and that count as few.
 SEEN, FEW = 5, 5
-# A part: its title, the kind of file system, what is done, how many recordings, how many images of each, what has to
-# come of them, the choices of images, the library before the program's, the cache of the device, and whether all cuts
-# are right behind an acknowledgement.
-FIELDS = "title kind life recordings images wanted choices library cache is_behind"
-Part = collections.namedtuple("Part", FIELDS, defaults=[ALL_HELD, None, None, None, False])
-# What came of a part.
-Result = collections.namedtuple("Result", "title outcomes cuts commands refused fault messages")
-# How many commands a recording has, and a long one.
+
+
+class Part(NamedTuple):
+    """A part: its title, the file system, the commands, the numbers of recordings and of images per recording, the
+    required outcomes, the choices of images, a preloaded library, the cache of the device, and whether all cuts
+    directly follow an acknowledgement.
+    """
+
+    title: str
+    kind: kinds.Kind
+    life: Any
+    recordings: int
+    images: int
+    wanted: str = ALL_HELD
+    choices: Any = None
+    library: str | None = None
+    cache: int | None = None
+    is_behind: bool = False
+
+
+class Result(NamedTuple):
+    """The result of a part."""
+
+    title: str
+    outcomes: collections.Counter[str]
+    fault: str | None
+    messages: list[str]
+
+
+# The numbers of commands of a recording and of a long recording.
 COMMANDS, LONG = 48, 480
+OTHERS = ["a long recording", "full", "a write fails", "a write fails, and those after it", "a flush fails",
+          "a flush fails, and those after it", "a read fails", "a read fails, and those after it", "a write is lost",
+          "garbage in a sector"]
 
 
-def promised(name, count, each=500):
-    """The parts of a file system that has to keep the promise."""
+def promised(name: str, count: int, each: int = 500) -> Part:
+    """Return the part of a file system that must keep the promise."""
     recordings, wanted = -(-count // each), FEW_UNMOUNTED if name in TORN else ALL_HELD
-    return [Part(name, kinds.KINDS[name], lives.Life(COMMANDS), recordings, count // recordings, wanted)]
+    return Part(name, kinds.KINDS[name], lives.Life(COMMANDS), recordings, count // recordings, wanted)
 
 
-def others(name, count):
-    """A long recording, a full file system, faults, lost writes, and garbage where a write was under way."""
+def others(name: str, count: int) -> list[Part]:
+    """Return the parts of OTHERS."""
     kind, rounds, wanted = kinds.KINDS[name], max(count // 40, 1), FEW_UNMOUNTED if name in TORN else ALL_HELD
-    yield Part(f"{name}, a long recording", kind, lives.Life(LONG), 1, count, wanted)
-    yield Part(f"{name}, full", kind, lives.Full(COMMANDS), max(count // 100, 1), min(count, 100), wanted)
-    for which, words in [("FAIL_WRITE", "a write fails"), ("FAIL_FLUSH", "a flush fails"),
-                         ("FAIL_READ", "a read fails")]:
-        yield Part(f"{name}, {words}", kind, lives.Faulty(COMMANDS, which, False), rounds // 2 + 1, 20, wanted)
-        yield Part(f"{name}, {words}, and those after it", kind, lives.Faulty(COMMANDS, which, True), rounds // 2 + 1,
-                   20, wanted)
-    yield Part(f"{name}, a write is lost", kind, lives.Life(COMMANDS), max(count // 200, 1), min(count, 200),
-               NONE_WRONG, LOST_WRITES)
-    yield Part(f"{name}, garbage in a sector", kind, lives.Life(COMMANDS), max(count // 200, 1), min(count, 200), ANY,
-               [cut_images.with_garbage])
+    found = [Part(OTHERS[0], kind, lives.Life(LONG), 1, count, wanted),
+             Part(OTHERS[1], kind, lives.Full(COMMANDS), max(count // 100, 1), min(count, 100), wanted)]
+    for which in ("FAIL_WRITE", "FAIL_FLUSH", "FAIL_READ"):
+        found += [Part(OTHERS[len(found) + often], kind, lives.Faulty(COMMANDS, which, bool(often)), rounds // 2 + 1,
+                       20, wanted) for often in (0, 1)]
+    found += [Part(OTHERS[8], kind, lives.Life(COMMANDS), max(count // 200, 1), min(count, 200), NONE_WRONG,
+                   LOST_WRITES),
+              Part(OTHERS[9], kind, lives.Life(COMMANDS), max(count // 200, 1), min(count, 200), ANY,
+                   [cut_images.with_garbage])]
+    return [part._replace(title=f"{name}, {part.title}") for part in found]
 
 
-def settings(count):
-    """Settings that are not the defaults, of which the figures are told."""
-    for name, kind in kinds.SETTINGS.items():
-        yield Part(name, kind, lives.Life(COMMANDS), max(count // 500, 1), min(count, 500), ANY)
+def setting(name: str, count: int) -> Part:
+    """Return the part of a setting other than the default; its figures are only printed."""
+    return Part(name, kinds.SETTINGS[name], lives.Life(COMMANDS), max(count // 500, 1), min(count, 500), ANY)
 
 
-def controls(system, count):
-    """What this test has to see."""
-    for definition in kinds.CONTROLS.values():
-        if system in definition.kinds:
-            yield control(definition, system, count)
-
-
-def control(definition, system, count, is_behind=False):
-    """One of these."""
+def control(definition: kinds.Control, system: str, count: int, is_behind: bool = False) -> Part:
+    """Return a part whose images lose commands; the test must notice the loss."""
     return Part(f"{system}, {definition.title}", definition.kinds[system], lives.Life(COMMANDS), 1, count, SOME_LOST,
                 None, definition.library, definition.cache, is_behind)
 
 
 class Runner:
-    """Runs parts with a seed, and counts. Where `until` is a time, no image is begun behind it."""
+    """Runs parts with a seed; makes no image after the time `until`."""
 
-    def __init__(self, room, server, program, seed):
-        self.room, self.server, self.program, self.seed, self.until = room, server, program, seed, None
-        self.clock, self.results = with_clock(room), []
+    def __init__(self, room: Path, server: Path, program: str, seed: int) -> None:
+        self.room, self.server, self.program, self.seed = room, server, program, seed
+        self.until: float | None = None
+        self.clock = with_clock(room)
 
-    def is_over(self):
-        """Whether the time is over."""
+    def is_over(self) -> bool:
+        """Return whether the time limit has passed."""
         return self.until is not None and time.monotonic() > self.until
 
-    def run(self, part):
-        """All recordings of a part, and what is wrong with what came of them."""
-        outcomes, cuts, commands, refused, messages, fault = collections.Counter(), 0, 0, 0, [], None
+    def run(self, part: Part) -> Result:
+        """Make all recordings of a part, and return the result."""
+        outcomes, cuts, commands, refused = collections.Counter[str](), 0, 0, 0
+        messages, fault = list[str](), None
         library = "control" + part.title.replace(" ", "-")
         environment = interposed(self.room, library, part.library) if part.library else None
         for number in range(part.recordings):
@@ -104,24 +124,14 @@ class Runner:
             outcomes += trial.outcomes
             refused += len(trial.recording.refused)
             cuts, commands, messages = cuts + trial.cuts, commands + trial.recording.commands, messages + trial.messages
-        self.results.append(Result(part.title, outcomes, cuts, commands, refused,
-                                   fault or unwanted(part.wanted, outcomes), messages))
-        self.tell(self.results[-1], part.wanted)
-
-    def tell(self, result, wanted):
-        """Prints what came of a part."""
-        count = sum(result.outcomes.values())
-        commands = f"{result.commands} commands" + (f", {result.refused} faults" if result.refused else "")
-        print(f"{result.title}: {commands}, {result.cuts} cuts, {count} images: {in_words(result.outcomes)}",
-              flush=True)
-        if result.fault:
-            print(f"{result.title}: {result.fault}")
-        if result.fault or wanted in (ANY, NONE_WRONG):
-            print("".join(f"  {line}\n" for line in result.messages[:5]), end="", flush=True)
+        faults = f", {refused} faults" if refused else ""
+        print(f"{part.title}: {commands} commands{faults}, {cuts} cuts, {sum(outcomes.values())} images: "
+              f"{in_words(outcomes)}")
+        return Result(part.title, outcomes, fault or unwanted(part.wanted, outcomes), messages)
 
 
-def unwanted(wanted, outcomes):
-    """What is wrong with what came of images."""
+def unwanted(wanted: str, outcomes: collections.Counter[str]) -> str | None:
+    """Return the fault of the outcomes of images, or None."""
     count = sum(outcomes.values())
     if wanted == ALL_HELD and outcomes[HELD] + outcomes[REPAIRED] != count:
         return f"{count - outcomes[HELD] - outcomes[REPAIRED]} images are not held"

@@ -1,69 +1,75 @@
-"""What a program does on a logged device, and where in the log each thing was asked for and acknowledged."""
+"""The commands of a program on a logged device, and the places of the log where they began and were acknowledged."""
 import contextlib
 import http.client
 import os
+import random
 import subprocess
+from pathlib import Path
 
 from tests.powercut.histories import History
-from tests.powercut.machine import SECONDS
+from tests.powercut.machine import SECONDS, Device
 from tests.program import Differs
 from tests.reading.crash_model import State
 
+# A method, a path, a body, a type, and the equivalent line of a script.
+Request = tuple[str, str, bytes | None, str | None, str]
 BASE = "http://127.0.0.1:8080"
 FIRST = 951_782_400_000
 TYPES = ["text/plain", 'text/html; charset="utf-8"', "application/octet-stream"]
 LENGTHS = [0, 1, 3, 40, 511, 512, 513, 1_500, 4_096, 5_000, 12_000]
-# How a program answers that goes on no more; the last one is none, as it has ended.
+# Answers of a program that does not continue; the last is empty, because the program has ended.
 FAULTS = ("refused Device", "refused Closed", "")
 
 
 class Recording:
-    """A program at work on the mounted file system of a device.
+    """A program that works on the mounted file system of a device.
 
-    `environment` is that of the program, and `clock` that of a server. `histories` has the history of each file by its
-    name, `commands` counts what was done, and `refused` has how the program answered where it went on no more.
+    `environment` is the program's, and `clock` the server's. `histories` maps file names to histories, `commands`
+    counts commands, and `refused` has the answers that ended a run.
     """
 
-    def __init__(self, program, device, rng, environment=None, clock=None):
+    def __init__(self, program: str, device: Device, rng: random.Random, environment: dict[str, str] | None = None,
+                 clock: dict[str, str] | None = None) -> None:
         self.program, self.device, self.rng = program, device, rng
         self.environment, self.clock = environment, clock
-        self.histories, self.commands, self.refused = {}, 0, []
+        self.histories: dict[str, History] = {}
+        self.commands, self.refused = 0, list[str]()
 
-    def path(self, name):
-        """The path of a file on the file system."""
+    def path(self, name: str) -> Path:
+        """Return the path of a file on the file system."""
         return self.device.top / name
 
-    def once(self, *words):
-        """One run of the program that prints a line, and the places of the log before it and after its end."""
+    def once(self, *words: str | Path) -> tuple[str, str, int, int]:
+        """Run the program once; return its output, its messages, and the places of the log before and after it."""
         begun = self.device.place()
         finished = subprocess.run([self.program, *words], env=self.environment, capture_output=True, text=True,
                                   timeout=SECONDS)
         return finished.stdout, finished.stderr, begun, self.device.place()
 
-    def format(self, name, size, limit=3):
-        """Makes a new source on a file."""
+    def format(self, name: str, size: int, limit: int = 3) -> None:
+        """Make a new source on a file."""
         history = self.histories.setdefault(name, History())
-        output, message, *places = self.once("format", self.path(name), str(size), BASE, str(limit))
+        output, message, begun, end = self.once("format", self.path(name), str(size), BASE, str(limit))
         if output != f"formatted {size}\n":
             raise Differs(f"format: {output!r} {message!r}")
-        history.add(*places, State(BASE, limit))
+        history.add(begun, end, State(BASE, limit))
 
-    def copy(self, old, new, size):
-        """Copies a source to a new file."""
+    def copy(self, old: str, new: str, size: int) -> None:
+        """Copy a source to a new file."""
         history = self.histories.setdefault(new, History())
-        output, message, *places = self.once("copy", self.path(old), self.path(new), str(size))
+        output, message, begun, end = self.once("copy", self.path(old), self.path(new), str(size))
         if output != f"copied {size}\n":
             raise Differs(f"copy: {output!r} {message!r}")
-        history.add(*places, self.histories[old].state())
+        history.add(begun, end, self.histories[old].state())
 
-    def longer(self, name, size):
-        """Makes a file longer."""
+    def longer(self, name: str, size: int) -> None:
+        """Make a file longer."""
         os.truncate(self.path(name), size)
 
-    def run(self, name, lines):
-        """A run of the program on lines, one after the other, up to the first that fails by a fault of the device."""
+    def run(self, name: str, lines: list[str]) -> None:
+        """Run the program on lines, one at a time, up to the first fault of the device."""
         now = 0
-        words, pipe = [self.program, "run", self.path(name)], subprocess.PIPE
+        words, pipe = [self.program, "run", str(self.path(name))], subprocess.PIPE
         with subprocess.Popen(words, env=self.environment, stdin=pipe, stdout=pipe, stderr=subprocess.DEVNULL,
                               bufsize=0) as process:
             for line in lines:
@@ -78,9 +84,10 @@ class Recording:
                 if answer in FAULTS:
                     break
 
-    def noted(self, name, line, now, answer, begun):
-        """Notes an answer, which has to be the model's or a fault of the device, when the command may stand or not."""
-        acknowledged, history = self.device.place(), self.histories[name]
+    def noted(self, name: str, line: str, now: int, answer: str, begun: int) -> None:
+        """Note an answer: the model's, or a fault of the device, after which the command may or may not be applied."""
+        acknowledged: int | None = self.device.place()
+        history = self.histories[name]
         wanted, then = history.state().after(line, now)
         if answer in FAULTS:
             self.refused.append(answer)
@@ -91,8 +98,8 @@ class Recording:
             history.add(begun, acknowledged, then)
             self.commands += acknowledged is not None
 
-    def opened(self, name):
-        """Opens a file and asks what it holds, after a command whose end nobody knows. What is told then stays."""
+    def opened(self, name: str) -> bool:
+        """Open a file after a command with an unknown end, and read its counts. The reported state must then last."""
         history, begun = self.histories[name], self.device.place()
         finished = subprocess.run([self.program, "run", self.path(name)], env=self.environment, input=b"status\n",
                                   capture_output=True, timeout=SECONDS)
@@ -105,15 +112,16 @@ class Recording:
             self.refused.append("an opening")
         return bool(numbers)
 
-    def serve(self, name, requests):
-        """Serves requests, each a method, a path, a body, and the line of a script that does the same."""
+    def serve(self, name: str, requests: list[Request]) -> None:
+        """Serve requests: a method, a path, a body, and the equivalent line of a script."""
         clock, step = FIRST + 10**9, 7
-        environment = {**self.clock, "CLOCK": str(clock), "STEP": str(step)}
+        environment = {**(self.clock or {}), "CLOCK": str(clock), "STEP": str(step)}
         if self.environment:
             environment["LD_PRELOAD"] = f"{environment['LD_PRELOAD']}:{self.environment['LD_PRELOAD']}"
-        words = [self.program, "serve", self.path(name), "0", str(len(requests))]
+        words = [self.program, "serve", str(self.path(name)), "0", str(len(requests))]
         history = self.histories[name]
         with subprocess.Popen(words, env=environment, stdout=subprocess.PIPE, text=True) as server:
+            assert server.stdout
             port = int(server.stdout.readline().split(":")[1])
             for number, (method, path, body, kind, line) in enumerate(requests, 1):
                 self.noise()
@@ -128,10 +136,8 @@ class Recording:
                     history.add(begun, acknowledged, then)
                     self.commands += 1
 
-    def noise(self):
-        """Now and then something else is done on the file system: files come, grow, get another name and go, and now
-        and then all is synced.
-        """
+    def noise(self) -> None:
+        """Now and then do other work on the file system: create, extend, rename, remove and sync files."""
         choice, name = self.rng.random(), self.path(f"noise{self.rng.randrange(8)}")
         with contextlib.suppress(OSError):
             if choice < 0.15:
@@ -145,8 +151,9 @@ class Recording:
                 subprocess.run(["sync", "-f", self.device.top], stderr=subprocess.DEVNULL, timeout=SECONDS)
 
 
-def answer_to(process, line):
-    """What a running program answers to a line, or nothing if it has ended."""
+def answer_to(process: subprocess.Popen[bytes], line: str) -> str:
+    """Return the answer of a running program to a line; it is empty if the program has ended."""
+    assert process.stdin and process.stdout
     try:
         process.stdin.write(line.encode() + b"\n")
         return process.stdout.readline().decode().rstrip("\n")
@@ -154,8 +161,8 @@ def answer_to(process, line):
         return ""
 
 
-def ask(port, method, path, body, kind):
-    """The status of the response to a request."""
+def ask(port: int, method: str, path: str, body: bytes | None, kind: str | None) -> int:
+    """Return the status of the response to a request."""
     connection = http.client.HTTPConnection("127.0.0.1", port, timeout=SECONDS)
     with contextlib.closing(connection):
         connection.request(method, path, body, {"Content-Type": kind} if kind else {})
@@ -164,16 +171,16 @@ def ask(port, method, path, body, kind):
         return response.status
 
 
-def change_at_random(rng, names):
-    """A random line that puts or deletes one of so many names."""
+def change_at_random(rng: random.Random, names: int) -> str:
+    """Return a random put or delete of one of this many names."""
     name, length = f"n{rng.randrange(names)}", rng.choice(LENGTHS)
     if rng.random() < 0.2:
         return f"delete {name}"
     return f"put {name} {rng.randbytes(length).hex() or '-'} {rng.choice(TYPES)}"
 
 
-def lines_at_random(rng, count, names=9):
-    """Lines of a script: puts, deletes, groups and publications, at moments that begin anywhere."""
+def lines_at_random(rng: random.Random, count: int, names: int = 9) -> list[str]:
+    """Return random lines: puts, deletes, groups and publications, from a random first moment on."""
     lines = [f"at {FIRST + rng.randrange(10**6)}"]
     for _ in range(count):
         choice = rng.random()
@@ -183,9 +190,9 @@ def lines_at_random(rng, count, names=9):
     return lines
 
 
-def requests_at_random(rng, count, names=9):
-    """Requests, each with the line of a script that does the same."""
-    found = []
+def requests_at_random(rng: random.Random, count: int, names: int = 9) -> list[Request]:
+    """Return random requests with the equivalent lines of a script."""
+    found = list[Request]()
     for line in lines_at_random(rng, count, names)[1:]:
         words = line.split(" ", 3)
         if words[0] == "put":

@@ -1,9 +1,8 @@
-"""The picture of the second put of docs/CRASH.md on ext4, and of what power cuts within each of its calls leave of the
-file.
+"""Draw the second put of docs/CRASH.md on ext4, and the file after power cuts within its calls.
 
-The put is recorded with the place of the log before and behind each of its calls. Within each call the power is cut at
-several places, and images are made of each. The worst image of a call is the one that is torn most: of the blocks that
-were written so far some are as the put leaves them, and some are not. It is drawn.
+The recording has the length of the log before and after every call. The power is cut at several places within a call,
+and several images are made of each cut. The picture shows the most torn image of every call: of the blocks written so
+far, some have their new contents and some do not.
 """
 import collections
 import pathlib
@@ -18,7 +17,7 @@ from tests.reading.disk_formats import BLOCK
 
 BLOCKS, CALLS, IMAGES = 16, 10, 60
 LINES = ["at 951782400000", "put a 68656c6c6f text/plain", "put b " + "77" * 600 + " text/plain", ""]
-# A library that notes each write and each sync of the program, with the length of the log before it and behind it.
+# A library that notes the program's writes and syncs, with the length of the log before and after them.
 NOTES = r"""
 #define _GNU_SOURCE
 #include <fcntl.h>
@@ -44,15 +43,15 @@ int fsync(int fd) {
     return noted("sync", 0, 0, before, syscall(SYS_fsync, fd));
 }
 """
-# A call: its name, where it writes and how much, and the places of the log before and behind it. And what came of the
-# images within it: how many writes of the device were in question at most, how many images tell the old state and the
-# new one, and the blocks of the file in the worst.
+# A call: its name, its place and length, and the length of the log before and after it. A row: the call, the greatest
+# number of device writes in question, the numbers of images with the old and the new state, the blocks written so far,
+# and the blocks of the most torn image.
 Call = collections.namedtuple("Call", "name at length before behind")
 Row = collections.namedtuple("Row", "call questions old new written worst")
 
 
 def recorded(program, room, device, kind):
-    """The calls of the second put, and the bytes of the file before it and behind it."""
+    """Return the calls of the second put, and the bytes of the file before and after it."""
     notes, path = pathlib.Path(room, "notes"), device.top / "a.disk"
     environment = interposed(room, "notes", NOTES) | {"NOTES": str(notes), "DEVICE_LOG": str(device.log)}
     with device.mounted(kind.system, kind.options):
@@ -72,7 +71,7 @@ def recorded(program, room, device, kind):
 
 
 def image_of(program, device, kind, pieces):
-    """The bytes of the file in an image, and how many changes it tells."""
+    """Return the bytes of the file in an image, and the number of changes that the program reports."""
     device.begin(pieces)
     with device.mounted(kind.system, kind.options) as top:
         finished = subprocess.run([program, "run", top / "a.disk"], input=b"status\n", capture_output=True,
@@ -83,12 +82,12 @@ def image_of(program, device, kind, pieces):
 
 
 def blocks_of(data):
-    """The blocks of some bytes."""
+    """Split bytes into blocks."""
     return [data[at : at + BLOCK] for at in range(0, len(data), BLOCK)]
 
 
 def look(program, device, kind, settled, places, rng):
-    """The images of cuts at these places: how many writes are in question at most, and each file with its changes."""
+    """Make images of cuts at these places; return the most writes in question, and the files with their changes."""
     questions, images = 0, []
     for place in places:
         cut = settled.cut_at(place)
@@ -100,16 +99,14 @@ def look(program, device, kind, settled, places, rng):
 
 
 def compared(image, before, behind):
-    """What each block of a file is: `new`, as the put leaves it; `old`, as it was before; `other`; or nothing, where
-    the put changes nothing.
-    """
+    """Return the state of every block: `new`, `old`, `other`, or empty if the put does not change the block."""
     blocks = zip(*map(blocks_of, (image, before, behind)))
     return ["" if new == old else "new" if block == new else "old" if block == old else "other"
             for block, old, new in blocks]
 
 
 def most_torn(comparisons, written):
-    """The comparison of the image that is torn most, of the blocks that were written."""
+    """Return the comparison of the most torn image, judged by the written blocks."""
     def tear(comparison):
         arrived = sum(comparison[block] == "new" for block in written)
         return min(arrived, len(written) - arrived), len(written) - arrived
@@ -118,7 +115,7 @@ def most_torn(comparisons, written):
 
 
 def rows(program, room, device, kind, bytes_):
-    """What power cuts within each call leave."""
+    """Cut the power within every call; return the rows of the picture."""
     calls, before, behind = recorded(program, room, device, kind)
     log, rng, found, written = device.log.read_bytes(), random.Random(CALLS), [], set()
     settled, ends = Settled(bytes_, log), [entry.end for entry in entries(log)]
@@ -137,13 +134,13 @@ def rows(program, room, device, kind, bytes_):
 
 
 def name_of(call):
-    """The label of a call."""
+    """Return the label of a call."""
     if call.name == "sync":
         return "sync"
     return f"write {call.length} byte{'s' * (call.length > 1)} at {call.at}"
 
 
-# Where things stand in the picture.
+# Positions in the picture.
 LEFT, TOP, CELL, TALL, STEP = 200, 118, 25, 22, 32
 COLOURS = {"new": FILLS["pub"], "old": FILLS["body"], "other": FILLS["dir"]}
 TOLD = [
@@ -156,7 +153,7 @@ COLUMNS += [(866, "images that", "tell the new state")]
 
 
 def picture_of(found):
-    """The picture of these rows."""
+    """Return the picture of these rows."""
     title = "What power cuts leave of a put"
     sentences = [f"call {number}, {name_of(row.call)}: {row.old} images tell the old state and {row.new} the new one"
                  for number, row in enumerate(found, 1)]
@@ -175,7 +172,7 @@ def picture_of(found):
 
 
 def draw(picture, number, row, y):
-    """One row."""
+    """Draw one row."""
     picture.text(30, y + 15, str(number), 12, "end", fill=SOFT)
     picture.text(40, y + 15, name_of(row.call), 12)
     for block, state in enumerate(row.worst):
@@ -187,7 +184,7 @@ def draw(picture, number, row, y):
 
 
 def legend(picture, y):
-    """What the colours mean."""
+    """Draw the legend of the colours."""
     words = ["as the put leaves it", "as it was before the put", "anything else",
              "not written by the put, or not by now"]
     for x, fill, words in zip((40, 220, 430, 590), (*COLOURS.values(), FILLS["free"]), words):
@@ -196,7 +193,7 @@ def legend(picture, y):
 
 
 def drawn(server, room, program):
-    """The picture, of a run of the program."""
+    """Run the program, and return the picture."""
     kind = kinds.KINDS["ext4"]
     bytes_ = kinds.made(kind, pathlib.Path(room, "bytes"))
     device = machine.Device(server, room, bytes_, kind.sector)

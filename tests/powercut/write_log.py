@@ -1,26 +1,48 @@
-"""The log of a device (device.c), and what a power cut leaves in question at each place of it.
+"""Read the log of a device (device.c), and find the writes in question at any place of it.
 
-A write is settled by a flush that began after the write had ended, once that flush has ended well. All else that has
-begun is in question: one that is under way at the beginning of a flush is not settled by it, and a flush that fails
-settles nothing.
+A flush settles a write if it began after the write had ended, and if it succeeds. All other begun writes are in
+question: a flush does not settle writes in progress at its beginning, and a failed flush settles no write.
 """
-import collections
 import os
 import struct
+from collections.abc import Callable, Iterator
+from pathlib import Path
+from typing import NamedTuple
 
 HEAD = struct.Struct("cc6xQQQ")
 GOOD, FAILED, LOST = b"g", b"f", b"l"
-# An entry of the log: what begins (W, F) or ends (w, f), how, the number of the call, its place on the device, its
-# bytes where it is a write that begins, and where the entry ends in the log.
-Entry = collections.namedtuple("Entry", "kind result number at data end")
-# A write in question, and whether it has ended.
-Write = collections.namedtuple("Write", "at data has_ended")
-# A moment: where in the log it lies, and the writes that are in question, in their order.
-Cut = collections.namedtuple("Cut", "place writes")
 
 
-def entries(log):
-    """The entries of a log."""
+class Entry(NamedTuple):
+    """An entry of the log: the beginning (W, F) or the end (w, f) of a write or flush, its result, number and place on
+    the device, the bytes of a beginning write, and the end of the entry in the log.
+    """
+
+    kind: bytes
+    result: bytes
+    number: int
+    at: int
+    data: bytes
+    end: int
+
+
+class Write(NamedTuple):
+    """A write in question, and whether it has ended."""
+
+    at: int
+    data: bytes
+    has_ended: bool
+
+
+class Cut(NamedTuple):
+    """A place in the log, and the writes in question there, in order."""
+
+    place: int
+    writes: list[Write]
+
+
+def entries(log: bytes) -> Iterator[Entry]:
+    """Yield the entries of a log."""
     at = 0
     while at < len(log):
         kind, result, number, place, length = HEAD.unpack_from(log, at)
@@ -31,17 +53,18 @@ def entries(log):
 
 
 class Settling:
-    """What of a log is settled, entry by entry. `settle` is given the place and the bytes of what is.
+    """Find the settled writes of a log, entry by entry; call `settle` with their places and bytes.
 
-    `cache` is how many writes a device keeps in question that answers flushes and does nothing, or None where flushes
-    are done.
+    `cache` is the number of writes that a device with a lying cache keeps in question, or None if flushes work.
     """
 
-    def __init__(self, settle, cache=None):
-        self.settle, self.cache, self.writes, self.covered = settle, cache, {}, {}
+    def __init__(self, settle: Callable[[int, bytes], object], cache: int | None = None) -> None:
+        self.settle, self.cache = settle, cache
+        self.writes: dict[int, Write] = {}
+        self.covered: dict[int, list[int]] = {}
 
-    def go_on(self, entry):
-        """Takes the next entry of the log."""
+    def go_on(self, entry: Entry) -> None:
+        """Process the next entry of the log."""
         if entry.kind == b"W":
             self.writes[entry.number] = Write(entry.at, entry.data, False)
         elif entry.kind == b"w" and entry.result == LOST:
@@ -59,34 +82,34 @@ class Settling:
         if self.cache is not None:
             self.settled([number for number, write in self.writes.items() if write.has_ended][: -self.cache or None])
 
-    def settled(self, numbers):
-        """Settles these writes, in their order."""
+    def settled(self, numbers: list[int]) -> None:
+        """Settle these writes, in order."""
         for number in numbers:
             if number in self.writes:
                 write = self.writes.pop(number)
                 self.settle(write.at, write.data)
 
-    def cut(self, place):
-        """A cut of the power at this place."""
+    def cut(self, place: int) -> Cut:
+        """Return the cut at this place."""
         return Cut(place, list(self.writes.values()))
 
 
 class Settled:
-    """A file with the settled bytes of a log, up to a place that moves on."""
+    """A file with the settled bytes of a log up to a place, which only advances."""
 
-    def __init__(self, path, log, cache=None):
+    def __init__(self, path: str | Path, log: bytes, cache: int | None = None) -> None:
         self.file = os.open(path, os.O_RDWR)
         self.settling = Settling(lambda at, data: os.pwrite(self.file, data, at), cache)
         self.entries, self.place = entries(log), 0
 
-    def cut_at(self, place):
-        """The cut behind the entry that ends at this place, which is not before the last one."""
+    def cut_at(self, place: int) -> Cut:
+        """Return the cut after the entry that ends at this place; places must not decrease."""
         while self.place < place:
             entry = next(self.entries)
             self.settling.go_on(entry)
             self.place = entry.end
         return self.settling.cut(place)
 
-    def close(self):
-        """Closes the file."""
+    def close(self) -> None:
+        """Close the file."""
         os.close(self.file)

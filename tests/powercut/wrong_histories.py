@@ -1,19 +1,20 @@
-"""Histories of a file that are not what was done, or None where one cannot be made of it. A test that takes an image
-for what one tells is blind.
-"""
+"""Wrong histories of a file, or None if a history has no such variant. An image must fail the checks of all of them."""
 import copy
 import dataclasses
 
+from tests.powercut.histories import History
+from tests.reading.crash_model import State
 
-def with_last_state(history, state):
-    """The history with another state after its last event."""
+
+def with_last_state(history: History, state: State) -> History:
+    """Return the history with another state after its last event."""
     changed = copy.copy(history)
     changed.events, changed.served = [*history.events[:-1], history.events[-1]._replace(state=state)], {}
     return changed
 
 
-def a_body_of_one_other_byte(history):
-    """A resource has another last byte than was put, and the same digests."""
+def a_body_of_one_other_byte(history: History) -> History | None:
+    """Change the last byte of a resource, and keep its digests."""
     state = history.state()
     name, (body, entry) = max(state.held.items(), key=lambda item: len(item[1][0]), default=("", (b"", None)))
     if not body:
@@ -22,8 +23,8 @@ def a_body_of_one_other_byte(history):
     return with_last_state(history, dataclasses.replace(state, held=resources))
 
 
-def another_moment(history):
-    """The last change, by which the Change List ends, has another moment."""
+def another_moment(history: History) -> History | None:
+    """Change the moment of the last change, which ends the Change List."""
     state = history.state()
     if not state.changes:
         return None
@@ -32,16 +33,16 @@ def another_moment(history):
         history, dataclasses.replace(state, changes=(*before, dataclasses.replace(last, moment=last.moment - 1))))
 
 
-def a_command_more(history):
-    """One command more was acknowledged."""
+def a_command_more(history: History) -> History | None:
+    """Add an acknowledged command."""
     changed = copy.copy(history)
-    last, end = history.state().after("publish", 0)[1], history.events[-1].acknowledged
+    last, end = history.state().after("publish", 0)[1], history.events[-1].acknowledged or 0
     changed.events = [*history.events, history.events[-1]._replace(begun=end, acknowledged=end, state=last)]
     return changed
 
 
-def a_command_less(history):
-    """The last command never was."""
+def a_command_less(history: History) -> History | None:
+    """Remove the last command."""
     changed = copy.copy(history)
     changed.events, changed.served = history.events[:-1], {}
     return changed

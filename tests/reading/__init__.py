@@ -1,1 +1,1 @@
-"""The formats and the rules, spelled in Python from the pages of docs/, apart from the program."""
+"""The formats and rules of docs/ in Python, independent of the program."""

@@ -1,4 +1,4 @@
-"""A destination: it reads the lists of a source, and gets from them what the source holds."""
+"""A destination, which reads the lists of a source and reconstructs the source's resources."""
 import hashlib
 import xml.etree.ElementTree as ElementTree
 
@@ -7,12 +7,12 @@ RS = "{http://www.openarchives.org/rs/terms/}"
 
 
 def place(element, base):
-    """The path of a `loc` below the base."""
+    """Return the path of a `loc` relative to the base."""
     return element.find(SITEMAP + "loc").text.removeprefix(base)
 
 
 def gathered(path, served, base):
-    """The facts of a list, and its children, from all parts where the path has an index."""
+    """Return the facts of a list and its children, from all parts if the path has an index."""
     root = ElementTree.fromstring(served[path])
     children = root.findall(SITEMAP + "url")
     for pointer in root.findall(SITEMAP + "sitemap"):
@@ -21,12 +21,12 @@ def gathered(path, served, base):
 
 
 def facts(element):
-    """The digests, the length and the type that an element gives."""
+    """Return the digests, the length and the type of an element."""
     return {attribute: element.find(RS + "md").attrib[attribute] for attribute in ("hash", "length", "type")}
 
 
 def mirrored(served):
-    """What a destination holds after the Resource List and the changes after it: facts by path."""
+    """Return the facts by path that a destination has after the Resource List and all later changes."""
     above = ElementTree.fromstring(served["/resourcelist.xml"]).find(RS + "ln").attrib["href"]
     base = above.removesuffix("/capabilitylist.xml")
     head, resources = gathered("/resourcelist.xml", served, base)
@@ -46,7 +46,7 @@ def mirrored(served):
 
 
 def fault(served, entries):
-    """What is wrong with what is served, where this is known of all that is held, or nothing."""
+    """Return how the served documents and bodies differ from the entries of the held resources, or ''."""
     wanted = {f"/resource/{name}": vars(entry) for name, entry in entries.items()}
     bodies = {path: body for path, body in served.items() if path.startswith("/resource/")}
     mine = mirrored(served)

@@ -1,7 +1,7 @@
-"""What a source serves after a list of commands, written from docs/SCRIPT.md and docs/DOCUMENTS.md.
+"""The documents of a source after a list of commands, written from docs/SCRIPT.md and docs/DOCUMENTS.md.
 
-It is plain and slow, and shares nothing with the program: a state is a few Python values, a command
-gives the next one, and each document is text that is put together anew.
+The model is slow and shares nothing with the program: a state is a few Python values, a command returns the next state,
+and every document is written from the state alone.
 """
 import dataclasses
 import datetime
@@ -18,19 +18,19 @@ REFERENCES = {"&": "&amp;", "'": "&apos;", '"': "&quot;", ">": "&gt;", "<": "&lt
 
 
 def moment_text(moment):
-    """A moment, in milliseconds since 1970, as a W3C Datetime."""
+    """Return a moment (milliseconds since 1970) as a W3C Datetime."""
     time = datetime.datetime(1970, 1, 1) + datetime.timedelta(milliseconds=moment)
     return time.isoformat(timespec="milliseconds") + "Z"
 
 
 def escaped(text):
-    """A text with its special characters escaped."""
+    """Escape the special characters of a text."""
     return text.translate(str.maketrans(REFERENCES))
 
 
 @dataclasses.dataclass(frozen=True)
 class Entry:
-    """What is known of a resource: its facts, and the moment at which it got them."""
+    """The facts of a resource, and the moment of its last change."""
 
     kind: str
     length: int
@@ -38,19 +38,19 @@ class Entry:
     moment: int
 
     def attributes(self):
-        """The attributes of the entry in a document."""
+        """Return the attributes of the entry in a document."""
         return f'hash="{self.hash}" length="{self.length}" type="{escaped(self.kind)}"'
 
 
 def entry_of(kind, body, moment):
-    """The entry of a body that was put at a moment."""
+    """Return the entry of a body that was put at a moment."""
     digests = f"md5:{hashlib.md5(body).hexdigest()} sha-256:{hashlib.sha256(body).hexdigest()}"
     return Entry(kind, len(body), digests, moment)
 
 
 @dataclasses.dataclass(frozen=True)
 class Change:
-    """A change: `entry` is None where the name was deleted."""
+    """A change. `entry` is None for a deletion."""
 
     what: str
     name: str
@@ -60,10 +60,10 @@ class Change:
 
 @dataclasses.dataclass(frozen=True)
 class State:
-    """A source: what it holds, what has changed, and what it listed last. It stays as it is.
+    """An immutable source: the held resources, the changes and the latest publication.
 
-    `first` is the number of the first part of the changes that are kept, and `begin` the moment of the last change
-    before them, or of formatting.
+    `first` is the number of the first kept part of the changes, and `begin` the moment of the last dropped change, or
+    of formatting.
     """
 
     base: str
@@ -78,9 +78,9 @@ class State:
     begin: int = 0
 
     def after(self, line, now):
-        """The answer to a line, and the next state, or None where the line is refused.
+        """Return the answer to a line and the next state, or None for the state if the line is refused.
 
-        A group is one line with all of its lines.
+        A group is one line that includes all of its lines.
         """
         if line.startswith("group "):
             return self.after_group(line.split("\n")[1:], now)
@@ -94,11 +94,11 @@ class State:
         return self.after_publish(moment)
 
     def entries(self):
-        """What is known of each resource held."""
+        """Return the entries of the held resources."""
         return {name: entry for name, (_, entry) in self.held.items()}
 
     def after_put(self, name, body, kind, moment):
-        """The answer to a put at a moment, and the state after it."""
+        """Return the answer to a put at a moment, and the next state."""
         what = "updated" if name in self.held else "created"
         entry = entry_of(kind, body, moment)
         changes = self.changes + (Change(what, name, moment, entry),)
@@ -107,7 +107,7 @@ class State:
         return f"{what} {moment_text(moment)}", then
 
     def after_delete(self, name, moment):
-        """The answer to a delete at a moment, and the state after it where it is done."""
+        """Return the answer to a delete at a moment, and the next state unless the delete is refused."""
         if name not in self.held:
             return "refused NotHeld", None
         resources = {other: value for other, value in self.held.items() if other != name}
@@ -116,7 +116,7 @@ class State:
         return f"deleted {moment_text(moment)}", then
 
     def after_group(self, lines, now):
-        """The answer to a group of lines, and the state after it where it is done."""
+        """Return the answer to a group of lines, and the next state unless the group is refused."""
         then = self
         for line in lines:
             answer, then = then.after(line, now)
@@ -125,11 +125,11 @@ class State:
         return f"grouped {len(lines)} {moment_text(max(now, self.last + 1))}", then
 
     def dropped_parts(self):
-        """How many parts the next publication drops: full ones that end with a change not after the one before."""
+        """Return the number of parts that the next publication drops: full parts that end by the latest publication."""
         return sum(change.moment <= self.at for change in self.changes) // self.limit
 
     def after_publish(self, moment):
-        """The answer to a publication at a moment, and the state after it."""
+        """Return the answer to a publication at a moment, and the next state."""
         count = self.dropped_parts()
         gone, remaining = self.changes[: count * self.limit], self.changes[count * self.limit :]
         begin = gone[-1].moment if gone else self.begin
@@ -138,13 +138,13 @@ class State:
         return f"published {then.number} {moment_text(moment)}", then
 
     def status(self):
-        """The answer to `status`."""
+        """Return the answer to `status`."""
         counts = f"resources {len(self.held)} changes {len(self.changes)} publication {self.number}"
         return f"{counts} last {moment_text(self.last)}\n".encode()
 
 
 def run(state, lines):
-    """The answers to lines, all states, and how many commands each number of lines has made."""
+    """Return the answers to the lines, all states, and the number of commands applied after 0, 1, 2, ... lines."""
     now, answers, states, made = 0, [], [state], [0]
     for line in lines:
         if line.startswith("at "):
@@ -158,20 +158,20 @@ def run(state, lines):
 
 
 def document(root, links, facts, children):
-    """The text of a document."""
+    """Return the text of a document."""
     lines = [f'<rs:ln rel="{rel}" href="{href}"/>' for rel, href in links]
     lines += [f"<rs:md {facts}/>", *children]
     return f"{HEAD}<{root} {SPACES}>\n" + "".join(line + "\n" for line in lines) + f"</{root}>\n"
 
 
 def resource(base, name, entry):
-    """The element of a resource in a list."""
+    """Return the element of a resource in a list."""
     place, time = f"<loc>{base}/resource/{escaped(name)}</loc>", moment_text(entry.moment)
     return f"<url>{place}<lastmod>{time}</lastmod><rs:md {entry.attributes()}/></url>"
 
 
 def changed(base, change):
-    """The element of a change in a list."""
+    """Return the element of a change in a list."""
     place, time = f"<loc>{base}/resource/{escaped(change.name)}</loc>", moment_text(change.moment)
     facts = f'change="{change.what}" datetime="{time}"'
     if change.entry is None:
@@ -181,17 +181,17 @@ def changed(base, change):
 
 
 def chunks(items, limit):
-    """The items in parts, each but the last of the limit."""
+    """Cut the items into parts of `limit` items; the last part may be shorter."""
     return [items[at : at + limit] for at in range(0, len(items), limit)]
 
 
 def pointed(base, path, facts):
-    """The element of a part in an index."""
+    """Return the element of a part in an index."""
     return f"<sitemap><loc>{base}{path}</loc><rs:md {facts}/></sitemap>"
 
 
 def resource_documents(state):
-    """The Resource List, or its index and its parts."""
+    """Return the Resource List, or its index and its parts."""
     base, up = state.base, ("up", state.base + "/capabilitylist.xml")
     at = f'at="{moment_text(state.at)}"'
     facts = f'capability="resourcelist" {at}'
@@ -207,7 +207,7 @@ def resource_documents(state):
 
 
 def change_documents(state):
-    """The Change List, or its index and its parts."""
+    """Return the Change List, or its index and its parts."""
     base, up = state.base, ("up", state.base + "/capabilitylist.xml")
     begin = f'from="{moment_text(state.begin)}"'
     parts = chunks(state.changes, state.limit)
@@ -226,7 +226,7 @@ def change_documents(state):
 
 
 def documents(state):
-    """Each document that there is, by its path."""
+    """Return all documents of the state by path."""
     base = state.base
 
     def capability(name):
@@ -244,7 +244,7 @@ def documents(state):
 
 
 class Questions:
-    """A script that asks for all that some states have, and the states by what they answer."""
+    """A script that queries everything in some states, and these states by their answers."""
 
     def __init__(self, states):
         served = [all_served(state) for state in states]
@@ -254,11 +254,11 @@ class Questions:
         self.states = {answer: number for number, answer in enumerate(answers)}
 
     def answer(self, state, served):
-        """What the questions are answered in this state."""
+        """Return the answers to the questions in this state."""
         return state.status() + b"".join(shown(path, served.get(path)) for path in self.paths)
 
     def difference(self, output):
-        """How an output that no state has differs from the answer with the same counts."""
+        """Return the difference between an output that fits no state and the expected output with the same counts."""
         counts = output.partition(b"\n")[0]
         for answer, number in self.states.items():
             if answer.startswith(counts + b"\n"):
@@ -268,7 +268,7 @@ class Questions:
         return f"the counts of no state: {counts[:100]!r}"
 
     def shown_in(self, output):
-        """What is shown in an output, by path, without what was refused."""
+        """Return the shown bodies and documents of an output by path, without refusals."""
         found, at = {}, output.index(b"\n") + 1
         for path in self.paths:
             end = output.index(b"\n", at) + 1
@@ -281,13 +281,13 @@ class Questions:
 
 
 def all_served(state):
-    """Each document and each body, by its path."""
+    """Return all documents and bodies by path."""
     texts = {path: text.encode() for path, text in documents(state).items()}
     return {**texts, **{f"/resource/{name}": body for name, (body, _) in state.held.items()}}
 
 
 def shown(path, served):
-    """The answer to a line that shows a path."""
+    """Return the answer to a `show` of a path."""
     if served is not None:
         return b"bytes %d\n%s\n" % (len(served), served)
     return b"refused NotHeld\n" if path.startswith("/resource/") else b"refused NoSuchDocument\n"

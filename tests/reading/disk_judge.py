@@ -1,8 +1,8 @@
-"""What any bytes are as a disk, by the rules of docs/DISK.md, written apart from the program.
+"""The verdict on any bytes as a disk, by the rules of docs/DISK.md, independent of the program.
 
-`verdict_of` says of some bytes that they are no source, that they are damaged, or that they open, and then what the
-source on them is. `damaged_names` are the held names whose body does not have its recorded SHA-256. `state_of` is the
-source as a state of crash_model.py, which has the text of each of its documents.
+`verdict_of` reports that the bytes hold no source, that they are damaged, or that they open, and then also returns the
+source. `damaged_names` are the held names whose body does not have its recorded SHA-256. `state_of` is the source as a
+state of crash_model.py, which gives the text of every document.
 """
 import itertools
 import re
@@ -16,7 +16,7 @@ WHAT = {CREATED: "created", UPDATED: "updated", DELETED: "deleted"}
 LAST_MOMENT = 253_402_300_799_999
 MOST_ITEMS, LONGEST_BODY = 50_000, 16_777_216
 LIMITS = range(2, 4_001)
-# Segments of RFC 3986, none of which is empty, `.` or `..`.
+# Segments of RFC 3986, except the empty one, `.` and `..`.
 SEGMENT = rb"(?!\.{1,2}(?:/|\Z))(?:[A-Za-z0-9\-._~!$&'()*+,;=:@]|%[0-9A-Fa-f]{2})+"
 NAME = re.compile(SEGMENT + rb"(?:/" + SEGMENT + rb")*")
 TOKEN = rb"[A-Za-z0-9!#$%&'*+\-.^_`|~]+"
@@ -25,43 +25,43 @@ BASE = re.compile(rb"https?://[A-Za-z0-9.:/_~\-]*[A-Za-z0-9.:_~\-]")
 
 
 class Broken(Exception):
-    """A rule that the source on a disk breaks."""
+    """The source on a disk breaks a rule."""
 
 
 def hold(rule, holds):
-    """Every rule, with the words that name it."""
+    """Raise Broken with the name of the rule unless it holds."""
     if not holds:
         raise Broken(rule)
 
 
 def is_lawful(pattern, shortest, longest, text):
-    """Whether a text has a lawful length and matches the pattern."""
+    """Return whether a text has a lawful length and matches the pattern."""
     return shortest <= len(text) <= longest and pattern.fullmatch(text) is not None
 
 
 def items_of(pages):
-    """All items of some pages."""
+    """Return all items of some pages."""
     return [item for page in pages for item in page.items]
 
 
 def strictly_rise(values):
-    """Whether each value is greater than the one before it."""
+    """Return whether the values strictly rise."""
     return all(a < b for a, b in itertools.pairwise(values))
 
 
 def blocks_of(length):
-    """How many blocks this many bytes take."""
+    """Return the number of blocks for this many bytes."""
     return (length + BLOCK - 1) // BLOCK
 
 
 def look_at_facts(item):
-    """The rules of what is known of a body."""
+    """Check the rules of a body's facts."""
     hold("a media type is lawful", is_lawful(TYPE, 3, 100, item.kind))
     hold("a body has 16,777,216 bytes at most", item.length <= LONGEST_BODY)
 
 
 def look_at_records(source, pages, latest):
-    """The rules of a list of records, whose moments are at most the latest."""
+    """Check the rules of a list of records, whose moments are at most `latest`."""
     records = items_of(pages)
     hold("a list has 50,000 records at most", len(records) <= MOST_ITEMS)
     hold("the names of records strictly ascend", strictly_rise([record.name for record in records]))
@@ -74,7 +74,7 @@ def look_at_records(source, pages, latest):
 
 
 def look_at_changes(source):
-    """The rules of the changes, and of the last moment, which the last of them may be."""
+    """Check the rules of the changes and of the last moment; the last change may have that moment."""
     changes = items_of(source.changes)
     hold("there are 50,000 changes at most", len(changes) <= MOST_ITEMS)
     hold("the moments of changes strictly rise", strictly_rise([change.moment for change in changes]))
@@ -89,7 +89,7 @@ def look_at_changes(source):
 
 
 def look_at_begin(source):
-    """The rules of the first part that is kept, and of the moment at which the kept changes begin."""
+    """Check the rules of the first kept part and of the moment at which the kept changes begin."""
     hold("the kept changes begin at the start or later, and no later than the publication",
          source.start <= source.begin <= source.at)
     hold("no more parts were dropped than there are moments from start to begin",
@@ -98,7 +98,7 @@ def look_at_begin(source):
 
 
 def look(disk, source):
-    """Every rule but those of the formats, which the reader has."""
+    """Check every rule except those of the formats, which the reader checks."""
     hold("the item limit is 2 to 4,000", source.limit in LIMITS)
     hold("the base is lawful", is_lawful(BASE, 8, 128, source.base))
     hold("start <= at <= last, and last is a moment", source.start <= source.at <= source.last <= LAST_MOMENT)
@@ -113,7 +113,7 @@ def look(disk, source):
 
 
 def verdict_of(disk):
-    """`NotASource` or `Damaged` and why, or `opens` and the source."""
+    """Return `NotASource` or `Damaged` with the cause, or `opens` with the source."""
     try:
         source = disk_reader.source_of(disk)
         look(disk, source)
@@ -125,30 +125,30 @@ def verdict_of(disk):
 
 
 def body_of(disk, record):
-    """The bytes of a body, or nothing where they do not have the recorded SHA-256."""
+    """Return the bytes of a body, or nothing if they do not have the recorded SHA-256."""
     body = disk[record.first * BLOCK : record.first * BLOCK + record.length]
     return body if sha256(body) == record.sha256 else None
 
 
 def damaged_names(disk, source):
-    """The held names whose body does not have its recorded SHA-256, in their order."""
+    """Return the held names whose body does not have its recorded SHA-256, in order."""
     return [record.name.decode() for record in items_of(source.catalogue) if body_of(disk, record) is None]
 
 
 def entry_of(item):
-    """What a document says of a body."""
+    """Return the entry of a document for a body."""
     digests = f"md5:{item.md5.hex()} sha-256:{item.sha256.hex()}"
     return crash_model.Entry(item.kind.decode(), item.length, digests, item.moment)
 
 
 def change_of(item):
-    """A change as the model has it."""
+    """Return a change of the model."""
     entry = None if item.what == DELETED else entry_of(item)
     return crash_model.Change(WHAT[item.what], item.name.decode(), item.moment, entry)
 
 
 def state_of(disk, source):
-    """The state that a source has, if it opens. A damaged body is None."""
+    """Return the state of a source that opens. A damaged body is None."""
     return crash_model.State(
         base=source.base.decode(),
         limit=source.limit,

@@ -1,84 +1,83 @@
-"""Reads a source off the bytes of a disk by the tables of docs/DISK.md, apart from the program.
+"""Read a source from the bytes of a disk by the tables of docs/DISK.md, independent of the program.
 
-It takes the root of the open slot of the greater generation, the directory behind it, and each page that the directory
-names; lengths and SHA-256 have to agree. Which order the items have, and which blocks are used twice, is for the
-reader's caller.
+The reader follows the open slot with the greater generation to the directory, and the directory to every page; lengths
+and SHA-256 must match. The caller checks the order of items and that no block has two uses.
 """
 import collections
 
 from tests.reading.disk_formats import BLOCK, CHANGES, DELETED, RECORDS, sha256
 
-# How the source refers to a page, or to the directory: where it lies, its length, and the SHA-256 of its bytes.
+# The reference to a page or to the directory: its first block, its number of blocks, its length, and its SHA-256.
 Entry = collections.namedtuple("Entry", "first blocks length sha256")
 Record = collections.namedtuple("Record", "name kind length md5 sha256 moment first blocks")
-# Of a deletion nothing is known of a body.
+# A deletion has no facts.
 Change = collections.namedtuple("Change", "what name moment kind length md5 sha256", defaults=[None] * 4)
 Page = collections.namedtuple("Page", "entry items")
-# `directory` is its entry in the slot, and `version` what the slot says of its format.
+# `directory` is its entry in the slot, and `version` the format version in the slot.
 Source = collections.namedtuple(
     "Source", "directory version limit base start last number at first begin catalogue changes published")
-# The root that a slot says.
+# The root in a slot.
 Root = collections.namedtuple("Root", "generation version directory")
-# The versions that there are. A directory of the first has no first part and no begin: it keeps all changes.
+# All versions. A directory of version 1 has no first part and no begin: it keeps all changes.
 VERSIONS = (1, 2)
-# No more blocks are used of any disk.
+# The most blocks that a source uses of a disk.
 MOST_BLOCKS = 8_388_608
 
 
 class Unread(Exception):
-    """There is no source in these bytes."""
+    """The bytes hold no source."""
 
 
 class NoRoot(Unread):
-    """The slots have no root."""
+    """No slot has a root."""
 
 
 class Fields:
-    """Some bytes, which are taken field by field from their front."""
+    """The bytes of some fields, read from the front."""
 
     def __init__(self, data):
         self.data, self.at = data, 0
 
     def taken(self, size):
-        """The next bytes."""
+        """Return the next bytes."""
         self.at += size
         if self.at > len(self.data):
             raise Unread(f"a field ends at byte {self.at} of {len(self.data)}")
         return self.data[self.at - size : self.at]
 
     def number(self, size=4):
-        """The next number."""
+        """Return the next number."""
         return int.from_bytes(self.taken(size), "big")
 
     def short(self):
-        """The next text, behind its length."""
+        """Return the next text, which has its length in front."""
         return self.taken(self.number(1))
 
     def entry(self):
-        """The next entry of a page."""
+        """Return the next entry of a page."""
         return Entry(self.number(), self.number(), self.number(), self.taken(32))
 
     def facts(self):
-        """What is known of a body: its type, its length, its MD5 and its SHA-256."""
+        """Return the next facts: type, length, MD5 and SHA-256 of a body."""
         return self.short(), self.number(), self.taken(16), self.taken(32)
 
     def record(self):
-        """The next record."""
+        """Return the next record."""
         return Record(self.short(), *self.facts(), self.number(8), self.number(), self.number())
 
     def change(self):
-        """The next change."""
+        """Return the next change."""
         what, name, moment = self.number(1), self.short(), self.number(8)
         return Change(what, name, moment) if what == DELETED else Change(what, name, moment, *self.facts())
 
     def ended(self, what):
-        """Checks that nothing follows."""
+        """Raise Unread unless all bytes are read."""
         if self.at < len(self.data):
             raise Unread(f"{len(self.data) - self.at} bytes follow {what}")
 
 
 def bytes_of(disk, entry, what):
-    """The bytes that an entry tells of, which are exactly those."""
+    """Return exactly the bytes that an entry refers to."""
     data = disk[entry.first * BLOCK : entry.first * BLOCK + entry.length]
     if len(data) != entry.length or entry.blocks != (entry.length + BLOCK - 1) // BLOCK:
         raise Unread(f"{what} of {entry.length} bytes lies in {entry.blocks} blocks from {entry.first} on")
@@ -88,7 +87,7 @@ def bytes_of(disk, entry, what):
 
 
 def page_of(disk, entry, kind):
-    """A page of this kind."""
+    """Return the page of an entry, which must be of this kind."""
     fields = Fields(bytes_of(disk, entry, "a page"))
     if fields.number(1) != kind:
         raise Unread(f"the page in block {entry.first} is not of the kind {kind}")
@@ -99,7 +98,7 @@ def page_of(disk, entry, kind):
 
 
 def root(disk):
-    """What the open slot of the greater generation says. A slot is a whole block."""
+    """Return the root of the open slot of the greater generation. A slot is a whole block."""
     opened = []
     for slot in (disk[:BLOCK], disk[BLOCK : 2 * BLOCK]):
         fields = Fields(slot)
@@ -114,7 +113,7 @@ def root(disk):
 
 
 def source_of(disk):
-    """The source on a disk of these bytes."""
+    """Return the source on a disk of these bytes."""
     _, version, entry = root(disk)
     fields = Fields(bytes_of(disk, entry, "the directory"))
     limit, base, start = fields.number(2), fields.short(), fields.number(8)
@@ -129,7 +128,7 @@ def source_of(disk):
 
 
 def extents(source):
-    """The extents of all that the root reaches, a published page that is a catalogue page once."""
+    """Return all extents that the root reaches; a published page that is also a catalogue page counts once."""
     lists = [source.catalogue, source.changes, source.published]
     resources = {page.entry for page in source.catalogue}
     pages = [page.entry for part in lists for page in part
@@ -139,7 +138,7 @@ def extents(source):
 
 
 def fault(disk, source):
-    """What is wrong with where things lie, or nothing."""
+    """Return the fault if an extent overlaps the slots or another extent, or ends past the disk; otherwise ''."""
     behind = 2
     for first, blocks in sorted(extents(source)):
         if first < behind:

@@ -1,8 +1,7 @@
-"""A source as a front asks it: what each command, and each path that is shown, is answered, by docs/SCRIPT.md and
-docs/HTTP.md.
+"""A source as a front sees it: the answer to every command and every shown path, by docs/SCRIPT.md and docs/HTTP.md.
 
-The state and the texts of its documents are those of crash_model.py, and what a name and a media type are is what
-disk_judge.py says. All three are written from the pages, apart from the program.
+crash_model.py provides the state and the texts of its documents, disk_judge.py the rules of names and media types. All
+three are written from the pages, independent of the program.
 """
 import re
 
@@ -10,7 +9,7 @@ from tests.reading import crash_model
 from tests.reading.disk_formats import BLOCK
 from tests.reading.disk_judge import LAST_MOMENT, LONGEST_BODY, MOST_ITEMS, NAME, TYPE, is_lawful
 
-# The last number of a publication, and the last one that the first kept part of the changes may have.
+# The last number of a publication, and the greatest number of the first kept part of the changes.
 LAST_NUMBER, LAST_PART = 2**64 - 1, LAST_MOMENT
 MOST_GROUPED = 16
 RESOURCE = b"/resource/"
@@ -21,29 +20,29 @@ DOCUMENT = re.compile(HEADS + rb"|" + PARTS)
 
 
 class Refused(Exception):
-    """The word of a refusal."""
+    """A refusal, by its word."""
 
     @property
     def word(self):
-        """The word of the refusal."""
+        """Return the word of the refusal."""
         return self.args[0]
 
 
 def is_document(path):
-    """Whether this is a document's path, of one that there is or not: its numbers are those of 64 bits."""
+    """Return whether this is the path of a document, existing or not, with numbers of at most 64 bits."""
     found = DOCUMENT.fullmatch(path)
     return found is not None and all(int(number) < 2**64 for number in found.groups() if number)
 
 
 def name_of(text):
-    """A lawful name, or a refusal."""
+    """Return the name if it is lawful; otherwise refuse it."""
     if not is_lawful(NAME, 1, 240, text):
         raise Refused("BadName")
     return text.decode()
 
 
 def type_of(text):
-    """A lawful media type, or a refusal."""
+    """Return the media type if it is lawful; otherwise refuse it."""
     if not is_lawful(TYPE, 3, 100, text):
         raise Refused("BadType")
     return text.decode()
@@ -53,21 +52,21 @@ class Source:
     """A source that commands change."""
 
     def __init__(self, state, size):
-        """`size` is its disk's, which is taken to have room for all but a body that is larger than it."""
+        """Take a state and the disk's size in bytes. Only a body larger than its whole blocks is refused as Full."""
         self.state, self.size, self.texts = state, size, None
 
     def become(self, state):
-        """Takes another state."""
+        """Replace the state."""
         self.state, self.texts = state, None
 
     def moment(self, now):
-        """The moment of the next command that is accepted."""
+        """Return the moment of the next accepted command."""
         if self.state.last >= LAST_MOMENT:
             raise Refused("Exhausted")
         return max(now, self.state.last + 1)
 
     def put(self, name, kind, length, body, now):
-        """What happened, and when. `body` is None where fewer bytes came than were announced."""
+        """Return the kind of the change and its moment. `body` is None if fewer bytes arrived than announced."""
         if length > LONGEST_BODY:
             raise Refused("TooLong")
         if name not in self.state.held and len(self.state.held) >= MOST_ITEMS:
@@ -84,7 +83,7 @@ class Source:
         return answer
 
     def delete(self, name, now):
-        """The answer to a delete."""
+        """Return the answer to a delete."""
         if name not in self.state.held:
             raise Refused("NotHeld")
         if len(self.state.changes) >= MOST_ITEMS:
@@ -94,7 +93,7 @@ class Source:
         return answer
 
     def group(self, items, now):
-        """What is answered to a group of items, each a put's or a delete's name, and of a put its type and its body."""
+        """Return the answer to a group of items. An item has a name, and for a put also a type and a body."""
         if not 1 <= len(items) <= MOST_GROUPED:
             raise Refused("BadGroup")
         then, answers = Source(self.state, 2 * LONGEST_BODY), []
@@ -108,7 +107,7 @@ class Source:
         return f"grouped {len(items)} {answers[0].split()[1]}"
 
     def publish(self, now):
-        """The answer to a publication."""
+        """Return the answer to a publication."""
         moment = self.moment(now)
         if self.state.number >= LAST_NUMBER or self.state.first + self.state.dropped_parts() > LAST_PART:
             raise Refused("Exhausted")
@@ -117,14 +116,14 @@ class Source:
         return answer
 
     def resource(self, name):
-        """The bytes of a resource, and its type."""
+        """Return the bytes of a resource, and its type."""
         if name not in self.state.held:
             raise Refused("NotHeld")
         body, entry = self.state.held[name]
         return body, entry.kind
 
     def document(self, path):
-        """The text of the document at a path."""
+        """Return the text of the document at a path."""
         if self.texts is None:
             self.texts = crash_model.documents(self.state)
         text = self.texts.get(path.decode("latin-1"))

@@ -1,4 +1,4 @@
-"""What the lines of a script are answered, by the tables of docs/SCRIPT.md, written apart from the program."""
+"""The answers to the lines of a script, by the tables of docs/SCRIPT.md, independent of the program."""
 import re
 
 from tests.reading.disk_judge import LAST_MOMENT
@@ -8,19 +8,19 @@ LONGEST_LINE = 33_600_000
 DIGITS = re.compile(rb"[0-9]{1,15}")
 COUNT = re.compile(rb"[0-9]{1,2}")
 HEXADECIMAL = re.compile(rb"[0-9A-Fa-f]+")
-# How many fields a line has that begins with this word; the last field of a `put` is the rest of its line.
+# The number of fields in a line that begins with this word; the last field of a `put` is the rest of its line.
 FIELDS = {b"at": 2, b"put": 4, b"delete": 2, b"publish": 1, b"show": 2, b"status": 1, b"verify": 1, b"group": 2}
 
 
 def lines_of(script):
-    """The lines of a script: each ends with LF, of which one CR before it is a part, or at the end."""
+    """Return the lines of a script. A line ends with LF, or CR and LF, or at the end of the input."""
     *ended, rest = script.split(b"\n")
     lines = [line[:-1] if line.endswith(b"\r") else line for line in ended]
     return [*lines, rest] if rest else lines
 
 
 def fields_of(line):
-    """The fields of a line, cut at single spaces, as many as its word has."""
+    """Return the fields of a line, cut at single spaces into as many fields as its word has."""
     word = line.split(b" ", 1)[0]
     count = FIELDS.get(word, 0)
     fields = line.split(b" ", count - 1) if word == b"put" else line.split(b" ", count)
@@ -30,7 +30,7 @@ def fields_of(line):
 
 
 def body_of(text):
-    """The bytes of a body in hexadecimal, or a refusal."""
+    """Return the bytes of a hexadecimal body, or refuse it."""
     if text == b"-":
         return b""
     if len(text) % 2 or not HEXADECIMAL.fullmatch(text):
@@ -39,7 +39,7 @@ def body_of(text):
 
 
 def item_of(line):
-    """What a line of a group asks for: a name, and of a put its type and its body."""
+    """Return the item in a line of a group: a name, and for a put also its type and its body."""
     if len(line) > LONGEST_LINE:
         raise Refused("LongLine")
     word, *fields = fields_of(line)
@@ -52,15 +52,15 @@ def item_of(line):
 
 
 class Judge:
-    """Answers lines, one after another."""
+    """Answers lines in order."""
 
     def __init__(self, source):
         self.source, self.now = source, 0
-        # How many lines a group still takes, the items so far, and the first fault of its lines.
+        # The number of missing lines of a group, the items so far, and the first fault in its lines.
         self.remaining, self.items, self.fault = 0, [], None
 
     def answer(self, line):
-        """The answer to a line, with the line feed at its end. A group is answered with its last line."""
+        """Return the answer to a line, with LF at its end. The last line of a group gets the answer to the group."""
         if self.remaining:
             return self.taken(line)
         try:
@@ -70,18 +70,18 @@ class Judge:
             return f"refused {refusal.word}\n".encode()
 
     def end(self):
-        """The answer to a group that the end of the input cuts."""
+        """Return the answer to a group that the end of the input cuts."""
         is_cut, self.remaining = self.remaining > 0, 0
         return b"refused BadGroup\n" if is_cut else b""
 
     def group(self, text):
-        """Begins a group of this many lines."""
+        """Begin a group of this many lines."""
         if not COUNT.fullmatch(text) or not 1 <= int(text) <= MOST_GROUPED:
             raise Refused("BadGroup")
         self.remaining, self.items, self.fault = int(text), [], None
 
     def taken(self, line):
-        """The answer to a line of a group."""
+        """Return the answer to a line of a group."""
         self.remaining -= 1
         try:
             self.items.append(item_of(line))
@@ -90,7 +90,7 @@ class Judge:
         return b"" if self.remaining else self.grouped()
 
     def grouped(self):
-        """The answer to a group whose lines have all come."""
+        """Return the answer to a complete group."""
         try:
             if self.fault:
                 raise self.fault
@@ -99,34 +99,34 @@ class Judge:
             return f"refused {refusal.word}\n".encode()
 
     def accepted(self, line):
-        """The answer to a line, or a refusal."""
+        """Return the answer to a line, or refuse it."""
         if len(line) > LONGEST_LINE:
             raise Refused("LongLine")
         word, *fields = fields_of(line)
         return getattr(self, word.decode())(*fields)
 
     def at(self, text):
-        """The answer to a line that sets the time."""
+        """Return the answer to a line that sets the time."""
         if not DIGITS.fullmatch(text) or int(text) > LAST_MOMENT:
             raise Refused("BadMoment")
         self.now = int(text)
         return b"ok"
 
     def put(self, name, text, kind):
-        """The answer to a put."""
+        """Return the answer to a put."""
         name, body, kind = name_of(name), body_of(text), type_of(kind)
         return self.source.put(name, kind, len(body), body, self.now).encode()
 
     def delete(self, name):
-        """The answer to a delete."""
+        """Return the answer to a delete."""
         return self.source.delete(name_of(name), self.now).encode()
 
     def publish(self):
-        """The answer to a publication."""
+        """Return the answer to a publication."""
         return self.source.publish(self.now).encode()
 
     def show(self, path):
-        """The answer to `show`."""
+        """Return the answer to `show`."""
         if path.startswith(RESOURCE):
             data, _ = self.source.resource(name_of(path[len(RESOURCE) :]))
         else:
@@ -134,9 +134,9 @@ class Judge:
         return b"bytes %d\n%s" % (len(data), data)
 
     def status(self):
-        """The answer to `status`."""
+        """Return the answer to `status`."""
         return self.source.state.status().rstrip(b"\n")
 
     def verify(self):
-        """The answer to `verify`."""
+        """Return the answer to `verify`."""
         return b"verified %d" % len(self.source.state.held)

@@ -1,17 +1,15 @@
-"""The page rule, as plain and slow as can be: a list in pages is a list of lists, and nothing is shared with the
-program.
+"""The page rule in its simplest form, independent of the program: a list in pages is a list of lists.
 
-A command touches one page of a list at most and makes new lists of its items. All other pages stay the very lists that
-they were, so whoever keeps pages can tell by `is` which ones no command has touched.
+A command touches at most one page of a list and makes new lists of its items. All other pages remain the same Python
+objects, so `is` shows which pages no command has touched.
 """
 
-# The most items of a page: above it a touched page of records is cut, into pages of the second number. A page of
-# changes is never longer.
+# The most items of a page. A longer touched page of records is cut into pages of CUT; no page of changes is longer.
 MOST, CUT = 64, 32
 
 
 def cut(page):
-    """The pages that a touched page of records becomes: none where nothing is left in it."""
+    """Cut a touched page of records into pages; no page is left if it has no items."""
     pages = []
     while len(page) > MOST:
         pages.append(page[:CUT])
@@ -20,18 +18,18 @@ def cut(page):
 
 
 def home(pages, name):
-    """The place of the last page whose first name is not above this one, or of the first page."""
+    """Return the place of the last page whose first name is not above this one, or of the first page."""
     places = [place for place, page in enumerate(pages) if page[0][0] <= name]
     return places[-1] if places else 0
 
 
 def holds(pages, name):
-    """Whether a page has an item of this name."""
+    """Return whether a page has an item of this name."""
     return any(name == item[0] for page in pages for item in page)
 
 
 def bound(pages, item):
-    """A list of records with this one, whose name comes first in it, in the place of any of that name."""
+    """Return a list of records with this item instead of any with its name, which is the item's first field."""
     if not pages:
         return [[item]]
     place = home(pages, item[0])
@@ -40,16 +38,16 @@ def bound(pages, item):
 
 
 def unbound(pages, name):
-    """A list of records without the one of this name, which it has."""
+    """Return a list of records without the item of this name, which must be in it."""
     place = home(pages, name)
     others = [other for other in pages[place] if other[0] != name]
     return [*pages[:place], *cut(others), *pages[place + 1 :]]
 
 
 def dropped(pages, count):
-    """A list of changes without its first ones.
+    """Return a list of changes without its first `count` ones.
 
-    What is left of the page in which the cut falls is cut anew, the last page with the rest.
+    The rest of the page in which the cut falls is cut into pages again; the last of these may be shorter.
     """
     while pages and len(pages[0]) <= count:
         count, pages = count - len(pages[0]), pages[1:]
@@ -60,18 +58,17 @@ def dropped(pages, count):
 
 
 def appended(pages, change):
-    """A list of changes with one more."""
+    """Return a list of changes with one more change."""
     if pages and len(pages[-1]) < MOST:
         return [*pages[:-1], [*pages[-1], change]]
     return [*pages, [change]]
 
 
 class Lists:
-    """The three lists of a source in pages. A record is its name and moment; a change is its name, what happened and
-    its moment.
+    """The three lists of a source in pages. A record is a name and a moment; a change is a name, its kind and a moment.
 
-    Changes go in parts of `limit`, of which the first that is kept has the number `first`; they begin after `begin`,
-    and `at` is the moment of the latest publication.
+    Changes are cut into parts of `limit`. The first kept part has the number `first`, the kept changes begin after
+    `begin`, and `at` is the moment of the latest publication.
     """
 
     def __init__(self, limit, catalogue=(), changes=(), published=(), last=0, at=0, first=0, begin=0):
@@ -79,7 +76,7 @@ class Lists:
         self.limit, self.last, self.at, self.first, self.begin = limit, last, at, first, begin
 
     def put(self, name):
-        """Puts a name, and tells what happened."""
+        """Put a name, and return the kind of the change."""
         what = "updated" if holds(self.catalogue, name) else "created"
         self.last += 1
         self.catalogue = bound(self.catalogue, (name, self.last))
@@ -87,7 +84,7 @@ class Lists:
         return what
 
     def delete(self, name):
-        """Deletes a name, and tells what happened, or that the name is not held."""
+        """Delete a name, and return `deleted`, or `refused` if the name is not held."""
         if not holds(self.catalogue, name):
             return "refused"
         self.last += 1
@@ -96,7 +93,7 @@ class Lists:
         return "deleted"
 
     def publish(self):
-        """Publishes, and drops the full parts of the changes that end no later than the publication before this one."""
+        """Publish, and drop the full parts of the changes that end no later than the publication before this one."""
         moments = [moment for page in self.changes for _, _, moment in page]
         parts = sum(moment <= self.at for moment in moments) // self.limit
         if parts:

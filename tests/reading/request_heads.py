@@ -1,20 +1,18 @@
-"""What a request's head is: the bytes that the crate httparse, of version 1, reads as one in its default
-configuration.
+"""The grammar of a request's head: the bytes that the crate httparse, version 1, accepts in its default configuration.
 
-docs/HTTP.md leaves to that crate alone what "the head does not parse" means. This is a plain reading of its grammar,
-spelled apart from it and from the program: the empty lines that may come first, the classes of bytes, the one space
-between the parts of the first line, the two ends of a line, and what it does not take (a folded line, a space before
-a colon, a bare CR).
+docs/HTTP.md defines "the head does not parse" by that crate alone. This grammar is independent of the crate and of the
+program: empty lines in front, the classes of bytes, the single space between the parts of the first line, the two line
+endings, and the rejected forms (a folded line, a space before a colon, a bare CR).
 """
 import collections
 import re
 
-# `minor` is 0 or 1. A field is a name and its value, which has no space or tab at its ends.
+# `minor` is 0 or 1. A field is a name and its value, without spaces and tabs at its ends.
 Head = collections.namedtuple("Head", "method target minor fields")
 TOKEN = rb"[!#$%&'*+\-.^_`|~0-9A-Za-z]+"
-# Any byte but those up to the space, and DEL.
+# Any byte except the space, those below it, and DEL.
 TARGET = rb"[\x21-\x7e\x80-\xff]+"
-# The same with spaces and tabs.
+# The same bytes, and spaces and tabs.
 VALUE = rb"[\t\x20-\x7e\x80-\xff]*"
 END = rb"\r?\n"
 FIRST = re.compile(rb"(?:" + END + rb")*(" + TOKEN + rb") (" + TARGET + rb") HTTP/1\.([01])" + END)
@@ -23,7 +21,7 @@ EMPTY = re.compile(END)
 
 
 def is_text(data):
-    """Whether bytes are UTF-8, as a target has to be."""
+    """Return whether the bytes are UTF-8, as a target must be."""
     try:
         data.decode()
     except UnicodeDecodeError:
@@ -32,7 +30,7 @@ def is_text(data):
 
 
 def head_of(data):
-    """The head that these bytes are, from the first to the last, or None."""
+    """Parse all of these bytes as one head; return None if they are not a head."""
     first = FIRST.match(data)
     if not first or not is_text(first[2]):
         return None

@@ -1,6 +1,6 @@
-"""What a request is answered, byte for byte, by the tables of docs/HTTP.md, written apart from the program.
+"""The exact response to a request, by the tables of docs/HTTP.md, independent of the program.
 
-request_heads.py says whether a head parses, and front_model.py what a source answers.
+request_heads.py decides whether a head parses, and front_model.py how a source answers.
 """
 import datetime
 import email.utils
@@ -46,13 +46,13 @@ STATUS_OF = {word: status for status, words in STATUSES.items() for word in word
 
 
 def date_of(moment):
-    """A moment as the date of HTTP (RFC 9110, section 5.6.7), cut to its second."""
+    """Return a moment as an HTTP date (RFC 9110, section 5.6.7), in whole seconds."""
     time = datetime.datetime(1970, 1, 1, tzinfo=datetime.timezone.utc) + datetime.timedelta(seconds=moment // 1_000)
     return email.utils.format_datetime(time, usegmt=True)
 
 
 def response(status, date, kind, body, allowed=(), is_head=False):
-    """The bytes of a response. Only a body that there may be has a type, and a length."""
+    """Return the bytes of a response. It has a type and a length only if its status allows a body."""
     lines = [f"HTTP/1.1 {status} {REASONS[status]}", f"Date: {date}", "Connection: close"]
     lines += [f"Allow: {', '.join(allowed)}"] if allowed else []
     lines += [f"Content-Type: {kind}"] if status not in (201, 204) else []
@@ -61,7 +61,7 @@ def response(status, date, kind, body, allowed=(), is_head=False):
 
 
 def head_within(sent):
-    """The head's bytes, which end at the first empty line, and those behind it."""
+    """Return the bytes of the head, which ends at the first empty line, and the bytes after it."""
     end = END.search(sent, 0, MOST_BYTES)
     if not end:
         raise Refused("HeadTooLong" if len(sent) >= MOST_BYTES else "BadHead")
@@ -69,37 +69,37 @@ def head_within(sent):
 
 
 class Request:
-    """A head that parses, and the bytes behind it."""
+    """A head that parses, and the bytes after it."""
 
     def __init__(self, head, rest):
         self.method, self.minor, self.rest, self.fields = head.method.decode(), head.minor, rest, head.fields
         self.path = SCHEME.sub(b"", head.target, count=1) or b"/" if SCHEME.match(head.target) else head.target
 
     def values(self, name):
-        """The values of all fields of this name."""
+        """Return the values of all fields of this name."""
         return [value for field, value in self.fields if field.lower() == name]
 
     def length(self):
-        """What Content-Length says, or None."""
+        """Return the value of Content-Length, or None."""
         found = self.values(b"content-length")
         if len(found) > 1 or found and not LENGTH.fullmatch(found[0]):
             raise Refused("BadLength")
         return int(found[0]) if found else None
 
     def kind(self):
-        """What Content-Type says."""
+        """Return the value of Content-Type, or the default type."""
         found = self.values(b"content-type")
         if len(found) > 1:
             raise Refused("BadType")
         return type_of(found[0]) if found else "application/octet-stream"
 
     def waits(self, length):
-        """Whether the client waits for the word to go on."""
+        """Return whether the client waits for `100 Continue`."""
         is_asked = b"100-continue" in [value.lower() for value in self.values(b"expect")]
         return is_asked and self.minor == 1 and length > 0
 
     def look(self):
-        """The causes that do not depend on what is asked for."""
+        """Refuse the request for causes that do not depend on its path."""
         if len(self.fields) > MOST_FIELDS:
             raise Refused("ManyFields")
         hosts = len(self.values(b"host"))
@@ -110,7 +110,7 @@ class Request:
         self.length()
 
     def allowed(self):
-        """The methods that the path allows."""
+        """Return the methods that the path allows."""
         if self.path.startswith(RESOURCE):
             name_of(self.path[len(RESOURCE) :])
             return OF_RESOURCES
@@ -122,13 +122,13 @@ class Request:
 
 
 class Judge:
-    """Answers requests to a source, each on a connection of its own."""
+    """Answers requests to a source, one per connection."""
 
     def __init__(self, source):
         self.source = source
 
     def answer(self, sent, now):
-        """What is answered to these bytes, behind which the client ends its side, at a moment."""
+        """Return the response to these bytes at a moment. The client ends its side after them."""
         if not sent:
             return b""
         date, request, allowed = date_of(now), None, ()
@@ -153,7 +153,7 @@ class Judge:
             return response(STATUS_OF[refusal.word], date, "text/plain", f"{refusal.word}\n".encode(), allowed, is_head)
 
     def answer_parts(self, request, date, now):
-        """The status, the date, the type and the body that answer a request that has no body."""
+        """Return the status, the date, the type and the body of the response to a request without a body."""
         if request.method == "POST":
             return 200, date, "text/plain", self.source.publish(now).encode() + b"\n"
         if not request.path.startswith(RESOURCE):
@@ -166,7 +166,7 @@ class Judge:
         return 200, date, kind, body
 
     def group(self, request, date, now):
-        """The answer to a group: the word to go on comes before its body is read."""
+        """Return the response to a group, with `100 Continue` before its body is read."""
         length = request.length()
         if length is None:
             raise Refused("NoLength")
@@ -182,7 +182,7 @@ class Judge:
             return before + response(STATUS_OF[refusal.word], date, "text/plain", f"{refusal.word}\n".encode())
 
     def put(self, request, date, now):
-        """The answer to a PUT: the word to go on comes before the source is asked."""
+        """Return the response to a PUT, with `100 Continue` before the source is asked."""
         name, length = request.path[len(RESOURCE) :].decode(), request.length()
         if length is None:
             raise Refused("NoLength")

@@ -1,1 +1,1 @@
-"""The worked rows, and what runs them."""
+"""The worked rows, and the tests that run them."""

@@ -1,25 +1,26 @@
-"""Reads the worked rows: their places, the commands of a session, and the exchanges of HTTP.
+"""Read the worked rows: their paths, the commands of a session, and the exchanges of HTTP.
 
-README.md says how they are written.
+README.md describes their form.
 """
-import pathlib
 import re
 import shlex
+from collections.abc import Iterator
+from pathlib import Path
 
-ROWS = pathlib.Path(__file__).resolve().parent
+ROWS = Path(__file__).resolve().parent
 ENDS = {b" ": b"\r\n", b"+": b"\n", b"-": b""}
 
 
-def written_out(text):
-    """A line with each `{0xHEX}` written out as the bytes of its digits, then each `{N text}` as N times the text."""
+def written_out(text: bytes) -> bytes:
+    """Return a line with `{0xHEX}` replaced by bytes, and `{N text}` by N copies of the text."""
     text = re.sub(rb"\{0x([0-9a-f]+)\}", lambda match: bytes.fromhex(match[1].decode()), text)
     return re.sub(rb"\{(\d+) ([^{}]+)\}", lambda match: match[2] * int(match[1]), text)
 
 
-def steps_of(text):
-    """The steps of a session: a command's words, its input, and what is wanted of it."""
-    steps = []
-    # An empty line before a command or a remark, or at the end, is for the reader.
+def steps_of(text: bytes) -> list[tuple[list[str], bytes, bytes]]:
+    """Return the steps of a session: the arguments of a command, its input, and its expected output."""
+    steps: list[tuple[list[str], list[bytes], list[bytes]]] = []
+    # An empty line before a command or a remark, or at the end, has no meaning.
     for line in re.sub(rb"(?m)^\n(?=[$#]|\Z)", b"", text).splitlines(keepends=True):
         if line.startswith(b"$ "):
             steps.append((shlex.split(written_out(line[2:]).decode(errors="surrogateescape")), [], []))
@@ -32,9 +33,9 @@ def steps_of(text):
     return [(words, b"".join(script), b"".join(wanted)) for words, script, wanted in steps]
 
 
-def exchanges_of(text):
-    """The exchanges of a row of HTTP: the bytes that are sent, and the bytes that come back."""
-    exchanges, mark = [], b""
+def exchanges_of(text: bytes) -> list[tuple[bytes, bytes]]:
+    """Return the exchanges of an HTTP row: pairs of request and response bytes."""
+    exchanges, mark = list[list[bytes]](), b""
     for line in text.splitlines():
         if not line or line.startswith(b"#"):
             mark = b""
@@ -45,4 +46,13 @@ def exchanges_of(text):
         end = ENDS[line[1:2] or b" "]
         text = line[3:] if line[1:2] in (b"+", b"-") else line[2:]
         exchanges[-1][(b">", b"<").index(mark)] += written_out(text) + end
-    return exchanges
+    return [(sent, wanted) for sent, wanted in exchanges]
+
+
+def disk_rows() -> Iterator[tuple[list[str], str]]:
+    """Yield the arguments of every disk in the rows and the right answer, without the slow disks."""
+    for row in sorted(ROWS.glob("*.disks")):
+        for line in row.read_text().splitlines():
+            words = written_out(line.encode()).decode().split()
+            if words and not line.startswith("#") and not re.search(r"^\d|size=\d{8}", line):
+                yield words[:-1], words[-1]

@@ -1,1 +1,1 @@
-"""The program at the edges of its system, and what stands beside it: a check a file."""
+"""Tests of the program at the edges of its system, and of its companions."""

@@ -1,72 +1,78 @@
-"""The calls on its file that a source has to make, by docs/DISK.md, docs/CRASH.md and docs/FILE-DISK.md, apart from the
-program.
+"""The calls that a source must make on its file by docs/DISK.md, docs/CRASH.md and docs/FILE-DISK.md, computed
+independently of the program.
 
-Each list has the texts of noted_calls.py. Where a part goes is found here: into the lowest run of free blocks of its
-size, one part after the other. How long a part is, and which pages are new, is read off the disk behind the command
-(disk_reader.py).
+The lists have the texts of noted_calls.py. These functions compute the places of the parts: the lowest run of free
+blocks that fits, one part after another. They read the lengths of the parts, and the set of new pages, from the disk
+after the command (disk_reader.py).
 """
 import os
+from collections.abc import Iterable
+from typing import Any
 
 from tests.reading import disk_reader
 from tests.reading.disk_formats import BLOCK
 
-# The bytes of the pieces in which `verify`, a copy and a request read a body; over HTTP it comes in pieces.
+# The size of the pieces in which `verify`, a copy and a request read a body, and in which HTTP writes it, in bytes.
 LOOKED, SHOWN, CAME = 16_384, 262_144, 4_096
-# The bytes of a slot that are read, and those that a new root has in it.
+# The bytes of a slot that an opening reads, and those of a new root.
 SLOT, GATE, PAYLOAD = 54, 1, 53
-# How a file is locked: for this process alone, and without waiting.
+# The lock of a file: exclusive and without waiting.
 ALONE = 2 | 4
 
 
-class Blocks:
-    """Which blocks of a disk are free."""
+# The bytes of a disk, perhaps sparse.
+Disk = Any
 
-    def __init__(self, size, extents=()):
+
+class Blocks:
+    """The free blocks of a disk."""
+
+    def __init__(self, size: int, extents: Iterable[tuple[int, int]] = ()) -> None:
         self.used = bytearray(size // BLOCK)
         for first, blocks in [(0, 2), *extents]:
             self.used[first : first + blocks] = b"\1" * blocks
 
-    def place(self, length):
-        """The byte at which this many bytes go, whose blocks are used from then on."""
+    def place(self, length: int) -> int:
+        """Allocate blocks for this many bytes; return the offset of the first."""
         blocks = -(-length // BLOCK)
         first = self.used.index(bytes(blocks))
         self.used[first : first + blocks] = b"\1" * blocks
         return first * BLOCK
 
 
-def pieces(call, name, at, length, size=None):
-    """The calls on a body that lies from a byte on, in pieces of a size. A body of no bytes has none."""
+def pieces(call: str, name: str, at: int, length: int, size: int | None = None) -> list[str]:
+    """Return the calls that transfer a body from an offset on, in pieces of a size. An empty body has none."""
     size = size or max(length, 1)
     return [f"{call} {name} {at + begin} {min(size, length - begin)}" for begin in range(0, length, size)]
 
 
-def settled(name, length=None):
-    """How an opened file is looked at, locked, given its length where it is new, settled and measured."""
+def settled(name: str, length: int | None = None) -> list[str]:
+    """Return the calls that check, lock, extend (a new file), sync and measure an opened file."""
     made = [] if length is None else [f"length {name} {length}"]
     dropping = f"advise {name} 0 0 {os.POSIX_FADV_DONTNEED}"
     return [f"measure {name}", f"lock {name} {ALONE}", *made, f"sync {name}", dropping, f"measure {name}"]
 
 
-def making(name, size, folder="."):
-    """How a file is made: its folder is synced when it is there."""
+def making(name: str, size: int, folder: str = ".") -> list[str]:
+    """Return the calls that make a file and sync its folder."""
     return [f"make {name}", *settled(name, size), f"open {folder}", f"sync {folder}", f"close {folder}"]
 
 
-def gate(name, at):
-    """How the gate of a slot is set."""
+def gate(name: str, at: int) -> list[str]:
+    """Return the calls that open the gate of a slot."""
     return [f"write {name} {at} {GATE}", f"sync {name}"]
 
 
-def formatting(name, disk, folder="."):
-    """How a source is made on a new file."""
+def formatting(name: str, disk: Disk, folder: str = ".") -> list[str]:
+    """Return the calls that make a source on a new file."""
     length = disk_reader.root(disk).directory.length
     first = [f"write {name} {2 * BLOCK} {length}", f"write {name} 0 {BLOCK}", f"write {name} {BLOCK} {BLOCK}",
              f"sync {name}"]
     return [*making(name, len(disk), folder), *first, *gate(name, 0)]
 
 
-def opening(name, disk):
-    """How a source is opened: a published page that is a catalogue page too is read once."""
+def opening(name: str, disk: Disk) -> list[str]:
+    """Return the calls that open a source. A published page that is also a page of the catalogue is read once."""
     source = disk_reader.source_of(disk)
     catalogue = {page.entry for page in source.catalogue}
     listed = [page for page in source.published if page.entry not in catalogue]
@@ -76,46 +82,46 @@ def opening(name, disk):
             *reads]
 
 
-def committing(name, before):
-    """How the root is changed: the spare is closed where it is open, then written, then opened."""
+def committing(name: str, before: Disk) -> list[str]:
+    """Return the calls that change the root: close the spare if it is open, write it, open it."""
     generation = disk_reader.root(before).generation.to_bytes(8, "big")
     spare = BLOCK if before[0] == 1 and before[2:10] == generation else 0
     closing = gate(name, spare) if before[spare] == 1 else []
     return [*closing, f"write {name} {spare + GATE} {PAYLOAD}", f"sync {name}", *gate(name, spare)]
 
 
-def changing(name, before, after, bodies=(), piece=None):
-    """A command that is accepted and writes bodies of these lengths: one write for each part, and then the commit."""
+def changing(name: str, before: Disk, after: Disk, bodies: Iterable[int] = (), piece: int | None = None) -> list[str]:
+    """Return the calls of an accepted command with bodies of these lengths: one write per part, and the commit."""
     old, new = disk_reader.source_of(before), disk_reader.source_of(after)
     shared = {page.entry for pages in (old.catalogue, old.changes, old.published) for page in pages}
     pages = [page.entry.length for page in [*new.catalogue, *new.changes] if page.entry not in shared]
     blocks = Blocks(len(before), disk_reader.extents(old))
-    # The body of a put comes in pieces; what a plan has beside it goes behind it.
+    # The body of a put comes in pieces; the other parts of its plan follow it.
     placed = [(blocks.place(length), length, piece) for length in bodies]
     placed += [(blocks.place(length), length, None) for length in [*pages, new.directory.length]]
     writes = [call for at, length, size in placed for call in pieces("write", name, at, length, size)]
     return writes + committing(name, before)
 
 
-def records_of(disk):
-    """The records of a disk."""
+def records_of(disk: Disk) -> list[Any]:
+    """Return the records of a disk."""
     return [record for page in disk_reader.source_of(disk).catalogue for record in page.items]
 
 
-def verifying(name, disk):
-    """Each body is read once, in pieces."""
+def verifying(name: str, disk: Disk) -> list[str]:
+    """Return the calls that read every body once, in pieces."""
     return [call for record in records_of(disk)
             for call in pieces("read", name, record.first * BLOCK, record.length, LOOKED)]
 
 
-def showing(name, disk, resource):
-    """The body of a resource that is held is read once, in pieces."""
+def showing(name: str, disk: Disk, resource: bytes) -> list[str]:
+    """Return the calls that read the body of a resource once, in pieces."""
     found = [record for record in records_of(disk) if record.name == resource]
     return [call for record in found for call in pieces("read", name, record.first * BLOCK, record.length, SHOWN)]
 
 
-def copying_bodies(name, disk, to, blocks, last=None):
-    """How bodies are copied to a new file of these blocks, up to this one: each piece is written when it was read."""
+def copying_bodies(name: str, disk: Disk, to: str, blocks: Blocks, last: bytes | None = None) -> list[str]:
+    """Return the calls that copy bodies to a new file of this many blocks, up to `last`: reads and writes in turn."""
     calls = [*making(to, len(blocks.used) * BLOCK), f"write {to} 0 {GATE}", *gate(to, BLOCK)]
     records = records_of(disk)
     places = [blocks.place(record.length) for record in records]
@@ -128,8 +134,8 @@ def copying_bodies(name, disk, to, blocks, last=None):
     return calls
 
 
-def copying(name, disk, to, copy):
-    """How a source that is open is copied to a new file."""
+def copying(name: str, disk: Disk, to: str, copy: Disk) -> list[str]:
+    """Return the calls that copy an open source to a new file."""
     new, blocks = disk_reader.source_of(copy), Blocks(len(copy))
     calls = copying_bodies(name, disk, to, blocks)
     pages = [page.entry.length for page in [*new.catalogue, *new.changes, *new.published]]
@@ -138,9 +144,9 @@ def copying(name, disk, to, copy):
     return [*calls, f"write {to} {GATE} {BLOCK - GATE}", f"sync {to}", *gate(to, 0)]
 
 
-def closes(calls):
-    """How the files that these calls have open are closed, in any order."""
-    open_now = []
+def closes(calls: Iterable[str]) -> list[str]:
+    """Return the calls that close the files that these calls opened."""
+    open_now = list[str]()
     for call in calls:
         name, path = call.split(" ")[:2] if " " in call else (call, "")
         if name in ("open", "make") and not call.endswith(" fails"):

@@ -1,38 +1,51 @@
-"""The calls that each command makes of its file, from a script and over HTTP, held against the rules of call_rules.py.
+"""Compare the calls that commands make on their file, from a script and over HTTP, with the rules of call_rules.py.
 
-The lists are compared whole: a call that is left out, that is made once more, that comes earlier, or that has another
-place or length is a difference. Then each call fails in turn, of short scripts on a new disk, on one whose pages the
-commands cut, and on one with damaged bodies. Behind one that fails within a command nothing more is asked of the file
-but to close it; behind one that fails as a body is looked at the next command makes its calls as ever.
+The whole lists are compared: a missing, repeated or earlier call, another place or another length is a difference. Then
+every call fails in turn, in short scripts on a new disk, on a disk whose pages the commands split, and on a disk with
+damaged bodies. After a failure within a command the program only closes the file; after a failure while it reads a body
+the next command makes its usual calls.
 """
-import collections
 import pathlib
+from collections.abc import Callable, Sequence
+from typing import Any, NamedTuple
 
 from tests.disks import paged_disk
 from tests.reading import disk_reader
 from tests.reading.disk_formats import BLOCK
 from tests.served_source import connected, exchanged, served
 from tests.system import call_rules
-from tests.system.noted_calls import texts
+from tests.system.noted_calls import Call, Outcome, Room, texts
 
 DISK, SIZE = "source.disk", 1_048_576
 AT, RUN = "at 951782400000", ["run", DISK]
-# The calls that are made to fail, by their names.
+# The names of the calls that are made to fail.
 FAILING = ("make", "open", "measure", "lock", "length", "sync", "advise", "read", "write")
-# A line, and the lengths of the bodies that it writes, in their order, or None where it changes nothing.
-Line = collections.namedtuple("Line", "text bodies")
-# Some calls that belong together: how many lines were read before, the calls on files, and whether they only look at
-# bodies.
-Part = collections.namedtuple("Part", "lines calls looks")
+# A function that compares two lists or texts; its first argument is their title.
+Compare = Callable[[str, Any, Any], None]
 
 
-def put(name, length):
-    """The line of a put of this many bytes."""
+class Line(NamedTuple):
+    """A line or a request, and the lengths of the bodies that it writes, in order, or None if it changes nothing."""
+
+    text: Any
+    bodies: list[int] | None
+
+
+class Part(NamedTuple):
+    """Calls that belong together: the number of lines before them, the calls, and whether they only read bodies."""
+
+    lines: int
+    calls: list[str]
+    looks: bool
+
+
+def put(name: str, length: int) -> str:
+    """Return the line of a put of this many bytes."""
     return f"put {name} {'61' * length or '-'} text/plain"
 
 
-def group(*items):
-    """The lines of a group."""
+def group(*items: str) -> str:
+    """Return the lines of a group."""
     return "\n".join([f"group {len(items)}", *items])
 
 
@@ -51,7 +64,7 @@ SHORT = [
     Line("status", None),
     Line("verify", None),
 ]
-# Pages are cut and left, parts are dropped, and a body is read in two pieces.
+# These commands split pages and leave some, drop parts, and read a body in two pieces.
 LONG = [
     *SHORT,
     Line(put("large", 270_000), [270_000]),
@@ -64,8 +77,7 @@ LONG = [
     Line("publish", []),
     Line("verify", None),
 ]
-# What the second script begins with: as many resources and changes as a page has, so that each command writes two pages
-# of one list.
+# The second script begins with a full page of resources and of changes: every command writes two pages of a list.
 FULL_PAGE = 64
 CUTTING = [
     Line(AT, None),
@@ -77,8 +89,8 @@ CUTTING = [
     Line(group(*(put(f"name{at:05d}", at) for at in range(2, 64, 4))), list(range(2, 64, 4))),
     Line("publish", []),
 ]
-# What the third begins with, and the resources whose bodies are then damaged, each at this byte: the first, one of some
-# pieces in its last, and the last.
+# The bodies of the third script, and the offsets of the damaged bytes: in the first body, in the last piece of a long
+# body, and in the last body.
 WHOLE = [Line(AT, None), Line(put("a", 3), [3]), Line(put("b", 20_000), [20_000]), Line(put("c", 600_000), [600_000]),
          Line(put("d", 5), [5])]
 DAMAGED = {"a": 0, "c": 599_999, "d": 4}
@@ -94,13 +106,13 @@ LOOKING = [
 HOST = "HTTP/1.1\r\nHost: a\r\n"
 
 
-def request(method, path, body=b""):
-    """The bytes of a request."""
+def request(method: str, path: str, body: bytes = b"") -> bytes:
+    """Return the bytes of a request."""
     length = f"Content-Length: {len(body)}\r\n" if method != "GET" else ""
     return f"{method} {path} {HOST}Content-Type: text/plain\r\n{length}\r\n".encode() + body
 
 
-# A request, and what it writes, as of a line.
+# Requests with the lengths of the bodies that they write.
 REQUESTS = [
     Line(request("PUT", "/resource/p", b"x" * 10_000), [10_000]),
     Line(request("PUT", "/resource/q", b"x" * 8_192), [8_192]),
@@ -114,15 +126,16 @@ REQUESTS = [
 ]
 
 
-def made(room):
-    """A new source."""
+def made(room: Room) -> bytes:
+    """Return the bytes of a new source."""
     room.clear(DISK)
     room.run(["format", DISK, str(SIZE), "http://127.0.0.1:8080", "2"])
-    return room.bytes(DISK)
+    return room.content(DISK)
 
 
-def calls_by_rule(name, line, before, after, piece=None):
-    """The calls that a line has to make, where the disk is so before and behind it, and whether it only looks."""
+def calls_by_rule(name: str, line: Line, before: bytes, after: bytes,
+                  piece: int | None = None) -> tuple[list[str], bool]:
+    """Return the calls that a line must make between these two disks, and whether it only reads."""
     text = line.text if isinstance(line.text, str) else line.text.decode("latin-1")
     word, _, rest = text.partition(" ")
     path = rest.split(" ")[0]
@@ -136,42 +149,43 @@ def calls_by_rule(name, line, before, after, piece=None):
 
 
 class Scripted:
-    """A script on a disk or a new one: the disk behind each line, the part of each line, and the list of all calls."""
+    """A script on a new or a given disk: the disk and the part after every line, and the list of all calls."""
 
-    def __init__(self, room, lines, disk=None):
-        self.room, self.lines, self.disks, self.answers, parts = room, lines, [disk or made(room)], [], []
+    def __init__(self, room: Room, lines: list[Line], disk: bytes | None = None) -> None:
+        self.room, self.lines, self.disks = room, lines, [disk or made(room)]
+        self.answers, parts = list[bytes](), list[Part]()
         room.put(self.disks[0], DISK)
         for line in lines:
             self.answers.append(room.run(RUN, f"{AT}\n{line.text}\n".encode()).output.split(b"\n", 1)[1])
-            self.disks.append(room.bytes(DISK))
-            parts.append(Part(line.text.count("\n") + 1, *calls_by_rule(DISK, line, *self.disks[-2:])))
+            self.disks.append(room.content(DISK))
+            parts.append(Part(line.text.count("\n") + 1, *calls_by_rule(DISK, line, self.disks[-2], self.disks[-1])))
         self.parts = [Part(0, call_rules.opening(DISK, self.disks[0]), False), *parts]
         self.script = "".join(f"{line.text}\n" for line in lines).encode()
 
-    def run(self, **settings):
-        """A run of the script on the first disk."""
+    def run(self, **settings: object) -> Outcome:
+        """Run the script on the first disk."""
         self.room.put(self.disks[0], DISK)
         return self.room.run(RUN, self.script, **settings)
 
-    def framed(self, part, calls):
-        """A part with the line and the answer around its calls."""
+    def framed(self, part: Part, calls: list[str]) -> list[str]:
+        """Return the calls of a part between its lines and its answer."""
         return [*["line"] * part.lines, *calls, *["answer"] * bool(part.lines)]
 
-    def wanted(self):
-        """The list of all calls."""
+    def wanted(self) -> list[str]:
+        """Return the list of all calls."""
         every = [call for part in self.parts for call in self.framed(part, part.calls)]
         return [*every, "line", f"close {DISK}"]
 
-    def place(self, number):
-        """The part in which the call of this number is, and its number there."""
+    def place(self, number: int) -> tuple[int, int]:
+        """Return the part that contains the call of this number, and its number within the part."""
         for at, part in enumerate(self.parts):
             if number < len(part.calls):
                 return at, number
             number -= len(part.calls)
         raise IndexError(number)
 
-    def wanted_behind(self, number):
-        """The list of all calls where the one of this number fails."""
+    def wanted_behind(self, number: int) -> list[str]:
+        """Return the list of all calls if the call of this number fails."""
         at, inner = self.place(number)
         before = [call for part in self.parts[:at] for call in self.framed(part, part.calls)]
         part = self.parts[at]
@@ -181,8 +195,8 @@ class Scripted:
         every = [*before, *failed, *later, *["line"] * bool(at)]
         return [*every, *call_rules.closes(every)]
 
-    def output_behind(self, number):
-        """What is written where the call of this number fails: the status, the output and the messages."""
+    def output_behind(self, number: int) -> tuple[int, bytes, bytes]:
+        """Return the status, the output and the messages if the call of this number fails."""
         at, _ = self.place(number)
         if not at:
             return 1, b"", b"rs_source: Device\n"
@@ -192,25 +206,25 @@ class Scripted:
         return 0, b"".join([*self.answers[: at - 1], b"refused Device\n", *later]), b""
 
 
-def closed(line, answer):
-    """The answer of a closed source to a line that is answered so by an open one."""
+def closed(line: Line, answer: bytes) -> bytes:
+    """Return the answer of a closed source to a line, given that of an open one."""
     is_asked = answer != b"ok\n" and b"BadHex" not in answer
     return b"refused Closed\n" if is_asked else answer
 
 
-def numbered(calls):
-    """The numbers in the list of those calls that are made to fail."""
+def numbered(calls: list[Call]) -> list[int]:
+    """Return the numbers of the calls that are made to fail."""
     return [at for at, call in enumerate(calls, 1) if call.name in FAILING]
 
 
-def full_page():
-    """A disk of FULL_PAGE resources, all in one page, which are published; it has some more room."""
+def full_page() -> bytes:
+    """Return a disk with FULL_PAGE published resources in one page, and some free blocks."""
     whole = paged_disk.spelled(FULL_PAGE, FULL_PAGE)
     return whole[: len(whole) - (paged_disk.ROOM - 512) * BLOCK]
 
 
-def damaged(room):
-    """A disk with damaged bodies."""
+def damaged(room: Room) -> bytes:
+    """Return a disk with damaged bodies."""
     disk = bytearray(Scripted(room, WHOLE).disks[-1])
     for record in call_rules.records_of(bytes(disk)):
         if (name := record.name.decode()) in DAMAGED:
@@ -218,32 +232,16 @@ def damaged(room):
     return bytes(disk)
 
 
-def look_at_script(room, compare):
-    """The whole list of a long script, and those of short ones where each call fails in turn.
-
-    Gives the first of these.
-    """
-    look_at_whole("a long script", Scripted(room, LONG), compare)
-    short = Scripted(room, SHORT)
-    look_at_failing("a script", short, compare)
-    for what, lines, disk in [("a script that cuts pages", CUTTING, full_page()),
-                              ("a script on damaged bodies", LOOKING, damaged(room))]:
-        scripted = Scripted(room, lines, disk)
-        look_at_whole(what, scripted, compare)
-        look_at_failing(what, scripted, compare)
-    return short
-
-
-def look_at_whole(what, scripted, compare):
-    """The list of all calls of a script, its answers, and its disk."""
+def look_at_whole(what: str, scripted: Scripted, compare: Compare) -> None:
+    """Compare the calls, the answers and the disk of a script."""
     outcome = scripted.run()
     compare(what, texts(outcome.calls), scripted.wanted())
     compare(f"{what}: its answers", [outcome.output], [b"".join(scripted.answers)])
-    compare(f"{what}: its disk", [scripted.room.bytes(DISK)], [scripted.disks[-1]])
+    compare(f"{what}: its disk", [scripted.room.content(DISK)], [scripted.disks[-1]])
 
 
-def look_at_failing(name, scripted, compare):
-    """Each call of a script fails in turn."""
+def look_at_failing(name: str, scripted: Scripted, compare: Compare) -> None:
+    """Let every call of a script fail in turn, and compare the calls, the answers and the root."""
     calls = scripted.run().calls
     wanted = sum(len(part.calls) for part in scripted.parts)
     for number, at in enumerate(numbered(calls)[:wanted]):
@@ -255,54 +253,52 @@ def look_at_failing(name, scripted, compare):
         roots = {disk_reader.root(disk).directory for disk in scripted.disks[max(part - 1, 0) : part + 1]}
         if scripted.parts[part].looks:
             roots = {disk_reader.root(scripted.disks[-1]).directory}
-        found = disk_reader.root(scripted.room.bytes(DISK)).directory
+        found = disk_reader.root(scripted.room.content(DISK)).directory
         compare(f"{what}: the root is an old or a new one", [found in roots], [True])
 
 
 class Client:
-    """Requests to a server, one after another: the calls of each."""
+    """Requests to a server, one after another, and their calls."""
 
-    def __init__(self, room):
+    def __init__(self, room: Room) -> None:
         self.room, self.name = room, str(pathlib.Path(room.folder, DISK))
 
-    def ask(self, requests, **settings):
-        """For each request the response, its calls, and the disk behind it; at last the calls when all were served."""
+    def ask(self, requests: Sequence[Line],
+            **settings: object) -> tuple[list[tuple[bytes, list[str], bytes]], list[str]]:
+        """Send requests; return their responses, calls and disks, and all calls of the server."""
         found, environment = [], self.room.environment(ALSO=self.name, **settings)
         with served(self.room.program, self.name, len(requests) + 1, environment) as port:
             before = texts(self.room.noted())
             for request in requests:
                 response, _ = exchanged(port, [request.text])
                 calls = texts(self.room.noted())
-                found.append((response, calls[len(before) :], self.room.bytes(DISK)))
+                found.append((response, calls[len(before) :], self.room.content(DISK)))
                 before = calls
             connected(port).close()
         return found, texts(self.room.noted())
 
 
-def look_at_requests(room, compare):
-    """The calls of each request, and those where each call of each request fails in turn."""
-    client, opened = Client(room), made(room)
-    disk, found = opened, client.ask(REQUESTS)[0]
-    for line, (response, calls, after) in zip(REQUESTS, found, strict=True):
+def look_at_requests(client: Client, compare: Compare) -> None:
+    """Compare the calls of the requests to a new source with the rules."""
+    disk = client.room.content(DISK)
+    for line, (response, calls, after) in zip(REQUESTS, client.ask(REQUESTS)[0], strict=True):
         wanted, _ = calls_by_rule(client.name, line, disk, after, call_rules.CAME)
         compare(f"{line.text[:30]!r}, answered {response[:20]!r}", calls, wanted)
         disk = after
-    look_at_damaged_requests(client, damaged(room), compare)
-    for at in range(len(REQUESTS)):
-        look_at_failing_request(client, opened, at, [calls for _, calls, _ in found[: at + 1]], compare)
 
 
-def look_at_failing_request(client, opened, at, made_before, compare):
-    """Each call of a request fails in turn, which made these calls, behind those of the requests before it.
+def look_at_failing_request(client: Client, opened: bytes, at: int, made_before: list[list[str]],
+                            compare: Compare) -> None:
+    """Let every call of a request fail in turn; `made_before` has the calls of the requests up to it.
 
-    Behind one that changes nothing the next request is answered as ever, behind others the source is closed.
+    After a request that changes nothing the server answers the next one as usual; after others the source is closed.
     """
     what, looks = REQUESTS[at].text[:20], REQUESTS[at].bodies is None
     before = [*call_rules.opening(client.name, opened), "answer"]
     before += [call for calls in made_before[:-1] for call in calls]
     for number, call in enumerate(made_before[-1]):
         client.room.put(opened, DISK)
-        # The line that tells the port is a call too.
+        # The line with the port is also a call.
         found, every = client.ask([*REQUESTS[: at + 1], REQUESTS[at]], FAILS=len(before) + 1 + number)
         again = made_before[-1] if looks else []
         wanted = [*before, *made_before[-1][:number], f"{call} fails", *again, f"close {client.name}"]
@@ -313,8 +309,8 @@ def look_at_failing_request(client, opened, at, made_before, compare):
         compare(f"{failing}: the next one is Closed", [words[1] == b"Closed\n"], [not looks])
 
 
-def look_at_damaged_requests(client, disk, compare):
-    """A damaged body is read once for a request too, and no byte of it is sent."""
+def look_at_damaged_requests(client: Client, disk: bytes, compare: Compare) -> None:
+    """Check that a request reads a damaged body once, and that the server sends none of it."""
     client.room.put(disk, DISK)
     requests = [Line(request("GET", f"/resource/{name}"), None) for name in DAMAGED]
     for line, (response, calls, after) in zip(requests, client.ask(requests)[0], strict=True):

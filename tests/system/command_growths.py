@@ -1,25 +1,24 @@
-"""The bytes of memory that the program asks for in each kind of line and of request, by the figures of
+"""Measure the bytes that the program allocates for every kind of line and request, and compare them with the figures of
 command_memory.py.
 
-What a line asks for is the difference of two runs on the same file: one with it, and one without. So is what a request
-asks for, and its connection with it.
+The bytes of a line are the difference of two runs on the same file, with and without it. The bytes of a request include
+its connection.
 """
 import pathlib
 import subprocess
 from collections.abc import Callable, Iterator
 from dataclasses import dataclass, field
 
-from tests.disks import paged_disk
 from tests.program import ask, interposed
 from tests.system import command_memory
 from tests.system.command_memory import Asking
 from tests.system.counted_growths import COUNTING
 
 BEGIN, SECONDS = b"at 951782400000\n", 120
-# The resources of the disks, and the bytes of the bodies.
+# The numbers of resources on the disks, and the lengths of the bodies in bytes.
 HELD, BODIES = (1, 100, 3_000), (3, 700_000)
-# What a wrong program asks for beside: for each page that it writes, of which a command writes two or more; for each
-# directory; for each plan; for the body of a line, or of an answer, once more.
+# The additional bytes of wrong programs: per written page (two or more per command), per directory, per plan, and for a
+# second copy of the body of a line or of an answer.
 WRONG: dict[str, Callable[[Asking], int]] = {
     "a page of a megabyte": lambda line: 2_000_000 if line.items else 0,
     "a directory of four": lambda line: 4_000_000 if line.items else 0,
@@ -32,12 +31,12 @@ HOST = "HTTP/1.1\r\nHost: a\r\nContent-Type: text/plain\r\n"
 
 
 def put(name: str, length: int) -> str:
-    """The line of a put of this many bytes."""
+    """Return the line of a put of this many bytes."""
     return f"put {name} {'61' * length or '-'} text/plain\n"
 
 
 def lines(resources: int) -> Iterator[Asking]:
-    """Each kind of line, on a disk of this many resources."""
+    """Yield every kind of line for a disk with this many resources."""
     for length in BODIES:
         yield Asking(put("zz", length).encode(), 1)
         yield Asking(put("name00000", length).encode(), 1)
@@ -53,15 +52,8 @@ def lines(resources: int) -> Iterator[Asking]:
     yield Asking(b"no line at all\n")
 
 
-def shown_again(program: str, file: pathlib.Path) -> Asking:
-    """A line that shows a large body, which was put before."""
-    subprocess.run([program, "run", file], input=BEGIN + put("large", BODIES[-1]).encode(), check=True,
-                   capture_output=True, timeout=SECONDS)
-    return Asking(b"show /resource/large\n", shown=BODIES[-1])
-
-
 def requests(resources: int) -> Iterator[tuple[bytes, Asking]]:
-    """Each kind of request, and what it asks of the source: the body of a PUT goes to the file as it comes."""
+    """Yield every kind of request with its demand on the source; the body of a PUT goes to the file as it comes."""
     items = "".join(put(f"g{at}", 2_000) for at in range(13))
     for method, path, body, asking in [
         ("GET", "/resource/name00000", "", Asking(b"", shown=3)),
@@ -78,7 +70,7 @@ def requests(resources: int) -> Iterator[tuple[bytes, Asking]]:
 
 @dataclass
 class Looks:
-    """What was looked at: how much, what is wrong, and which wrong programs are noticed."""
+    """The number of measurements, the faults, and the wrong programs that would be noticed."""
 
     program: str
     file: pathlib.Path
@@ -87,13 +79,13 @@ class Looks:
     noticed: set[str] = field(default_factory=set)
 
     def run(self, script: bytes) -> int:
-        """The bytes that a run of this script asks for."""
+        """Return the bytes that a run of this script allocates."""
         finished = subprocess.run([self.program, "run", self.file], env=self.counting(), input=script,
                                   capture_output=True, timeout=SECONDS)
         return int(finished.stderr.split()[-1])
 
     def serve(self, request: bytes) -> int:
-        """The bytes that a server of one connection asks for."""
+        """Return the bytes that a server of one connection allocates."""
         words, pipe = [self.program, "serve", str(self.file), "0", "1"], subprocess.PIPE
         with subprocess.Popen(words, env=self.counting(), stdout=pipe, stderr=pipe) as server:
             assert server.stdout and server.stderr
@@ -101,37 +93,38 @@ class Looks:
             return int(server.stderr.read().split()[-1])
 
     def counting(self) -> dict[str, str]:
-        """The environment in which a program counts the bytes that it asks for."""
+        """Return the environment in which a program counts its allocated bytes."""
         made: dict[str, str] = interposed(self.file.parent, "counting", COUNTING)
         return made
 
     def compare(self, what: bytes, asking: Asking, found: int, allowed: int) -> None:
-        """What was asked for is no more than is allowed, and that of wrong programs would be."""
+        """Check that the allocated bytes are within the limit, and note the wrong programs that exceed it."""
         self.count += 1
         if found > allowed:
             self.wrong.append(f"{what[:30]!r}: {found} bytes asked for, of {allowed}")
         self.noticed |= {name for name, more in WRONG.items() if more(asking) and found + more(asking) > allowed}
 
-    def disk(self, disk: bytes, resources: int) -> None:
-        """Each kind of line and of request on a disk of so many resources."""
+    def look_at_lines(self, disk: bytes, resources: int) -> None:
+        """Run every kind of line on a disk with this many resources."""
         self.file.write_bytes(disk)
-        begun, opened = self.run(BEGIN), self.run(b"")
+        begun = self.run(BEGIN)
         for line in lines(resources):
             self.file.write_bytes(disk)
             self.compare(line.text, line, self.run(BEGIN + line.text) - begun, command_memory.allowed(line, disk))
+
+    def look_at_requests(self, disk: bytes, resources: int) -> None:
+        """Send every kind of request to a disk with this many resources."""
+        self.file.write_bytes(disk)
+        opened = self.run(b"")
         for request, asking in requests(resources):
             self.file.write_bytes(disk)
             allowed = command_memory.CONNECTED + command_memory.allowed(asking, disk)
             self.compare(request, asking, self.serve(request) - opened, allowed)
 
-
-def look(program: str, room: str) -> Looks:
-    """Looks at disks of some sizes, and at one with a large body that is shown."""
-    looks = Looks(program, pathlib.Path(room, "commanded.disk"))
-    for resources in HELD:
-        looks.disk(paged_disk.spelled(resources, resources), resources)
-    looks.run(BEGIN + put("large", BODIES[-1]).encode())
-    begun, shown = looks.run(BEGIN), Asking(b"show /resource/large\n", shown=BODIES[-1])
-    looks.compare(shown.text, shown, looks.run(BEGIN + shown.text) - begun,
-                  command_memory.allowed(shown, looks.file.read_bytes()))
-    return looks
+    def look_at_large_body(self, disk: bytes) -> None:
+        """Put a large body, and show it."""
+        self.file.write_bytes(disk)
+        self.run(BEGIN + put("large", BODIES[-1]).encode())
+        begun, shown = self.run(BEGIN), Asking(b"show /resource/large\n", shown=BODIES[-1])
+        self.compare(shown.text, shown, self.run(BEGIN + shown.text) - begun,
+                     command_memory.allowed(shown, self.file.read_bytes()))

@@ -1,4 +1,4 @@
-"""A C library that counts each malloc and realloc, and tells how many there were, the largest, and all bytes."""
+"""A C library that counts calls of malloc and realloc, and reports their number, the largest, and the sum of bytes."""
 
 COUNTING = r"""
 #include <stddef.h>

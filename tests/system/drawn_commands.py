@@ -1,8 +1,7 @@
-"""Commands at each thousand of resources and at counts that are drawn: each kind of them, and groups of each number of
-items.
+"""Run every kind of command on sources of every thousand and of random numbers of resources, and groups of every size.
 
-A group has puts of new names, puts of a name once more, and deletions, in a drawn order; names are of drawn lengths.
-What is to be answered is counted beside, and a publication is made twice.
+A group has puts of new names, second puts of a name, and deletions, in random order; names have random lengths. The
+test counts resources and changes itself to predict the answers, and publishes twice.
 """
 import math
 import pathlib
@@ -17,17 +16,19 @@ from tests.reading.crash_model import moment_text
 
 MOST, MOST_IN_GROUP, STEP, LONGEST_NAME = 50_000, 16, 1_000, 240
 SECONDS = 300
+# The number of parts into which the counts are split. A part has all sizes of groups.
+PARTS = 4
 Compare = Callable[[str, object, object], None]
 
 
 def between(draw: random.Random, limit: int) -> int:
-    """A number of 0 to `limit`: any one, or one of any number of digits."""
+    """Return a number from 0 to `limit`: uniform, or with a uniform number of digits."""
     return draw.randint(0, limit) if draw.random() < 0.5 else int(math.exp(draw.uniform(0, math.log(limit + 1)))) - 1
 
 
 @dataclass
 class Count:
-    """How many resources are held, changes made and dropped, and the publication; the lines and answers so far."""
+    """The numbers of resources, of made and dropped changes, and of the publication; the lines and answers so far."""
 
     resources: int
     made: int
@@ -39,20 +40,20 @@ class Count:
     answers: list[str] = field(default_factory=list)
 
     def command(self, line: str, word: str, items: int, more: int) -> None:
-        """A command of so many changes, that holds so many resources more."""
+        """Add a command with `items` changes that adds `more` resources."""
         self.lines.append(line)
         self.answers.append(f"{word} {moment_text(self.moment)}\n")
         self.moment, self.made, self.resources = self.moment + max(items, 1), self.made + items, self.resources + more
 
     def publish(self) -> None:
-        """A publication drops the full parts of the changes before the publication before."""
+        """Add a publication, which drops the full parts of the changes before the previous publication."""
         self.publication += 1
         self.command("publish", f"published {self.publication}", 0, 0)
         self.dropped = max(self.dropped, self.published // counted_disk.LIMIT * counted_disk.LIMIT)
         self.published = self.made
 
     def status(self) -> None:
-        """Asks for the counts."""
+        """Ask for the counts."""
         last = moment_text(self.moment - 1)
         self.lines.append("status")
         self.answers.append(f"resources {self.resources} changes {self.made - self.dropped} "
@@ -60,7 +61,7 @@ class Count:
 
 
 def items(draw: random.Random, count: int, resources: list[str]) -> tuple[list[str], int]:
-    """So many lines of a group, in a drawn order, and how many resources more are held behind it.
+    """Return `count` random lines of a group, and the number of resources that they add.
 
     `resources` are names to delete.
     """
@@ -82,7 +83,7 @@ def items(draw: random.Random, count: int, resources: list[str]) -> tuple[list[s
 
 
 def script(draw: random.Random, count: Count, resources: int, size: int) -> None:
-    """The lines of a run: each kind of command, and a group of so many items."""
+    """Add the lines of a run: every kind of command, and a group of `size` items."""
     numbers = draw.sample(range(resources), min(resources, MOST_IN_GROUP + 1))
     names = [paged_disk.name(number).decode() for number in numbers]
     count.command("put made - text/plain", "created", 1, 1)
@@ -96,10 +97,10 @@ def script(draw: random.Random, count: Count, resources: int, size: int) -> None
     count.status()
 
 
-def look(program: str, file: pathlib.Path, draw: random.Random, compare: Compare) -> int:
-    """A source of each thousand, and of some counts that are drawn, is opened and commanded. How many there were."""
-    drawn = (between(draw, MOST - MOST_IN_GROUP - 2) + 1 for _ in range(MOST_IN_GROUP))
-    counts = sorted({*range(STEP, MOST, STEP), *drawn})
+def look(program: str, file: pathlib.Path, draw: random.Random, compare: Compare, part: int) -> None:
+    """Run the commands on sources of every thousand of this part, and on some of random sizes."""
+    thousands = [*range(STEP, MOST, STEP)][part::PARTS]
+    counts = sorted({*thousands, *(between(draw, MOST - MOST_IN_GROUP - 2) + 1 for _ in range(MOST_IN_GROUP // PARTS))})
     sizes = draw.sample(range(1, MOST_IN_GROUP + 1), MOST_IN_GROUP)
     for number, resources in enumerate(counts):
         size = sizes[number % MOST_IN_GROUP]
@@ -112,4 +113,3 @@ def look(program: str, file: pathlib.Path, draw: random.Random, compare: Compare
         finished = subprocess.run([program, "run", file], input=text.encode(), capture_output=True, timeout=SECONDS)
         what = f"{resources} resources, {changes} changes, a group of {size}"
         compare(what, "".join(["ok\n", *count.answers]).encode(), finished.stdout + finished.stderr)
-    return len(counts)

@@ -1,11 +1,11 @@
-"""What `large` does at the edges of pieces, in groups as long as they may be and on sources of many resources.
+"""Checks of `test_large` at the edges of pieces, with the longest groups, and on sources of many resources.
 
-All of it goes by the calls of the rules: no byte is written or read twice, and no call is made once more.
+All of them follow the rules of calls: the program reads and writes no byte twice, and makes no call twice.
 
-  - Bodies of one piece, of a byte less or more, and of a drawn number of pieces are put, verified and shown, in a
-    script and over HTTP, for each length of pieces that there is.
-  - A group over HTTP has as many bytes as one may have; one in a script has bodies of more than 16 MiB together.
-  - Sources of a drawn number of resources are commanded.
+- Bodies of one piece, of one byte less or more, and of a random number of pieces are put, verified and shown, in a
+  script and over HTTP, for every length of pieces.
+- A group over HTTP has the greatest length; a group in a script has bodies of more than 16 MiB in total.
+- Commands run on sources of a random number of resources.
 """
 import random
 
@@ -17,20 +17,20 @@ from tests.system.noted_calls import Room
 
 LONGEST_GROUP, MOST_PIECES = 16_777_216, 8
 PIECES = (call_rules.CAME, call_rules.LOOKED, call_rules.SHOWN)
-# Room on a disk beside bodies.
+# Free bytes of a disk in addition to the bodies.
 BESIDE = 1 << 20
 
 
 def empty(room: Room, size: int) -> bytes:
-    """A new source with room for bodies of this size together."""
+    """Return a new source with room for bodies of this total size."""
     room.clear(calls_of_commands.DISK)
     room.run(["format", calls_of_commands.DISK, str(size + BESIDE), "http://127.0.0.1:8080", "4000"])
-    disk: bytes = room.bytes(calls_of_commands.DISK)
+    disk: bytes = room.content(calls_of_commands.DISK)
     return disk
 
 
 def look_at_answers(what: str, client: Client, disk: bytes, lines: list[Line], compare: Compare) -> None:
-    """Requests are answered, by the calls of the rules."""
+    """Send requests, and compare their calls with the rules."""
     for line, (response, calls, after) in zip(lines, client.ask(lines)[0], strict=True):
         wanted, _ = calls_of_commands.calls_by_rule(client.name, line, disk, after, call_rules.CAME)
         compare(f"{what}: {line.text[:30]!r}", wanted, calls)
@@ -39,7 +39,7 @@ def look_at_answers(what: str, client: Client, disk: bytes, lines: list[Line], c
 
 
 def look_at_pieces(room: Room, draw: random.Random, compare: Compare) -> None:
-    """Bodies of about a whole number of pieces, in a script and over HTTP."""
+    """Put, verify and show bodies near a whole number of pieces, in a script and over HTTP."""
     lengths = [size + more for size in PIECES for more in (-1, 0, 1)]
     lengths += [size * draw.randint(2, MOST_PIECES) for size in PIECES]
     names = [f"piece{length}" for length in lengths]
@@ -55,7 +55,7 @@ def look_at_pieces(room: Room, draw: random.Random, compare: Compare) -> None:
 
 
 def longest_group(draw: random.Random) -> Line:
-    """A request of the most bytes that a group may have, of two bodies."""
+    """Return a request with the longest permitted group, of two bodies."""
     rest = LONGEST_GROUP - len(f"{put('g', 1)}\n{put('h', 1)}\n") + 2 * len("61")
     both = rest // len("61")
     one = draw.randint(1, both - 1)
@@ -65,9 +65,9 @@ def longest_group(draw: random.Random) -> Line:
 
 
 def look_at_long_groups(room: Room, draw: random.Random, compare: Compare) -> None:
-    """A group of the most bytes over HTTP, and one of longer bodies in a script."""
+    """Send the longest group over HTTP, and a group of longer bodies in a script."""
     line = longest_group(draw)
-    disk = empty(room, sum(line.bodies))
+    disk = empty(room, LONGEST_GROUP)
     look_at_answers("a group of the most bytes", Client(room), disk, [line], compare)
     lengths = [(1 << 20) + draw.randint(1, 1 << 16) for _ in range(MOST_IN_GROUP)]
     whole = Line(group(*(put(f"g{at:02d}", length) for at, length in enumerate(lengths))), lengths)
@@ -76,8 +76,8 @@ def look_at_long_groups(room: Room, draw: random.Random, compare: Compare) -> No
     compare("a long group", [b"grouped 16 "], [answer[:11] for answer in scripted.answers[1:]])
 
 
-def look_at_many(room: Room, draw: random.Random, compare: Compare) -> int:
-    """A source of a drawn number of resources is commanded. Gives the number."""
+def look_at_many(room: Room, draw: random.Random, compare: Compare) -> None:
+    """Run commands on a source with a random number of resources."""
     resources = draw.randint(3_000, 6_000)
     names = [paged_disk.name(number).decode() for number in draw.sample(range(resources), 4)]
     lines = [Line(AT, None), Line(put("made", 700), [700]), Line(put(names[0], 5), [5]), Line(f"delete {names[1]}", []),
@@ -85,11 +85,6 @@ def look_at_many(room: Room, draw: random.Random, compare: Compare) -> int:
              Line("publish", []), Line("verify", None), Line("publish", [])]
     disk = counted_disk.spelled(resources, draw.randint(0, resources), MOST)
     calls_of_commands.look_at_whole(f"commands of {resources} resources", Scripted(room, lines, disk), compare)
-    return resources
 
 
-def look(room: Room, draw: random.Random, compare: Compare) -> int:
-    """All of it. Gives the number of resources of the source that is commanded."""
-    look_at_pieces(room, draw, compare)
-    look_at_long_groups(room, draw, compare)
-    return look_at_many(room, draw, compare)
+LOOKS = [look_at_pieces, look_at_long_groups, look_at_many]

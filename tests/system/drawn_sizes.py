@@ -1,16 +1,13 @@
-"""What `large` does at sizes that are drawn anew each time, between nothing and each limit: nothing is refused for its
-size.
+"""Checks of `test_large` at random sizes up to every limit: the program refuses no input for its size.
 
-  - Sources of each thousand of resources, and of counts that are drawn, are opened and commanded (drawn_commands.py).
-    One is opened by the calls of the rules. Each document is shown, also of the longest names; a drawn number of
-    damaged bodies is named.
-  - Bodies of drawn lengths, and of the greatest, are put and shown, in a script and over HTTP, and verified; so are
-    groups. The calls on the file are those of call_rules.py, so no byte is written or read twice; a line asks for no
-    more memory than command_memory.py allows.
-  - Sources of drawn numbers of bodies are copied, by the calls of the rules.
-  - So are edges of pieces, the longest groups, and commands of sources of many resources (drawn_edges.py).
+- Sources of every thousand and of random numbers of resources open and take commands (drawn_commands.py). One opens by
+  the rules of calls. Every document is shown, also with the longest names; `verify` names a random number of damaged
+  bodies.
+- Bodies of random lengths and of the greatest are put and shown, in a script and over HTTP, and verified; so are
+  groups. The calls are those of call_rules.py, so no byte is read or written twice; a line allocates no more memory
+  than command_memory.py allows.
+- Sources of random numbers of bodies are copied, by the rules of calls.
 """
-import pathlib
 import random
 import subprocess
 from collections.abc import Iterator
@@ -18,7 +15,7 @@ from collections.abc import Iterator
 from tests.disks import counted_disk, paged_disk
 from tests.program import CLOCK, interposed
 from tests.reading.disk_formats import BLOCK
-from tests.system import call_rules, calls_of_commands, command_memory, drawn_commands, drawn_edges
+from tests.system import call_rules, calls_of_commands, command_memory
 from tests.system.calls_of_commands import DISK, RUN, Client, Line, Scripted, group, put, request
 from tests.system.command_memory import Asking
 from tests.system.counted_growths import COUNTING
@@ -27,12 +24,13 @@ from tests.system.noted_calls import Room, texts
 
 LONGEST, LONGEST_NAME = 16_777_216, 240
 NEW, SECONDS = "copy.disk", 300
-# The number of the body whose memory is looked at.
+# The number of the body whose memory is measured.
 LOOKED = 1
 AT = f"at {CLOCK}\n".encode()
 
+
 def look_at_calls_of_opening(room: Room, draw: random.Random, compare: Compare) -> None:
-    """A source of a drawn number of resources, and one of the most, are opened by the calls of the rules."""
+    """Open a source of a random number of resources, and one of the greatest, by the rules of calls."""
     for resources in (between(draw, MOST - 1) + 1, MOST - 1):
         disk = counted_disk.spelled(resources, draw.randint(0, resources), MOST)
         room.put(disk, DISK)
@@ -41,22 +39,23 @@ def look_at_calls_of_opening(room: Room, draw: random.Random, compare: Compare) 
 
 
 def paths(resources: int, changes: int) -> Iterator[str]:
-    """The documents of a source that was published once."""
+    """Yield the paths of the documents of a source after one publication."""
     for word, count in (("/resourcelist", resources), ("/changelist", changes)):
         yield f"{word}.xml"
         parts = range(-(-count // counted_disk.LIMIT) if count > counted_disk.LIMIT else 0)
         yield from (f"{word}/1/{number}.xml" if word == "/resourcelist" else f"{word}/{number}.xml" for number in parts)
 
 
-def look_at_documents(program: str, file: pathlib.Path, draw: random.Random, compare: Compare) -> None:
-    """Each document of a source of drawn numbers is shown, and one of the longest names."""
+def look_at_documents(room: Room, draw: random.Random, compare: Compare) -> None:
+    """Show every document of a source with random numbers, and of one with the longest names."""
     few = between(draw, 20_000) + 1, draw.randint(0, LONGEST_NAME - 9)
     for resources, longer in (few, (5_000, LONGEST_NAME - 9)):
         changes = draw.randint(0, resources)
-        file.write_bytes(counted_disk.spelled(resources, changes, resources, longer))
+        room.put(counted_disk.spelled(resources, changes, resources, longer), DISK)
         documents = [*paths(resources, changes)]
         script = "".join(f"show {path}\n" for path in documents).encode()
-        finished = subprocess.run([program, "run", file], input=script, capture_output=True, timeout=SECONDS)
+        finished = subprocess.run([room.program, *RUN], cwd=room.folder, input=script, capture_output=True,
+                                  timeout=SECONDS)
         remaining = finished.stdout
         for path in documents:
             first, _, rest = remaining.partition(b"\n")
@@ -66,7 +65,7 @@ def look_at_documents(program: str, file: pathlib.Path, draw: random.Random, com
 
 
 def look_at_damage(room: Room, draw: random.Random, compare: Compare) -> None:
-    """A drawn number of the bodies is damaged, and `verify` names each."""
+    """Damage a random number of bodies; `verify` must name them all."""
     resources = draw.randint(1, 3_000)
     disk = bytearray(paged_disk.spelled(resources, 0))
     names = sorted(draw.sample(range(resources), draw.randint(resources // 2, resources)))
@@ -79,20 +78,20 @@ def look_at_damage(room: Room, draw: random.Random, compare: Compare) -> None:
 
 
 def bodies(draw: random.Random) -> list[int]:
-    """Lengths of bodies: two that are drawn, and the greatest."""
+    """Return the lengths of bodies: two random ones, and the greatest."""
     return [between(draw, LONGEST), draw.randint(1 << 20, LONGEST), LONGEST]
 
 
 def empty(room: Room, size: int) -> bytes:
-    """A new source of this size."""
+    """Return a new source of this size."""
     room.clear(DISK)
     room.run(["format", DISK, str(size), "http://127.0.0.1:8080", "4000"])
-    disk: bytes = room.bytes(DISK)
+    disk: bytes = room.content(DISK)
     return disk
 
 
 def answer_of(line: str, lengths: list[int]) -> bytes:
-    """How the answer to a line begins."""
+    """Return the beginning of the answer to a line."""
     word, _, name = line.partition(" ")
     if word == "show":
         length = lengths[int(name[-1])]
@@ -101,7 +100,7 @@ def answer_of(line: str, lengths: list[int]) -> bytes:
 
 
 def look_at_memory(room: Room, line: str, shown: int, disk: bytes, compare: Compare) -> None:
-    """A line, a put or one that shows so many bytes, asks for no more memory than it may."""
+    """Check that a put, or a line that shows this many bytes, allocates no more memory than it may."""
     environment = interposed(room.folder, "counting", COUNTING)
     amounts = []
     for script in (AT, AT + line.encode() + b"\n"):
@@ -114,8 +113,8 @@ def look_at_memory(room: Room, line: str, shown: int, disk: bytes, compare: Comp
             amounts[1] - amounts[0] <= limit)
 
 
-def look_at_lines(room: Room, draw: random.Random, compare: Compare) -> list[int]:
-    """Bodies of drawn lengths in a script. Gives the lengths."""
+def look_at_lines(room: Room, draw: random.Random, compare: Compare) -> None:
+    """Put bodies of random lengths in a script."""
     lengths = bodies(draw)
     pair = [draw.randint(1 << 20, 3 << 20), between(draw, 1 << 20)]
     disk = empty(room, sum(lengths) + sum(pair) + 1_000_000)
@@ -129,11 +128,10 @@ def look_at_lines(room: Room, draw: random.Random, compare: Compare) -> list[int
         compare(what, wanted, answer[: len(wanted)])
         if line.text.startswith((f"put r{LOOKED} ", f"show /resource/r{LOOKED}")):
             look_at_memory(room, line.text, lengths[LOOKED] * line.text.startswith("show"), before, compare)
-    return lengths
 
 
-def look_at_requests(room: Room, draw: random.Random, compare: Compare) -> list[int]:
-    """Bodies of drawn lengths over HTTP. Gives the lengths."""
+def look_at_requests(room: Room, draw: random.Random, compare: Compare) -> None:
+    """Put bodies of random lengths over HTTP."""
     lengths = bodies(draw)
     disk, client = empty(room, sum(lengths) + 1_000_000), Client(room)
     puts = [Line(request("PUT", f"/resource/r{at}", b"x" * length), [length]) for at, length in enumerate(lengths)]
@@ -146,11 +144,10 @@ def look_at_requests(room: Room, draw: random.Random, compare: Compare) -> list[
         compare(what, body if line.bodies is None else b"", response.partition(b"\r\n\r\n")[2])
         compare(what, b"HTTP/1.1 200" if line.bodies is None else b"HTTP/1.1 201", response[:12])
         disk = after
-    return lengths
 
 
 def look_at_groups(room: Room, draw: random.Random, compare: Compare) -> None:
-    """Groups of each number of items over HTTP."""
+    """Send groups of every number of items over HTTP."""
     client, disk = Client(room), empty(room, 1 << 20)
     sizes = draw.sample(range(1, MOST_IN_GROUP + 1), MOST_IN_GROUP)
     lengths = [[between(draw, 2_000) for _ in range(count)] for count in sizes]
@@ -163,35 +160,23 @@ def look_at_groups(room: Room, draw: random.Random, compare: Compare) -> None:
         disk = after
 
 
-def look_at_copies(room: Room, draw: random.Random, compare: Compare) -> list[int]:
-    """Sources of drawn numbers of bodies are copied. Gives the numbers."""
+def look_at_copies(room: Room, draw: random.Random, compare: Compare) -> None:
+    """Copy sources with random numbers of bodies."""
     numbers = [draw.randint(2, 64), draw.randint(65, 2_000)]
     for number in numbers:
         whole = paged_disk.spelled(number, draw.randint(0, number))
         disk = whole[: len(whole) - (paged_disk.ROOM - 64) * BLOCK]
         room.put(disk, DISK)
         room.clear(NEW)
-        # The published pages are copied beside those of the catalogue.
+        # The copy has the published pages and those of the catalogue.
         size = len(disk) + number * BLOCK
         outcome = room.run(["copy", DISK, NEW, str(size)])
         compare(f"a copy of {number}", (0, b"copied %d\n" % size, b""), tuple(outcome[:3]))
-        copy = room.bytes(NEW)
+        copy = room.content(NEW)
         calls = [*call_rules.opening(DISK, disk), *call_rules.copying(DISK, disk, NEW, copy), f"close {NEW}", "answer",
                  f"close {DISK}"]
         compare(f"the calls of a copy of {number}", calls, texts(outcome.calls))
-    return numbers
 
 
-def look(program: str, folder: str, seed: int, compare: Compare) -> str:
-    """All of it. Tells what was drawn."""
-    draw, room = random.Random(seed), Room(program, pathlib.Path(folder))
-    lines, requests, copies = (look(room, draw, compare) for look in (look_at_lines, look_at_requests, look_at_copies))
-    file = pathlib.Path(folder, "counted.disk")
-    look_at_groups(room, draw, compare)
-    look_at_damage(room, draw, compare)
-    look_at_calls_of_opening(room, draw, compare)
-    look_at_documents(program, file, draw, compare)
-    counts = drawn_commands.look(program, file, draw, compare)
-    many = drawn_edges.look(room, draw, compare)
-    return (f"seed {seed}: {counts} counts of resources, bodies of {lines} and of {requests} bytes, "
-            f"copies of {copies}, commands of {many} resources")
+LOOKS = [look_at_lines, look_at_requests, look_at_copies, look_at_groups, look_at_damage, look_at_calls_of_opening,
+         look_at_documents]

@@ -1,19 +1,20 @@
-"""Runs of the proved program whose system can be chosen: what its calls answer, by variables of the environment, and
-clients of it.
+"""Run the proved program on a system whose calls return chosen results, set by environment variables; and its clients.
 
-A C library that `cc` builds into a temporary folder stands before the system's.
+A preloaded C library, which `cc` builds into a temporary folder, replaces the system's calls.
 """
 import contextlib
-import pathlib
 import socket
 import subprocess
 import time
+from collections.abc import Iterator
+from pathlib import Path
+from typing import Any
 
 from tests.program import MEMORY, compare, interposed
 
-# No step waits longer than this for an answer.
+# The longest wait for an answer, in seconds.
 SECONDS = 30
-# What of the system can be chosen, by variables of the environment.
+# The results that environment variables set.
 SYSTEM = r"""
 #define _GNU_SOURCE
 #include <dlfcn.h>
@@ -96,43 +97,46 @@ void *realloc(void *p, size_t n) { return refused() ? 0 : __libc_realloc(p, n); 
 """
 HOST = b"HTTP/1.1\r\nHost: a\r\n"
 PUT = b"PUT /resource/c " + HOST + b"Content-Length: 3\r\n"
-# A request that is refused before its body is read.
+# A request that the server refuses before it reads the body.
 TOO_LONG = b"PUT /resource/c " + HOST + b"Content-Length: 16777217\r\n\r\n"
 
 
-def formatted(program, room, name="a.disk", size="65536"):
-    """A new source in a room; its name."""
+def formatted(program: str, room: Path, name: str = "a.disk", size: str = "65536") -> str:
+    """Format a new source in a folder; return its path."""
     subprocess.run([program, "format", name, size, *MEMORY[2:]], cwd=room, check=True, capture_output=True)
     return name
 
 
-def run(program, room, *words, script=b"", env=None, **ends):
-    """The status of a run, and what it wrote to standard error and, where that is not given, to standard output."""
+def run(program: str, room: Path, *words: str, script: bytes = b"", env: dict[str, str] | None = None,
+        **ends: Any) -> tuple[int, bytes, bytes]:
+    """Run the program; return its exit status, standard output (unless redirected) and standard error."""
     ends = {"stdout": subprocess.PIPE} | ({} if "stdin" in ends else {"input": script}) | ends
     finished = subprocess.run([program, *words], cwd=room, env=env, stderr=subprocess.PIPE, timeout=SECONDS, **ends)
     return finished.returncode, finished.stderr, finished.stdout
 
 
 @contextlib.contextmanager
-def served(program, room, count, port="0", stderr=None, **settings):
-    """The port of a server, and the server, of this many connections to a.disk, with these settings of the system."""
+def served(program: str, room: Path, count: int, port: str = "0", stderr: Any = None,
+           **settings: str) -> Iterator[tuple[int, subprocess.Popen[bytes]]]:
+    """Yield the port and the process of a server of this many connections to a.disk, with these settings."""
     env = interposed(room, "system", SYSTEM) | settings
     words = [program, "serve", "a.disk", port, str(count)]
     with subprocess.Popen(words, cwd=room, stdout=subprocess.PIPE, stderr=stderr, env=env) as server:
         try:
+            assert server.stdout
             yield int(server.stdout.readline().removeprefix(b"listening 127.0.0.1:")), server
             compare("the server's status", b"0", b"%d" % server.wait(SECONDS))
         finally:
             server.kill()
 
 
-def connected(port):
-    """A connection to a server."""
+def connected(port: int) -> socket.socket:
+    """Return a connection to a server."""
     return socket.create_connection(("127.0.0.1", port), timeout=SECONDS)
 
 
-def read_to_end(connection):
-    """All that comes, until the end or a reset."""
+def read_to_end(connection: socket.socket) -> bytes:
+    """Return all bytes up to the end or a reset."""
     found = b""
     with contextlib.suppress(ConnectionError):
         while piece := connection.recv(65536):
@@ -140,20 +144,20 @@ def read_to_end(connection):
     return found
 
 
-def ask(port, request):
-    """What comes back to a request."""
+def ask(port: int, request: bytes) -> bytes:
+    """Return the response to a request."""
     with connected(port) as connection:
         connection.sendall(request)
         return read_to_end(connection)
 
 
-def ends_with(found, wanted):
-    """Checks the end of a response."""
+def ends_with(found: bytes, wanted: bytes) -> None:
+    """Check the end of a response."""
     compare("the end of a response", wanted, found[max(len(found) - len(wanted), 0):])
 
 
-def is_read_from(connection):
-    """Whether the other side of a connection that it has ended still reads what is sent."""
+def is_read_from(connection: socket.socket) -> bool:
+    """Return whether the other side of a half-closed connection still reads."""
     try:
         for _ in range(3):
             connection.sendall(b"x")
@@ -163,12 +167,12 @@ def is_read_from(connection):
         return False
 
 
-def peak(server):
-    """The most memory that a server had so far, in KiB."""
-    lines = pathlib.Path(f"/proc/{server.pid}/status").read_text().splitlines()
+def peak(server: subprocess.Popen[bytes]) -> int:
+    """Return the peak memory of a server so far, in KiB."""
+    lines = Path(f"/proc/{server.pid}/status").read_text().splitlines()
     return next(int(line.split()[1]) for line in lines if line.startswith("VmHWM:"))
 
 
-def put_of(length):
-    """The bytes of a put of this many bytes."""
+def put_of(length: int) -> bytes:
+    """Return the bytes of a put of this many bytes."""
     return b"PUT /resource/c " + HOST + b"Content-Length: %d\r\n\r\n" % length + b"x" * length

@@ -1,16 +1,17 @@
-"""Notes the calls of the system that a program makes of its files, of all of them in one list, in their order.
+"""Record the system calls of a program on all its files in one list, in order.
 
-The program runs with a C library (`cc` builds it) that notes each call on a file whose path begins with no `/`, or is
-that of ALSO, each read of standard input, of which one gives a line, and each write of standard output. It takes and
-gives no more than AT_ONCE bytes of a file in one call, lets the call FAILS fail, and ends before the call STOPS,
-counted from 1. Of the offsets of a file it gives the system the bits READ_BITS and WRITE_BITS alone.
+The program runs with a preloaded C library (built by `cc`) that notes the calls on files with a relative path or the
+path ALSO, the reads of standard input (one line per read), and the writes of standard output. It transfers at most
+AT_ONCE bytes per call, makes the call FAILS fail, and ends the program before the call STOPS; calls count from 1. It
+passes only the bits READ_BITS and WRITE_BITS of file offsets to the system.
 """
-import collections
 import os
-import pathlib
 import resource
 import signal
 import subprocess
+from collections.abc import Sequence
+from pathlib import Path
+from typing import Any, NamedTuple
 
 SHIM = r"""
 #define _GNU_SOURCE
@@ -141,34 +142,52 @@ ssize_t read(int fd, void *to, size_t n) {
     return came;
 }
 """
-# A call: its name, the path of its file, what it was told (an offset and a length, or what else it takes), its result,
-# and the number of its file.
-Call = collections.namedtuple("Call", "name path words result fd")
-Outcome = collections.namedtuple("Outcome", "status output error calls")
-# The names of calls that are told an offset and a length, and of those that are told one number.
+
+
+class Call(NamedTuple):
+    """A call: its name, the path of its file, its other arguments, its result, and the file descriptor."""
+
+    name: str
+    path: str
+    words: str
+    result: int
+    fd: int
+
+
+class Outcome(NamedTuple):
+    """The exit status and output of a run, and its calls."""
+
+    status: int
+    output: bytes
+    error: bytes
+    calls: list[Call]
+
+
+# The names of calls with an offset and a length, and of calls with one number.
 PLACED, TOLD = ("read", "write", "room"), ("lock", "length")
 
 
-def calls_of(text):
-    """The calls of a log, in their order."""
-    paths, found = {0: "input", 1: "output"}, []
+def calls_of(text: str) -> list[Call]:
+    """Return the calls of a log, in their order."""
+    paths, found = {0: "input", 1: "output"}, list[Call]()
     for line in text.splitlines():
         name, fd, result, at, length, more = line.split(" ", 5)
-        fd, result = int(fd), int(result)
-        path = more if name in ("make", "create", "open") else paths.get(fd, "")
-        fields = {"advise": [at, length, more]} | dict.fromkeys(PLACED, [at, length]) | dict.fromkeys(TOLD, [at])
-        found.append(Call(name, path, " ".join(fields.get(name, [])), result, fd))
-        if result >= 0 and name in ("make", "create", "open", "copy"):
-            paths[result] = path
+        number, value = int(fd), int(result)
+        path = more if name in ("make", "create", "open") else paths.get(number, "")
+        fields: dict[str, list[str]] = {"advise": [at, length, more]}
+        fields |= dict.fromkeys(PLACED, [at, length]) | dict.fromkeys(TOLD, [at])
+        found.append(Call(name, path, " ".join(fields.get(name, [])), value, number))
+        if value >= 0 and name in ("make", "create", "open", "copy"):
+            paths[value] = path
     return found
 
 
-def texts(calls):
-    """A text for each call: `write source.disk 1024 86`.
+def texts(calls: list[Call]) -> list[str]:
+    """Return a text for every call, for example `write source.disk 1024 86`.
 
-    A read of input is `line`, and what is written of one answer is one `answer`.
+    A read of input is `line`; all writes of one answer are one `answer`.
     """
-    found = []
+    found = list[str]()
     for call in calls:
         text = call.name if call.name in ("line", "answer") else f"{call.name} {call.path} {call.words}".rstrip()
         text += " fails" if call.result < 0 else ""
@@ -180,53 +199,54 @@ def texts(calls):
 class Room:
     """A folder to run a program in."""
 
-    def __init__(self, program, folder):
-        self.program, self.folder, self.runs = program, pathlib.Path(folder), 0
+    def __init__(self, program: str, folder: str | Path) -> None:
+        self.program, self.folder, self.runs = program, Path(folder), 0
         source, self.shim = self.folder / "shim.c", self.folder / "shim.so"
         source.write_text(SHIM)
         subprocess.run(["cc", "-O1", "-shared", "-fPIC", "-o", self.shim, source], check=True)
 
-    def environment(self, **settings):
-        """The environment in which the library above notes calls, as it is asked to; what was noted before is gone."""
+    def environment(self, **settings: object) -> dict[str, str]:
+        """Empty the record; return the environment in which the library notes calls, with these settings."""
         log = self.folder / "calls"
         log.unlink(missing_ok=True)
         self.runs += 1
-        variables = {"LD_PRELOAD": self.shim, "CALLS": log, **settings}
+        variables: dict[str, object] = {"LD_PRELOAD": self.shim, "CALLS": log, **settings}
         return {**os.environ, **{name: str(value) for name, value in variables.items()}}
 
-    def noted(self):
-        """The calls that were noted so far."""
+    def noted(self) -> list[Call]:
+        """Return the recorded calls so far."""
         log = self.folder / "calls"
         return calls_of(log.read_text() if log.exists() else "")
 
-    def run(self, words, script=b"", closed=(), limit=None, **settings):
-        """One run, and its calls.
+    def run(self, words: Sequence[str], script: bytes = b"", closed: Any = (), limit: Any = None,
+            **settings: object) -> Outcome:
+        """Run the program; return the outcome and the calls.
 
-        The streams of these numbers are closed, and no file may be longer than `limit` bytes.
+        The streams with the numbers in `closed` are closed, and the longest possible file has `limit` bytes.
         """
         env = self.environment(**settings)
 
-        def begin():
+        def begin() -> None:
             signal.signal(signal.SIGXFSZ, signal.SIG_IGN)
             if limit is not None:
                 resource.setrlimit(resource.RLIMIT_FSIZE, (limit, limit))
             for fd in closed:
                 os.close(fd)
 
-        how = {"stdout": subprocess.PIPE, "stderr": subprocess.PIPE, "env": env, "cwd": self.folder,
+        how: dict[str, Any] = {"stdout": subprocess.PIPE, "stderr": subprocess.PIPE, "env": env, "cwd": self.folder,
                "preexec_fn": begin}
         finished = subprocess.run([self.program, *words], input=script, **how)
         return Outcome(finished.returncode, finished.stdout, finished.stderr, self.noted())
 
-    def bytes(self, name="source.disk"):
-        """The bytes of a file, none where it is missing."""
+    def content(self, name: str = "source.disk") -> bytes:
+        """Return the bytes of a file, empty if it is missing."""
         path = self.folder / name
         return path.read_bytes() if path.exists() else b""
 
-    def put(self, data, name="source.disk"):
-        """Writes a file."""
+    def put(self, data: bytes | bytearray, name: str = "source.disk") -> None:
+        """Write a file."""
         (self.folder / name).write_bytes(data)
 
-    def clear(self, name="source.disk"):
-        """Removes a file."""
+    def clear(self, name: str = "source.disk") -> None:
+        """Remove a file."""
         (self.folder / name).unlink(missing_ok=True)

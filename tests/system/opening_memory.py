@@ -1,29 +1,33 @@
-"""How much memory an opening may ask for, in figures that are written down: nothing here is taken from the program that
-is looked at.
+"""Limits of the bytes that an opening may allocate, as constants independent of the tested program.
 
-An opening reads the directory, and the pages that it names, so it may ask for what these take. A list that grows item
-by item asks for room for 4 items, then for twice as many whenever it is full. The figures were measured on the built
-program, and have a margin.
+An opening reads the directory and its pages, and may allocate memory for these. A list that grows item by item first
+allocates 4 items, then doubles whenever it is full. The constants were measured on the built program, and have a
+margin.
 """
+from typing import Any
+
 from tests.reading import disk_reader
 from tests.reading.disk_formats import BLOCK, sha256
 
-# The program begins with these bytes, in so few growths, of which the largest is what holds the lines of a script.
+# The bytes and the number of allocations at the start of the program; the largest one holds the lines of a script.
 BEGUN, GROWTHS, LINES = 12_288, 16, 8_192
-# Each block has some bits that say whether it is used: this many bytes of a file take one of memory.
+# The set of used blocks takes one byte of memory for this many bytes of the file.
 OF_FILE = 1_024
-# An item, and what is kept of a page beside it: what the directory says of it, its place, and its part in three lists.
+# The bytes of an item, and of a page without its items: its entry, its place, and its part in three lists.
 ITEM, PAGE = 160, 208
-# What a page of one short record has cost when it was read, and its moments were not yet looked at.
+# The bytes of a page with one short record whose moments are not yet checked.
 OF_A_SHORT_PAGE = 1_100
-# What is read is asked for once, and the texts in it once more.
+# Read bytes are allocated once, and the texts in them once more.
 READ = 2
-# The shortest item of a page, and what stands before the items.
+# The bytes of the shortest item of a page, and of the header before the items.
 SHORTEST, HEAD = 11, 5
 
+# The entry of a page in the directory.
+Entry = Any
 
-def grown(count):
-    """For how many items a list of this many asks in all, as it grows."""
+
+def grown(count: int) -> int:
+    """Return the number of items that a list of this length allocates in all while it grows."""
     room, total = 0, 0
     while room < count:
         room = 2 * room or 4
@@ -31,14 +35,14 @@ def grown(count):
     return total
 
 
-def is_placed(entry, size):
-    """Whether an entry has the blocks of its length, behind the slots and on the disk."""
+def is_placed(entry: Entry, size: int) -> bool:
+    """Return whether an entry has the right number of blocks, after the slots and within the disk."""
     has_blocks = entry.blocks == -(-entry.length // BLOCK)
     return entry.first >= 2 and has_blocks and entry.first + entry.blocks <= size // BLOCK
 
 
-def lists_of(disk):
-    """What the disk names, if well-formed: the length of the directory, and the entries of the pages of each list."""
+def lists_of(disk: bytes) -> tuple[int, list[list[Entry]]]:
+    """Return the length of the directory and the entries of its pages, as far as the disk is well-formed."""
     try:
         root = disk_reader.root(disk)
     except disk_reader.NoRoot:
@@ -55,20 +59,20 @@ def lists_of(disk):
         fields.short()
         fields.taken(8 * (4 if root.version == 1 else 6))
         counts = [fields.number() for _ in range(3)]
-        # There are no more entries than the bytes that are left have.
+        # The remaining bytes limit the number of entries.
         return entry.length, [[fields.entry() for _ in range(count)] for count in counts]
     except disk_reader.Unread:
         return entry.length, []
 
 
-def items_of(disk, entry):
-    """How many items a page has: as many as it says, and no more than its bytes have room for."""
+def items_of(disk: bytes, entry: Entry) -> int:
+    """Return the number of items that a page claims, limited by its bytes."""
     count = int.from_bytes(disk[entry.first * BLOCK + 1 : entry.first * BLOCK + HEAD], "big")
     return max(min(count, (entry.length - HEAD) // SHORTEST), 0)
 
 
-def allowed(disk):
-    """How many bytes an opening of this disk may ask for in all."""
+def allowed(disk: bytes) -> int:
+    """Return the limit of the bytes that an opening of this disk may allocate."""
     length, lists = lists_of(disk)
     pages = [entry for entries in lists for entry in entries]
     every = BEGUN + len(disk) // OF_FILE + READ * length + PAGE * sum(grown(len(entries)) for entries in lists)
@@ -80,8 +84,8 @@ def allowed(disk):
     return every + sum(READ * entry.length + ITEM * grown(items_of(disk, entry)) for entry in read)
 
 
-def largest(disk):
-    """The bytes of the largest list that an opening of this disk has to grow."""
+def largest(disk: bytes) -> int:
+    """Return the bytes of the largest list that an opening of this disk must grow."""
     _, lists = lists_of(disk)
     sizes = [2 * max(PAGE * len(entries), *(ITEM * items_of(disk, entry) for entry in entries)) for entries in lists
              if entries]

@@ -1,9 +1,8 @@
-"""Refuses each growth of memory of an opening and of a copy in turn, and notes the calls on files meanwhile.
+"""Refuse all memory allocations of an opening and of a copy in turn, and note the calls on files.
 
-A refused growth ends both: the program says `NoMemory` and no more, and behind what it asked of its files until then it
-only closes them. So nothing is read a second time. Where a list was to become shorter, and is not, all goes on as ever.
+The program ends with `NoMemory` after a refusal, and only closes its files; so it reads no byte twice. If the system
+refuses to shorten a list, the program continues as usual.
 """
-import pathlib
 from collections.abc import Sequence
 
 from tests.disks import paged_disk
@@ -17,13 +16,13 @@ WANTED = (1, b"", b"rs_source: NoMemory\n")
 
 
 def short_disk() -> bytes:
-    """A disk with some pages, and some room."""
+    """Return a disk with some pages and some free blocks."""
     whole: bytes = paged_disk.spelled(HELD, HELD)
     return whole[: len(whole) - (paged_disk.ROOM - 64) * BLOCK]
 
 
 def wrong(outcome: Outcome, clean: Sequence[str]) -> str | None:
-    """What is wrong with a run of which a growth was refused, by the calls of the run where none is."""
+    """Return the fault of a run with a refused allocation, or None; `clean` is the run without refusal."""
     found = texts(outcome.calls)
     if outcome.status == 0 and found == list(clean):
         return None
@@ -35,9 +34,9 @@ def wrong(outcome: Outcome, clean: Sequence[str]) -> str | None:
 
 
 def refuse(room: Room, words: tuple[str, ...], refusing: str) -> tuple[int, list[str]]:
-    """Refuses each growth of a run, of which nothing is read from standard input.
+    """Refuse all allocations of a run in turn; the run reads no standard input.
 
-    How many there are, and what is wrong.
+    Return their number, and the faults.
     """
     room.clear(NEW)
     outcome = room.run(words, LD_PRELOAD=f"{refusing}:{room.shim}", REFUSED_AT=0)
@@ -48,15 +47,3 @@ def refuse(room: Room, words: tuple[str, ...], refusing: str) -> tuple[int, list
         fault = wrong(outcome, clean)
         found += [f"{words[0]}, growth {refused_at}: {fault}"] if fault else []
     return count, found
-
-
-def look(program: str, folder: str, refusing: str) -> int:
-    """Tells what is wrong with an opening and a copy. Gives how much is."""
-    room, faults = Room(program, pathlib.Path(folder)), 0
-    room.put(short_disk(), DISK)
-    for words in (RUN, COPY):
-        count, found = refuse(room, words, refusing)
-        print("".join(f"{line}\n" for line in found), end="")
-        print(f"{words[0]} of a file: {count} growths refused in turn", flush=True)
-        faults += len(found) + (count == 0)
-    return faults

@@ -1,4 +1,4 @@
-"""Runs two programs on the same script, disk or requests, and tells where their answers or their files differ."""
+"""Run two programs on the same script, disk or requests, and report the first difference of their answers or files."""
 import os
 import random
 import subprocess
@@ -13,9 +13,10 @@ from tests.hostile.request_rounds import CLOCKS, LIMITS, SERVERS, SIZE, STEPS
 from tests.hostile.script_runs import run as run_in_memory
 from tests.served_source import exchanged, served
 
-# No run takes longer.
+SEED = 20261128
+# The longest run, in seconds.
 SECONDS = 120
-# What every disk of the hunt is asked, and what moves it on. A disk that does not open answers none of it.
+# Commands that read and change every disk of the search. A disk that does not open answers none of them.
 ASKED = b"""status
 verify
 show /resourcelist.xml
@@ -40,17 +41,17 @@ DISKS_IN = 20
 
 @dataclass(frozen=True)
 class Twins:
-    """The proved program and the plain one, a folder for their files, and the environment of their servers."""
+    """The proved and the plain program, a folder for their files, and the environment of their servers."""
     programs: tuple[str, str]
     folder: Path
     environment: dict[str, str]
 
     def files(self) -> tuple[str, str]:
-        """A file for each, of this process alone."""
+        """Return the paths of a file for each program, unique to this process."""
         return str(self.folder / f"{os.getpid()}.proved.disk"), str(self.folder / f"{os.getpid()}.plain.disk")
 
     def both(self, *words: str, script: bytes = b"") -> None:
-        """Runs both with these words, in which `FILE` is the file of each, and compares how they end."""
+        """Run both programs with these arguments, `FILE` replaced by their files, and compare the results."""
         found = []
         for program, file in zip(self.programs, self.files()):
             arguments = [word.replace("FILE", file) for word in words]
@@ -60,23 +61,23 @@ class Twins:
         same(f"`{words[0]}`", ["status", "output", "messages"], *found)
 
     def same_files(self, ending: str = "") -> None:
-        """Compares the files of both, or those beside them. A file may be missing, if it is for both."""
+        """Compare the programs' files, or the files whose names add this ending. Both may be missing."""
         paths = [Path(path + ending) for path in self.files()]
         same("the file", ["bytes"], *((path.read_bytes() if path.exists() else b"",) for path in paths))
 
     def cleared(self) -> None:
-        """Takes the files away."""
+        """Remove the files."""
         for file in self.files():
             for ending in ("", ".copy"):
                 Path(file + ending).unlink(missing_ok=True)
 
 
 class Differ(Exception):
-    """What the two programs do otherwise."""
+    """The programs differ."""
 
 
 def same(what: str, names: list[str], proved: tuple[Any, ...], plain: tuple[Any, ...]) -> None:
-    """Tells the first value that differs, and where."""
+    """Raise Differ with the first difference of two values."""
     for name, one, other in zip(names, proved, plain, strict=True):
         if one == other:
             continue
@@ -88,7 +89,7 @@ def same(what: str, names: list[str], proved: tuple[Any, ...], plain: tuple[Any,
 
 
 def script(twins: Twins, seed: int, number: int) -> int:
-    """A script, in memory or on a file, which is copied then. Answers how many lines it has."""
+    """Run a script in memory or on a file, which is then copied. Return the number of lines."""
     made = made_scripts.script_of(seed, number)
     if number % 2:
         found = [run_in_memory(program, str(twins.folder), made) for program in twins.programs]
@@ -105,7 +106,7 @@ def script(twins: Twins, seed: int, number: int) -> int:
 
 
 def disks(twins: Twins, seed: int, number: int) -> int:
-    """Some disks that nobody should give. Answers how many they are."""
+    """Open some hostile disks. Return their number."""
     for at in range(number * DISKS_IN, (number + 1) * DISKS_IN):
         what, disk = any_disks.disk_of(seed, at)
         for file in twins.files():
@@ -119,7 +120,7 @@ def disks(twins: Twins, seed: int, number: int) -> int:
 
 
 def requests(twins: Twins, seed: int, number: int) -> int:
-    """A round of requests to a new source, by servers one after another. Answers how many there were."""
+    """Send a round of requests to a new source, on consecutive servers. Return the number of requests."""
     rng = random.Random(f"twins {seed} {number}")
     limit = rng.choice(LIMITS)
     every = made_requests.requests_of(rng, number, limit)
@@ -133,7 +134,7 @@ def requests(twins: Twins, seed: int, number: int) -> int:
 
 
 def serve(twins: Twins, every: list[made_requests.Made], clock: int, step: int) -> None:
-    """These requests to a server of each program, at the same clock."""
+    """Send these requests to a server of each program, with the same clock."""
     environment = {**twins.environment, "CLOCK": str(clock), "STEP": str(step)}
     with ExitStack() as stack:
         ports = [stack.enter_context(served(program, file, len(every), environment))
@@ -146,7 +147,7 @@ def serve(twins: Twins, every: list[made_requests.Made], clock: int, step: int) 
 
 
 def same_responses(proved: tuple[bytes, bool], plain: tuple[bytes, bool]) -> None:
-    """Compares two responses. What a reset has cut is the beginning of the other."""
+    """Compare two responses. A response cut by a reset must be a prefix of the other."""
     (one, cuts_one), (other, cuts_other) = proved, plain
     if cuts_one and other.startswith(one) or cuts_other and one.startswith(other):
         return
@@ -154,7 +155,7 @@ def same_responses(proved: tuple[bytes, bool], plain: tuple[bytes, bool]) -> Non
 
 
 def words(twins: Twins, seed: int, number: int) -> int:
-    """Command lines, most of them wrong. Answers how many there were."""
+    """Run command lines, most of them wrong. Return their number."""
     count = 0
     for line in command_lines(random.Random(f"words {seed} {number}")):
         twins.cleared()
@@ -165,7 +166,7 @@ def words(twins: Twins, seed: int, number: int) -> int:
 
 
 def command_lines(rng: random.Random) -> Iterator[list[str]]:
-    """Command lines with words at an edge, left out and doubled."""
+    """Yield command lines with extreme, missing and repeated arguments."""
     sizes = ["0", "1", "8191", "8192", "65536", "-1", "", "1e5", "0065536", "9" * 20, "9223372036854775808"]
     bases = ["http://a", "http://", "ftp://a", "", "http://a/", "https://b.c/d", "http://é", "http://a?b"]
     bases.append("http://" + "a" * 200)
@@ -184,7 +185,7 @@ def command_lines(rng: random.Random) -> Iterator[list[str]]:
             line.pop(rng.randrange(len(line)))
         if rng.random() < 0.1:
             line.append(rng.choice(["", "x", "2"]))
-        if rng.random() < 0.1:  # a byte that is no text
+        if rng.random() < 0.1:  # a byte that is not valid text
             line.insert(rng.randrange(len(line) + 1), "\udcff")
         if line:
             yield line

@@ -1,3 +1,1 @@
-"""Collections of several sources: their settings, the site before them, and what `ropepeach` does with all of them
-(operations/docs/OPERATING.md).
-"""
+"""Tests of collections of several sources: settings, site and runs of `ropepeach` (operations/docs/OPERATING.md)."""

@@ -1,73 +1,56 @@
-"""What a part of a check takes: seconds, the processors' and the disk's share, memory and bytes on the disk."""
+"""Measure parts of a test: seconds, shares of processors and disk, memory, bytes on disk."""
+from __future__ import annotations
+
 import contextlib
 import os
 import pathlib
-import re
 import time
+from collections.abc import Callable, Iterator
+
+from operations.tests.collection.host import Host
+from operations.tests.collection.processes import children_of, used_by
 
 
-def processors():
-    """The seconds of all processors that were used, and those that passed, since the machine began."""
+def processors() -> tuple[float, float]:
+    """Return the used and the elapsed seconds of all processors since boot."""
     words = [int(word) for word in pathlib.Path("/proc/stat").read_text().split("\n", 1)[0].split()[1:]]
     idle = words[3] + words[4]
     return (sum(words[:8]) - idle) / os.sysconf("SC_CLK_TCK"), sum(words[:8]) / os.sysconf("SC_CLK_TCK")
 
 
-def device_of(path):
-    """The name of the device that a path lies on, or nothing where there is no one such device."""
+def device_of(path: str | pathlib.Path) -> str:
+    """Return the name of the device of a path, or "" unless there is exactly one."""
     number = os.stat(path).st_dev
     place = pathlib.Path(f"/sys/dev/block/{os.major(number)}:{os.minor(number)}")
     return os.path.basename(os.path.realpath(place)) if place.exists() else ""
 
 
-def disk_of(device):
-    """The seconds for which a device was at work, and the bytes written to it, since the machine began."""
+def disk_of(device: str) -> tuple[float, int]:
+    """Return the busy seconds of a device, and the bytes written to it, since boot."""
     for words in map(str.split, pathlib.Path("/proc/diskstats").read_text().splitlines()):
         if device and words[2] == device:
             return int(words[12]) / 1000, int(words[9]) * 512
     return 0.0, 0
 
 
-def size_of(path):
-    """The bytes that a file, or all files of a folder, take on the disk."""
+def size_of(path: str | pathlib.Path) -> int:
+    """Return the bytes on disk of a file, or of all files of a folder."""
     if not os.path.isdir(path):
         return 512 * os.stat(path).st_blocks if os.path.exists(path) else 0
     return sum(512 * os.lstat(os.path.join(above, name)).st_blocks for above, folders, files in os.walk(path)
                for name in [*folders, *files])
 
 
-def used_by(number):
-    """The seconds of a processor that a process has used."""
-    with contextlib.suppress(OSError):
-        words = pathlib.Path(f"/proc/{number}/stat").read_text().rpartition(")")[2].split()
-        return (int(words[11]) + int(words[12])) / os.sysconf("SC_CLK_TCK")
-    return 0.0
-
-
-def children_of(number):
-    """The processes that a process has begun."""
-    with contextlib.suppress(OSError):
-        return [int(word) for word in pathlib.Path(f"/proc/{number}/task/{number}/children").read_text().split()]
-    return []
-
-
-def most_memory(number):
-    """The most memory that a process had, in bytes."""
-    with contextlib.suppress(OSError):
-        found = re.search(r"VmHWM:\s*(\d+)", pathlib.Path(f"/proc/{number}/status").read_text())
-        return int(found[1]) * 1024 if found else 0
-    return 0
-
-
 class Meter:
-    """Measures parts of the work on a host, and prints a line for each."""
+    """Measure parts of the work on a host, and print a line per part."""
 
-    def __init__(self, name, folder, host):
-        self.name, self.device, self.host, self.seconds = name, device_of(folder), host, {}
+    def __init__(self, name: str, folder: str | pathlib.Path, host: Host) -> None:
+        self.name, self.device, self.host = name, device_of(folder), host
+        self.seconds: dict[str, float] = {}
 
     @contextlib.contextmanager
-    def part(self, what, count=0):
-        """A part of the work, on this many resources. Gives what tells its seconds, once it is over."""
+    def part(self, what: str, count: int = 0) -> Iterator[Callable[[], float]]:
+        """Measure a part of the work on this many resources. Yield a function that later returns its seconds."""
         used, passed = processors()
         ours, started, (busy, written) = self.used(), time.monotonic(), disk_of(self.device)
         yield lambda: self.seconds[what]
@@ -83,8 +66,8 @@ class Meter:
               f"{sources:.1f} s the sources, {nginx:.1f} s nginx; "
               f"at work: all processors {busy_share:.0f} of 100{disk}", flush=True)
 
-    def used(self):
-        """The seconds of a processor that this process and its tools, the sources, and nginx have used."""
+    def used(self) -> tuple[float, float, float]:
+        """Return the processor seconds of this process and its tools, of the sources, and of nginx."""
         times, host = os.times(), self.host
         sources = host.ended + sum(used_by(server.process.pid) for server in host.sources.values() if server.process)
         nginx = sum(used_by(number) for number in [host.nginx.pid, *children_of(host.nginx.pid)]) if host.nginx else 0.0

@@ -1,1 +1,1 @@
-"""The Python package and the Debian packages, built in a Debian that has nothing else."""
+"""Tests that build the Python package and the Debian packages in a minimal Debian."""

@@ -1,4 +1,4 @@
-"""A Debian with what builds, and nothing of this machine: a folder that is entered without a network."""
+"""Enter a Debian that has only build tools, without a network, by a command."""
 from __future__ import annotations
 
 import contextlib
@@ -12,26 +12,26 @@ from operations.package.build import sources
 from operations.tests.machine import debian
 
 SUITE = "bookworm"
-# What pip and dpkg-buildpackage use, and what the command imports.
+# Packages that pip, dpkg-buildpackage and the command need.
 PACKAGES = ["python3", "python3-pip", "python3-setuptools", "python3-wheel", "python3-build", "python3-defusedxml",
             "python3-tqdm",
-            "python3-urllib3", "build-essential", "debhelper", "dh-python", "pybuild-plugin-pyproject"]
-# How long this Debian may be made, and a step there may take, in seconds: it is larger than that of the machines.
+            "python3-pycurl", "build-essential", "debhelper", "dh-python", "pybuild-plugin-pyproject"]
+# Timeouts in seconds to make this Debian, which is larger than that of the machines, and for a step in it.
 MAKING, SECONDS = 1_800, 900
-# (the folder may lie where no device can be opened)
+# (the folder may be on a file system without devices)
 ENTER = 'mount --rbind /dev "$0/dev" && mount -t proc proc "$0/proc" && exec chroot "$0" sh -c "$@"'
 PLAIN = {"PATH": "/usr/local/sbin:/usr/local/bin:/usr/sbin:/usr/bin:/sbin:/bin", "HOME": "/root", "LC_ALL": "C.UTF-8"}
 Ran = subprocess.CompletedProcess[str]
 
 
 class Root:
-    """A Debian below a folder."""
+    """A Debian in a folder."""
 
     def __init__(self, path: Path) -> None:
         self.path = path
 
     def run(self, script: str, **settings: str) -> Ran:
-        """Runs a script of shell there, without a network."""
+        """Run a shell script in it, without a network."""
         words = ["unshare", "--net", "--mount", "--pid", "--fork", "--kill-child", "sh", "-c", ENTER, str(self.path),
                  script]
         return subprocess.run(words, env=PLAIN | settings, stdin=subprocess.DEVNULL, capture_output=True, text=True,
@@ -39,7 +39,7 @@ class Root:
                               timeout=SECONDS)
 
     def source(self, place: str) -> Path:
-        """A new copy of the sources at a place there."""
+        """Make a new copy of the sources at a place in it."""
         folder = self.path / place.lstrip("/")
         shutil.rmtree(folder, ignore_errors=True)
         sources(folder)
@@ -48,7 +48,7 @@ class Root:
 
 @contextlib.contextmanager
 def fresh() -> Iterator[Root]:
-    """A new Debian, which goes with the block."""
+    """Make a new Debian; remove it at the end."""
     debian.MAKING = MAKING
     with tempfile.TemporaryDirectory(prefix="fresh-", dir="/var/tmp") as room:
         path = Path(room, "root")

@@ -1,3 +1,1 @@
-"""The image for containers, made of the packages of the program that is tested, and run by runc and systemd-nspawn
-(tests/README.md).
-"""
+"""Tests of the image for containers, made of the tested packages, under runc and systemd-nspawn (tests/README.md)."""

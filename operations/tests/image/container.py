@@ -1,6 +1,4 @@
-"""A container of the image: it is run by runc as the page says, or by systemd-nspawn; it is killed, and its volume
-stays.
-"""
+"""Run a container of the image with the page's runc command or systemd-nspawn. The volume survives a kill."""
 from __future__ import annotations
 
 import contextlib
@@ -16,22 +14,20 @@ from pathlib import Path
 
 from tests.program import Differs
 
-# No step is waited for longer than this.
+# The timeout of a step in seconds.
 SECONDS = 60
 NAME = "ropepeach"
 
 
 def free_port() -> int:
-    """A port that nobody has."""
+    """Return a free port."""
     with socket.socket() as probe:
         probe.bind(("127.0.0.1", 0))
         return int(probe.getsockname()[1])
 
 
 class Container:
-    """A container of a layout, read only, as the image's user, without capabilities, with one volume and this machine's
-    network.
-    """
+    """A read-only container of a layout: the image's user, no capabilities, one volume, this machine's network."""
 
     def __init__(self, room: Path, layout: Path, version: str) -> None:
         self.room, self.root, self.port = room, room / "host", free_port()
@@ -46,14 +42,14 @@ class Container:
         os.chown(self.data, *self.user)
 
     def words(self, *command: str) -> list[str]:
-        """The words of a container's process: those of the image, or its program with other arguments."""
+        """Return the command line of the container: that of the image, or its program with other arguments."""
         args: list[str] = self.image["process"]["args"]
         if command:
             return [*args[:3], *command]
         return [str(self.port) if word == "8080" else word for word in args]
 
     def configure(self, *command: str) -> None:
-        """Writes how the container runs."""
+        """Write the configuration of the container."""
         bundle = json.loads(json.dumps(self.image))
         bundle["process"].update(args=self.words(*command), terminal=False, capabilities={}, noNewPrivileges=True)
         bundle["root"]["readonly"] = True
@@ -64,12 +60,12 @@ class Container:
         (self.bundle / "config.json").write_text(json.dumps(bundle))
 
     def runc(self, *words: str) -> subprocess.CompletedProcess[str]:
-        """Runs runc, and gives what it said."""
+        """Run runc."""
         return subprocess.run(["runc", "--root", str(self.state), *words], capture_output=True, text=True,
                               timeout=SECONDS, stdin=subprocess.DEVNULL)
 
     def once(self, *command: str) -> str:
-        """Runs the image's program with other arguments to its end; what it wrote."""
+        """Run the image's program with other arguments; return its output."""
         self.configure(*command)
         ended = self.runc("run", "--bundle", str(self.bundle), f"{NAME}-once-{os.getpid()}")
         if ended.returncode:
@@ -77,7 +73,7 @@ class Container:
         return ended.stdout
 
     def start(self) -> None:
-        """Starts the source, and waits until it listens."""
+        """Start the source, and wait until it listens."""
         self.configure()
         with open(self.room / "log", "ab") as log:
             self.process = subprocess.Popen(["runc", "--root", str(self.state), "run", "--bundle", str(self.bundle),
@@ -86,17 +82,17 @@ class Container:
         self.until(self.listens, "the source listens")
 
     def listens(self) -> bool:
-        """Whether somebody answers on the port."""
+        """Return whether a process listens on the port."""
         with contextlib.suppress(OSError), socket.create_connection(("127.0.0.1", self.port), timeout=5):
             return True
         return False
 
     def inside(self, *words: str) -> subprocess.CompletedProcess[str]:
-        """Runs a program within the running container."""
+        """Run a program in the running container."""
         return self.runc("exec", f"{NAME}-{os.getpid()}", *words)
 
     def stop(self, number: int = signal.SIGKILL) -> float:
-        """Sends the container's first process a signal, and waits for its end; the seconds that it took."""
+        """Send a signal to the container's first process; return the seconds until its end."""
         started = time.monotonic()
         if self.process is not None:
             self.runc("kill", f"{NAME}-{os.getpid()}", str(int(number)))
@@ -106,14 +102,14 @@ class Container:
         return time.monotonic() - started
 
     def close(self) -> None:
-        """Ends the container, whatever it does."""
+        """End the container."""
         self.stop()
         shutil.rmtree(self.room, ignore_errors=True)
 
-    # What operations.tests.machine.puts asks of a machine.
+    # Methods for operations.tests.machine.puts.
 
     def until(self, holds: Callable[[], object], what: str) -> None:
-        """Waits until something holds."""
+        """Wait until a call returns a true value."""
         end = time.monotonic() + SECONDS
         while not holds():
             if time.monotonic() > end:
@@ -122,15 +118,15 @@ class Container:
             time.sleep(0.05)
 
     def host_words(self, words: tuple[object, ...]) -> list[str]:
-        """Words of a program on this machine, whose modules are in a folder of the container's room."""
+        """Return the command line of a program on this machine, with modules from a folder of the container's root."""
         return [str(word).replace("PYTHONPATH=/root", f"PYTHONPATH={self.root}/root") for word in words]
 
     def begun(self, *words: object) -> subprocess.Popen[str]:
-        """A program on this machine that goes on by itself."""
+        """Start a program on this machine."""
         return subprocess.Popen(self.host_words(words), stdin=subprocess.DEVNULL, stdout=subprocess.PIPE,
                                 stderr=subprocess.DEVNULL, text=True)
 
     def output(self, *words: object) -> str:
-        """What a program on this machine writes."""
+        """Return the output of a program run on this machine."""
         return subprocess.run(self.host_words(words), capture_output=True, text=True, check=True,
                               timeout=SECONDS).stdout

@@ -1,2 +1,1 @@
-"""A whole machine that boots: Debian of its registry, with the packages installed, in systemd-nspawn (tests/README.md).
-"""
+"""Tests on a whole booted machine: Debian of its registry with the packages, in systemd-nspawn (tests/README.md)."""

@@ -1,34 +1,49 @@
-"""A machine in systemd-nspawn: it boots, runs commands, is killed whole, and boots again. It has a network of its own,
-with loopback alone.
-"""
+"""Run a machine in systemd-nspawn: boot it, run commands, kill it whole, boot it again. It only has loopback."""
+from __future__ import annotations
+
 import contextlib
 import os
 import re
 import signal
 import subprocess
 import time
+from collections.abc import Callable
+from dataclasses import dataclass
 from pathlib import Path
+from typing import Any, Self, TypeVar
+
+import pytest
 
 from operations.tests.machine.debian import Missing, alone
 from tests.program import Differs
 
-# No step is waited for longer than this.
+Found = TypeVar("Found")
+Ran = subprocess.CompletedProcess[str]
+Begun = subprocess.Popen[str]
+# Marks of the modules of tests of the machine: they share one, and run in the order of conftest.py.
+ON_MACHINE = [pytest.mark.root, pytest.mark.alone, pytest.mark.xdist_group("machine"), pytest.mark.timeout(1800),
+              pytest.mark.needs("debootstrap", "systemd-nspawn", "nsenter", "dpkg-buildpackage", "dh", "pybuild",
+                                "strip", "cc")]
+# The file of the source, and the address of its site.
+DISK, HTTPS = "/var/lib/ropepeach/source.disk", "https://source.example.org"
+
+# The timeout of a step in seconds.
 SECONDS = 60
-# Two machines at once would be in each other's control groups.
+# Two machines at once would share control groups.
 LOCK = "/tmp/ropepeach-machine.lock"
 SETTINGS = ["PATH=/usr/local/sbin:/usr/local/bin:/usr/sbin:/usr/bin:/sbin:/bin", "HOME=/root", "LC_ALL=C.UTF-8",
             "TERM=dumb"]
 
 
-def children(number):
-    """The processes that a process has begun."""
+def children(number: int) -> list[int]:
+    """Return the child processes of a process."""
     with contextlib.suppress(OSError):
         return [int(word) for word in Path(f"/proc/{number}/task/{number}/children").read_text().split()]
     return []
 
 
-def end(run):
-    """Kills a process and what it has begun, so that nobody writes any more."""
+def end(run: subprocess.Popen[Any]) -> None:
+    """Kill a process and its children, so that they write no more."""
     for number in [*children(run.pid), run.pid]:
         with contextlib.suppress(ProcessLookupError):
             os.kill(number, signal.SIGKILL)
@@ -36,33 +51,36 @@ def end(run):
 
 
 class Machine:
-    """A machine on a folder that has a whole Debian."""
+    """A machine on the folder of a complete Debian."""
 
-    def __init__(self, root):
-        self.root, self.nspawn, self.leader, self.log = Path(root), None, None, Path(f"{root}.log")
-        # How long something is waited for, in seconds.
-        self.patience = SECONDS
-
-    def __enter__(self):
+    def __init__(self, root: str | Path) -> None:
+        self.root, self.log = Path(root), Path(f"{root}.log")
+        self.nspawn: subprocess.Popen[bytes] | None = None
+        self.leader: int | None = None
+        # The timeout of `until` in seconds.
+        self.patience: float = SECONDS
         self.ending = contextlib.ExitStack()
+
+    def __enter__(self) -> Self:
         self.ending.enter_context(alone(LOCK, "a machine of its own"))
         return self
 
-    def __exit__(self, *fault):
+    def __exit__(self, *fault: object) -> None:
         self.kill()
         self.ending.close()
 
-    def boot(self):
-        """Boots, until all units have been started."""
-        words = ["systemd-nspawn", "--quiet", "-D", self.root, "--register=no", "--keep-unit", "--boot",
+    def boot(self) -> None:
+        """Boot, and wait until systemd has started all units."""
+        words = ["systemd-nspawn", "--quiet", "-D", str(self.root), "--register=no", "--keep-unit", "--boot",
                  "--private-network", "--console=read-only"]
         with open(self.log, "ab") as log:
             self.nspawn = subprocess.Popen(words, stdin=subprocess.DEVNULL, stdout=log, stderr=log,
                                            start_new_session=True)
         self.until(self.is_up, "the machine is up")
 
-    def is_up(self):
-        """Whether systemd says that all is started, or that a unit failed."""
+    def is_up(self) -> bool:
+        """Return whether systemd has started all units or reports a failed one."""
+        assert self.nspawn
         if self.nspawn.poll() is not None:
             raise Missing(f"a machine that boots: {self.log.read_text(errors='replace').strip()[-300:]}")
         for self.leader in children(self.nspawn.pid):
@@ -70,39 +88,37 @@ class Machine:
                 return self.run("systemctl", "is-system-running", seconds=10).stdout.strip() in ("running", "degraded")
         return False
 
-    def words(self, words):
-        """The words by which a command runs inside."""
+    def words(self, words: tuple[object, ...]) -> list[str]:
+        """Return the command line that runs a command inside."""
         return ["nsenter", "--target", str(self.leader), "--all", "/usr/bin/env", "-i", *SETTINGS, *map(str, words)]
 
-    def run(self, *words, text="", seconds=SECONDS):
-        """Runs a command inside, and gives what it wrote, and its status."""
-        how = {"stdout": subprocess.PIPE, "stderr": subprocess.STDOUT, "text": True, "errors": "replace"}
-        return subprocess.run(self.words(words), input=text, timeout=seconds, **how)
+    def run(self, *words: object, text: str = "", seconds: float = SECONDS) -> Ran:
+        """Run a command inside, with its messages joined to its output."""
+        return subprocess.run(self.words(words), input=text, timeout=seconds, stdout=subprocess.PIPE,
+                              stderr=subprocess.STDOUT, text=True, errors="replace")
 
-    def output(self, *words, **more):
-        """What a command inside writes; it has to end well."""
-        process = self.run(*words, **more)
+    def output(self, *words: object, seconds: float = SECONDS) -> str:
+        """Return the output of a command inside, which must succeed."""
+        process = self.run(*words, seconds=seconds)
         if process.returncode:
             raise Differs(f"{' '.join(map(str, words))}: status {process.returncode}: {process.stdout.strip()[-600:]}")
         return process.stdout
 
-    def shell(self, line, **more):
-        """What a line of a shell writes inside."""
-        return self.output("bash", "-ec", line, **more)
+    def shell(self, line: str, seconds: float = SECONDS) -> str:
+        """Return the output of a shell command line inside."""
+        return self.output("bash", "-ec", line, seconds=seconds)
 
-    def begun(self, *words):
-        """A command inside that goes on by itself, and is written to and read from."""
+    def begun(self, *words: object) -> Begun:
+        """Start a command inside."""
         return subprocess.Popen(self.words(words), stdin=subprocess.DEVNULL, stdout=subprocess.PIPE,
                                 stderr=subprocess.DEVNULL, text=True)
 
-    def kill(self):
-        """Kills every process of the machine at once, as when its power goes. What was written stays, synced or not:
-        this machine keeps it.
-        """
+    def kill(self) -> None:
+        """Kill every process of the machine at once. This machine keeps all its writes, synced or not."""
         if not self.nspawn:
             return
         if self.nspawn.poll() is None:
-            # (the first process takes all others with it)
+            # (the kernel kills all others with the first process)
             for leader in children(self.nspawn.pid):
                 os.kill(leader, signal.SIGKILL)
             try:
@@ -111,36 +127,57 @@ class Machine:
                 end(self.nspawn)
         self.nspawn = self.leader = None
 
-    def shows(self, unit, *properties):
-        """Properties of a unit."""
-        lines = self.output("systemctl", "show", *(f"--property={name}" for name in properties), unit).splitlines()
-        found = dict(line.partition("=")[::2] for line in lines)
-        return found[properties[0]] if len(properties) == 1 else tuple(found[name] for name in properties)
+    def shows(self, unit: str, name: str) -> str:
+        """Return a property of a unit."""
+        return self.output("systemctl", "show", f"--property={name}", unit).strip().removeprefix(f"{name}=")
 
-    def is_active(self, unit):
-        """Whether a unit is active."""
+    def is_active(self, unit: str) -> bool:
+        """Return whether a unit is active."""
         return self.shows(unit, "ActiveState") == "active"
 
-    def failed(self):
-        """The units that `systemctl --failed` shows."""
+    def failed(self) -> list[str]:
+        """Return the units that `systemctl --failed` shows."""
         return re.findall(r"\S+\.(?:service|timer)", self.output("systemctl", "--failed", "--plain", "--no-legend"))
 
-    def journal(self, unit, since=None):
-        """What the journal has of a unit: all of this boot, or from a cursor on."""
+    def journal(self, unit: str, since: str = "") -> str:
+        """Return the journal of a unit: all of this boot, or the part after a cursor."""
         return self.output("journalctl", "--boot", "--no-pager", "--output=cat", f"--unit={unit}",
                            *([f"--after-cursor={since}"] if since else []))
 
-    def cursor(self):
-        """A place in the journal: its end now."""
+    def cursor(self) -> str:
+        """Return the cursor of the end of the journal."""
         self.output("journalctl", "--sync")
         return self.output("journalctl", "--no-pager", "--lines=1", "--output=cat", "--show-cursor").strip().rpartition(
             "-- cursor: ")[2]
 
-    def until(self, is_so, what):
-        """Waits until something is so."""
+    def until(self, is_so: Callable[[], Found], what: str) -> Found:
+        """Wait until a call returns a true value."""
         end = time.monotonic() + self.patience
         while not (found := is_so()):
             if time.monotonic() > end:
                 raise Differs(f"not within {self.patience} seconds: {what}")
             time.sleep(0.05)
         return found
+
+
+@dataclass(frozen=True)
+class Packages:
+    """The packages of a program, and those of a later version."""
+
+    first: list[Path]
+    later: list[Path]
+
+
+def drop_in(machine: Machine, unit: str, text: str, name: str = "changed") -> None:
+    """Change a unit by a drop-in; remove the drop-in if the text is empty."""
+    file = machine.root / f"etc/systemd/system/{unit}.d/{name}.conf"
+    file.unlink(missing_ok=True)
+    if text:
+        file.parent.mkdir(parents=True, exist_ok=True)
+        file.write_text(text)
+    machine.output("systemctl", "daemon-reload")
+
+
+def disk_of(machine: Machine) -> Path:
+    """Return the path of the source's file, seen from outside the machine."""
+    return Path(f"{machine.root}{DISK}")

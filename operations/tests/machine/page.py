@@ -1,11 +1,11 @@
-"""The commands of operations/docs/OPERATING.md, as they are printed."""
+"""Read the commands of operations/docs/OPERATING.md."""
 import re
 
 from tests.program import ROOT
 
 
-def commands(heading, words):
-    """The block of commands below a heading that has these words in it, and one line only once."""
+def commands(heading: str, words: str) -> str:
+    """Return the only block of commands below a heading with these words."""
     page = (ROOT / "operations/docs/OPERATING.md").read_text()
     section = re.search(rf"(?ms)^##+ {re.escape(heading)}\n(.*?)(?=^##+ |\Z)", page)
     blocks = [re.sub(r"(?m)^ +", "", block) for block in re.findall(r"(?ms)^ *```\n(.*?)^ *```",

@@ -1,24 +1,26 @@
-"""Puts resources one after another, and tells what was answered; it runs inside the machine, so it stands alone."""
+"""Put resources in a loop, and print the numbers of the answered puts. Runs inside the machine, and imports no test."""
+from __future__ import annotations
+
 import http.client
 import sys
 import time
 
-# How many names the puts go round, and the longest body, nearly.
+# The number of names that the puts repeat, and about the longest body in bytes.
 NAMES, LONGEST = 40, 30_000
 
 
-def name(word, number):
-    """The name of the put of a number."""
+def name(word: str, number: int) -> str:
+    """Return the name for the put of a number."""
     return f"{word}{number % NAMES}"
 
 
-def body(number):
-    """The body of the put of this number. Its number stands first."""
+def body(number: int) -> bytes:
+    """Return the body for the put of a number, which begins with the number."""
     return (b"%d " % number).ljust(number * 7_919 % LONGEST + 12, b"%d" % (number % 10))
 
 
-def request(port, method, path, sent=None):
-    """The status and the body of an answer."""
+def request(port: int, method: str, path: str, sent: bytes | None = None) -> tuple[int, bytes]:
+    """Return the status and the body of a response."""
     connection = http.client.HTTPConnection("127.0.0.1", port, timeout=30)
     try:
         connection.request(method, path, sent)
@@ -28,8 +30,8 @@ def request(port, method, path, sent=None):
         connection.close()
 
 
-def put(port, word, number):
-    """Puts one resource until that is answered; tells `begun N` before, and `answered N` then."""
+def put(port: int, word: str, number: int) -> None:
+    """Put one resource until the source accepts it; print `begun N` before and `answered N` after."""
     print("begun", number, flush=True)
     while True:
         try:
@@ -41,10 +43,8 @@ def put(port, word, number):
     print("answered", number, flush=True)
 
 
-def tell_resources(port, word):
-    """Tells `NAME N` for each name that is held, with the number of the put that its body is of; -1 where it is of
-    none.
-    """
+def tell_resources(port: int, word: str) -> None:
+    """Print `NAME N` for every name in the source: N is the number of the put of its body, or -1 without such a put."""
     for place in range(NAMES):
         status, found = request(port, "GET", f"/resource/{name(word, place)}")
         if status == 404:
@@ -53,13 +53,12 @@ def tell_resources(port, word):
         print(name(word, place), number if number >= 0 and found == body(number) and number % NAMES == place else -1)
 
 
-def main():
-    """By the words `put PORT WORD FIRST` it puts from this number on, and never ends; by `held PORT WORD` it tells what
-    is held.
-    """
+def main() -> None:
+    """Put forever, with rising numbers (`put PORT WORD FIRST`), or print the held names (`held PORT WORD`)."""
     port, word = int(sys.argv[2]), sys.argv[3]
     if sys.argv[1] == "held":
-        return tell_resources(port, word)
+        tell_resources(port, word)
+        return
     number = int(sys.argv[4])
     while True:
         put(port, word, number)

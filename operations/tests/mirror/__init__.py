@@ -1,1 +1,1 @@
-"""Mirrors of sources that change and are killed meanwhile."""
+"""Tests of mirrors whose sources change and are killed meanwhile."""

@@ -1,23 +1,28 @@
-"""The folders of mirrors, and how a destination asks a source on loopback."""
-import re
+"""Describe folders of mirrors, and set the environment of a command for a source on loopback."""
+from __future__ import annotations
 
-# A setting by which loopback is asked directly.
+import pathlib
+import re
+from collections.abc import Mapping
+
+# Settings that bypass proxies for loopback.
 DIRECT = {"no_proxy": "127.0.0.1"}
-# What a mirror keeps of its own at the top of its folder.
+# Files of the mirror itself, at the top of its folder.
 OWN = ("#state", "#known", "#known-later")
-# No step takes longer than this.
+# The timeout of a step in seconds.
 SECONDS = 60
 
 
-def files_of(folder):
-    """The files of a mirror by their paths, with their bytes, and the folders, with None."""
-    found = {}
+def files_of(folder: pathlib.Path) -> dict[str, bytes | None]:
+    """Return the bytes of the files of a mirror by their paths, and None for its folders."""
+    found: dict[str, bytes | None] = {}
     for path in folder.rglob("*"):
         found[str(path.relative_to(folder))] = None if path.is_dir() else path.read_bytes()
     return {name: body for name, body in found.items() if name not in OWN}
 
 
-def laid_out(resources):
-    """The files and the folders that a mirror has of what is held."""
+def laid_out(resources: Mapping[str, bytes]) -> dict[str, bytes | None]:
+    """Return the files and folders of a mirror of these resources."""
     above = {name[: slash.start()] for name in resources for slash in re.finditer("/", name)}
-    return dict.fromkeys(above) | {name + "#" * (name in above): body for name, body in resources.items()}
+    folders: dict[str, bytes | None] = dict.fromkeys(above)
+    return folders | {name + "#" * (name in above): body for name, body in resources.items()}

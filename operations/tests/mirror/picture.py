@@ -1,10 +1,8 @@
-"""The picture of a destination that mirrors a source between its commands, and of the point that the mirror is
-then.
+"""Draw a source, a destination that mirrors it between its commands, and the state that the mirror then has.
 
-A source on a file is served by the built program while the clock stands still, so each moment is one millisecond
-after the one before. `ropepeach mirror` runs on a folder; before some of its requests commands are put to the
-source. After each of two runs the folder has to be, byte for byte, what the source held after the changes up to the
-moment that the run told: else there is no picture.
+The built program serves a source on a file with a stopped clock, so every moment is one millisecond after the moment
+before. `ropepeach mirror` runs on a folder; some commands go to the source before some of its requests. After both runs
+the folder must equal the source at the reported moment, byte for byte; otherwise no picture is drawn.
 """
 import collections
 import contextlib
@@ -14,35 +12,34 @@ import pathlib
 import subprocess
 
 from operations.tests.mirror.mirrors import SECONDS, files_of
-from ropepeach import lists, mirror
-from ropepeach.connections import Connections
-from ropepeach.mirror_folder import Folder
+from operations.tests.mirror.within import engine_of
+from ropepeach.http.client import Client
 from tests.pictures.svg import FILLS, INK, SOFT, Picture
 from tests.program import STILL_CLOCK, Differs, interposed
 from tests.served_source import free_port
 
-# What is done before the first run, and then before the request of a number in both runs together.
+# Commands before the first run, and commands before the request of a number, counted over both runs.
 BEFORE = [("PUT", "a", "1"), ("PUT", "b", "1"), ("POST", "", "")]
 COMMANDS = {4: [("PUT", "a", "2"), ("DELETE", "b", "")], 7: [("PUT", "c", "1")]}
-# The documents by their paths. By the first two a destination finds the lists.
+# The paths of documents. A destination finds the lists by the first two.
 FINDING = ["/.well-known/resourcesync", "/capabilitylist.xml"]
 LISTS = {"/resourcelist.xml": "Resource List", "/changelist.xml": "Change List"}
-# A command, its moment, and what is held after it; a fetch of a path, and what it brought; and the end of a run of
-# the destination with the moment that it told.
+# A command with its moment and the resources after it; a fetch with its path and its result; the end of a run with the
+# moment that it reported.
 Command = collections.namedtuple("Command", "text moment resources")
 Fetch = collections.namedtuple("Fetch", "path body")
 End = collections.namedtuple("End", "until")
 
 
 class Story:
-    """What happens between a source and a destination, column by column."""
+    """The events between a source and a destination, column by column."""
 
     def __init__(self, port, changed):
         self.port, self.changed = port, changed
         self.columns, self.resources, self.states, self.requests = [], {}, {}, 0
 
     def command(self, method, name, value):
-        """One command, and what is held after it."""
+        """Send one command, and record the resources after it."""
         path = f"/resource/{name}" if name else "/publish"
         connection = http.client.HTTPConnection("127.0.0.1", self.port, timeout=SECONDS)
         with contextlib.closing(connection):
@@ -59,7 +56,7 @@ class Story:
         self.columns.append(Command(text, moment, self.resources))
 
     def ask(self, asking, path, limit):
-        """The request of a destination, noted, with the commands before it."""
+        """Answer a destination's request after the commands that precede it, and record it."""
         for arguments in COMMANDS.get(self.requests, []):
             self.command(*arguments)
         self.requests += 1
@@ -69,16 +66,16 @@ class Story:
         return answer
 
     def run(self, base, folder):
-        """A run of the destination. The folder is compared with the state at the moment that it told."""
-        opened, connections = Folder(folder, base), Connections(base)
-        asking = connections.ask
-        connections.ask = lambda method, path, limit: self.ask(asking, path, limit)
-        opened.begin()
+        """Run the destination, and compare the folder with the state at the reported moment."""
+        client = Client(base)
+        asking = client.ask
+        client.ask = lambda method, path, limit: self.ask(asking, path, limit)
+        engine = engine_of(client, folder)
         try:
-            mirror.Run(lists.Source(connections, is_at_base=True), opened).go(opened.until is None)
-            until = opened.until
+            engine.go(engine.folder.until is None)
+            until = engine.folder.until
         finally:
-            opened.close()
+            engine.folder.close()
         self.changed(pathlib.Path(folder))
         found = files_of(pathlib.Path(folder))
         if found != {name: value.encode() for name, value in self.states[until].items()}:
@@ -88,7 +85,7 @@ class Story:
 
 @contextlib.contextmanager
 def served(program, room):
-    """The port of a new source that is served while the clock stands still."""
+    """Yield the port of a new source that is served with a stopped clock."""
     port, file = free_port(), pathlib.Path(room, "mirrored.disk")
     file.unlink(missing_ok=True)
     words = [program, "format", file, "65536", f"http://127.0.0.1:{port}", "1000"]
@@ -103,7 +100,7 @@ def served(program, room):
 
 
 def story(program, room, changed):
-    """All columns, of real runs."""
+    """Return all columns from real runs."""
     with served(program, room) as port:
         events = Story(port, changed)
         for arguments in BEFORE:
@@ -116,18 +113,18 @@ def story(program, room, changed):
 TOLD = ["Above, the commands of a source, each with the point of its history that it makes. Below, what a destination "
         "fetches meanwhile.", "A run ends at the point where the source was when its Change List was last read "
         "(dashed); later commands are for the next run."]
-# Where things stand in the picture, and how wide a column is.
+# Positions in the picture, and the widths of columns.
 SOURCE, HISTORY, ABOVE, FETCHES, BELOW, RIGHT = 122, 172, 234, 316, 378, 870
 WIDE, WIDEST = 46, 62
 
 
 def spelled(resources):
-    """Resources as the picture has them."""
+    """Return resources as the picture writes them."""
     return [f"{name} = {value}" for name, value in sorted(resources.items())]
 
 
 def placed(columns):
-    """The columns with the middles that they are drawn at. The two fetches that find the lists are one column."""
+    """Return the columns with the middles of their places. The two fetches that find the lists are one column."""
     found, x = [], 30
     for column in columns:
         if isinstance(column, Fetch) and column.path == FINDING[1]:
@@ -139,7 +136,7 @@ def placed(columns):
 
 
 def draw_command(picture, x, command, number):
-    """A command above, and below it the point of the history that it makes."""
+    """Draw a command above, and below it the point of the history that it makes."""
     what, _, of = command.text.partition(" ")
     picture.lines(x, SOURCE, [what, of] if of else ["", what], 12, anchor="middle")
     picture.element("circle", cx=x, cy=HISTORY, r=10, fill=FILLS["dir"], stroke=INK)
@@ -148,7 +145,7 @@ def draw_command(picture, x, command, number):
 
 
 def draw_fetch(picture, x, fetch):
-    """A fetch below: what is asked for, and what came where it is a resource."""
+    """Draw a fetch below: the path, and the content of a resource."""
     picture.box(x - 5, FETCHES - 5, 10, 10, FILLS["rec"], INK)
     name = fetch.path.removeprefix("/resource/")
     lines = [f"get {name}", fetch.body if fetch.body == "404" else f"{name} = {fetch.body}"]
@@ -160,7 +157,7 @@ def draw_fetch(picture, x, fetch):
 
 
 def draw_end(picture, x, number, point, read):
-    """The end of a run, with an arrow to the point that the mirror is; and where the Change List was last read."""
+    """Draw the end of a run, with an arrow to the point of the mirror, and the last read of the Change List."""
     lane = ABOVE + 14 * point[0] % 28
     picture.line(read, FETCHES - 6, read, HISTORY, SOFT, stroke_dasharray="3,3")
     picture.arrow([(x, FETCHES - 8), (x, lane + 14), (point[1], lane + 14), (point[1], ABOVE - 6)], stroke_width=1.5)
@@ -169,17 +166,17 @@ def draw_end(picture, x, number, point, read):
 
 
 def draw_run(picture, begin, end, text):
-    """A bracket below the fetches of a run."""
+    """Draw a bracket below the fetches of a run."""
     picture.element("path", d=f"M{begin:.1f} {BELOW - 6}V{BELOW}H{end:.1f}V{BELOW - 6}", fill="none", stroke=SOFT)
     picture.text((begin + end) / 2, BELOW + 16, text, 12, "middle", fill=SOFT)
 
 
 def as_it_is(folder):
-    """Leaves a mirror as it is."""
+    """Leave a mirror unchanged."""
 
 
 def draw(program, room, changed=as_it_is):
-    """The picture, of the mirror as it is or as it is changed after each run."""
+    """Return the picture; `changed` may change the mirror after each run."""
     columns = story(program, room, changed)
     picture = Picture(900, 408, "A destination between the commands of a source", description(columns))
     picture.text(30, 34, "A destination between the commands of a source", 17, font_weight="bold")
@@ -204,7 +201,7 @@ def draw(program, room, changed=as_it_is):
 
 
 def description(columns):
-    """The picture in words."""
+    """Return the picture in words."""
     events, points = [], {}
     for column in columns:
         if isinstance(column, Command):

@@ -1,9 +1,6 @@
-"""Draws the picture of a mirror again, from runs of `ropepeach mirror` on the proved program, and compares it byte for
-byte.
+"""Draw the picture of a mirror on the proved program (`make pictures`).
 
-usage: python3 -m operations.tests.mirror.pictures [PROGRAM] [--draw]
-    the built program, where none is given; --draw keeps what it draws
-Exit status 1 where the picture differs (`make pictures` draws it anew), or where something wrong is not noticed.
+usage: python3 -m operations.tests.mirror.pictures --draw
 """
 
 import sys
@@ -16,12 +13,12 @@ from tests.program import ROOT
 
 
 def a_file_more(folder: Path) -> None:
-    """A file that the source did not have."""
+    """Add a file that the source never had."""
     (folder / "more").write_bytes(b"")
 
 
 def a_stale_file(folder: Path) -> None:
-    """A file as an earlier command left it."""
+    """Write a file as of an earlier command."""
     (folder / "a").write_bytes(b"1")
 
 

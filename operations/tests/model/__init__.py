@@ -1,3 +1,1 @@
-"""Made-up sources with a random history, and models of a few lines that say what the commands must make of
-them (tests/README.md).
-"""
+"""Tests of the commands against models of a few lines, with simulated sources and histories (tests/README.md)."""

@@ -1,15 +1,15 @@
-"""What a run of fill must make of its source, by the files of its folder (operations/docs/OPERATING.md, ropepeach-
-fill(1)).
+"""Check a run of fill by the files of its folder (operations/docs/OPERATING.md, ropepeach-fill(1)).
 
-  - A run that ends with status 0, or 3 where something was left out: the source holds what the folder holds,
-    each put with its type, and what it held by a name that was left out, or below it; the Resource List is
-    what is held. The counts are what had to be done.
-  - A run that ends early: each name has what it had or what the folder has. It counts what the source
-    acknowledged, and nothing else.
-  - No run puts what is held, deletes what has a file, or deletes more than it may: then nothing is changed.
-  - Deletions come first, which makes room. Behind a refusal that ends the run nothing more is sent. No group
-    has more than 16 changes.
-  - What others put or delete meanwhile stays theirs, or is the folder's; the run goes on.
+  - After a run with status 0, or 3 if something was left out, the source has the files of the folder, with their
+    types, and keeps its resources at or below names that were left out; the Resource List has all of them. The counts
+    are the needed changes.
+  - After a run that ends early, a name has its old bytes or those of the folder. The run counts exactly the
+    acknowledged changes.
+  - A run puts no body that the source has, and deletes no name that has a file. If it would delete more than allowed,
+    it changes nothing.
+  - Deletions come first, to make room. After a refusal that ends the run it sends no more changes. A group has at
+    most 16 changes.
+  - Concurrent puts and deletions by others stay, or the folder's files replace them; the run goes on.
 """
 from __future__ import annotations
 
@@ -24,10 +24,8 @@ Bodies = dict[str, tuple[bytes, str]]
 
 @dataclasses.dataclass
 class Wanted:
-    """What a run is to do: files by the names that they stand for, with their types; the names that are left
-    out, and its options.
-
-    A type that a pattern gave is compared, one by the ending of a name is not.
+    """The task of a run: files by name, with their types; names that are left out, and options. A type from a pattern
+    is compared, a type from the ending of a name is not.
     """
 
     files: dict[str, tuple[bytes, str]]
@@ -37,7 +35,7 @@ class Wanted:
 
 
 class Expected:
-    """What has to be done, by what the source holds before a run."""
+    """The changes that a run must make, by the resources of the source before it."""
 
     def __init__(self, wanted: Wanted, source: Taking) -> None:
         self.wanted, self.source = wanted, source
@@ -45,28 +43,26 @@ class Expected:
         self.was_published = source.is_published()
         files = wanted.files
         self.differing = {name for name, (body, kind) in files.items() if self.differs(name, body, kind)}
-        # A source that is full twice over is full for good.
+        # A source that is full twice has no room for good.
         self.is_full = source.due > 2 or (source.due > 0 and "--no-publish" in wanted.options)
         stays = tuple(f"{name}/" for name in wanted.left_out)
         self.gone = {name for name in self.before.keys() - files.keys() - wanted.left_out
                      if not name.startswith(stays)}
 
     def differs(self, name: str, body: bytes, kind: str) -> bool:
-        """Whether a file has to be put."""
+        """Return whether a file must be put."""
         before = self.before.get(name)
         return before is None or before[0] != body or (name in self.wanted.is_typed and before[1] != kind)
 
     def is_refused(self) -> bool:
-        """Whether it would delete more than it may."""
+        """Return whether the run would delete more than allowed."""
         options = self.wanted.options
         if "--max-delete" in options:
             return len(self.gone) > int(options[options.index("--max-delete") + 1])
         return 2 * len(self.gone) > len(self.before) and "--yes" not in options
 
     def must_end_well(self) -> bool:
-        """Whether nothing stands against a good end: others that put or delete meanwhile do not, where all
-        may be deleted.
-        """
+        """Return whether the run must succeed: changes by others do not prevent it, if all may be deleted."""
         if self.source.name == "full":
             return not self.is_full and not self.is_refused()
         if self.source.name == "shared":
@@ -74,7 +70,7 @@ class Expected:
         return self.source.name == "calm" and not self.is_refused()
 
     def may_be(self, name: str) -> list[tuple[bytes, str] | None]:
-        """What a name may have after a run that ended anywhere."""
+        """Return the bytes that a name may have after a run, wherever it ended."""
         before, file = self.before.get(name), self.wanted.files.get(name)
         if name in self.gone:
             return [before, None]
@@ -82,12 +78,12 @@ class Expected:
 
 
 def held_by(source: Taking) -> Bodies:
-    """What a source holds: bytes and type by name."""
+    """Return the bytes and types of a source's resources."""
     return {name: (body, entry.kind) for name, (body, entry) in source.history.state.held.items()}
 
 
 def fault_of(expected: Expected, ended: Ended, others: set[str]) -> str:
-    """What is wrong with a run, or nothing. Others have changed these names meanwhile."""
+    """Return the fault of a run, or "". Others have changed these names meanwhile."""
     source, wanted = expected.source, expected.wanted
     all_wanted = {("put", name) for name in expected.differing} | {("delete", name) for name in expected.gone}
     is_done = ended.status in (0, 3) and not others
@@ -116,7 +112,7 @@ def fault_of(expected: Expected, ended: Ended, others: set[str]) -> str:
 
 
 def fault_of_counts(ended: Ended, source: Taking) -> str:
-    """What is wrong with what a run counted that ended early."""
+    """Return the fault in the counts of a run that ended early."""
     kinds = [what for what, _ in source.acknowledged]
     acknowledged = kinds.count("put"), kinds.count("delete")
     if ended.status < 0:
@@ -127,7 +123,7 @@ def fault_of_counts(ended: Ended, source: Taking) -> str:
 
 
 def fault_at_end(expected: Expected, ended: Ended, resources: Bodies, others: set[str]) -> str:
-    """What is wrong behind status 0 or 3."""
+    """Return the fault of a run with status 0 or 3."""
     source, wanted = expected.source, expected.wanted
     if (ended.status == 3) != bool(wanted.left_out):
         return f"status {ended.status}, and {len(wanted.left_out)} were left out"

@@ -1,13 +1,12 @@
-"""What a run of grow must make of the sources of a collection (ropepeach-grow(1)).
+"""Check a run of grow by the sources of a collection (ropepeach-grow(1)).
 
-  - A run that ends with status 0: each resource is where it lives and nowhere else, with the bytes and the
-    type that it had; it told how many had to move, and each source has published what it holds, where it was
-    changed.
-  - Nothing is deleted before every put is acknowledged, and nothing is sent at all where the description does
-    not name each source, or two sources hold a name with different bytes.
-  - Nothing is put but what lives there, and nothing deleted but what lives elsewhere.
-Whether every resource is held somewhere at every moment, with its newest bytes, is looked at behind each
-answer (collection.py).
+  - After a run with status 0, every resource is in its own source only, with its old bytes and type; the run has
+    reported the number of moved names, and every changed source has published.
+  - All puts are acknowledged before the first deletion. The run sends no change if the description lacks a source, or
+    if two sources hold a name with different bytes.
+  - The run puts names only into their own sources, and deletes them only from other sources.
+
+test_collection.py checks after every response that some source holds every resource with its newest bytes.
 """
 from __future__ import annotations
 
@@ -17,17 +16,17 @@ from operations.tests.model.fill_model import held_by
 from operations.tests.model.runs import Ended
 from operations.tests.model.taking import Taking
 
-# Bytes and type by name, for each source.
+# Bytes and type by name, by source.
 Sources = dict[str, dict[str, tuple[bytes, str]]]
 
 
 def home_of(name: str, members: list[str]) -> str:
-    """Where a name lives (ropepeach-collection(1))."""
+    """Return the source of a name (ropepeach-collection(1))."""
     return max(members, key=lambda member: hashlib.sha256(member.encode() + b"\0" + name.encode()).digest())
 
 
 class Expected:
-    """What has to move, by what is held before a run."""
+    """The moves that a run must make, by the resources before it."""
 
     def __init__(self, sources: dict[str, Taking], is_named: bool) -> None:
         self.sources, self.is_named = sources, is_named
@@ -42,18 +41,18 @@ class Expected:
                        if name not in self.before[self.homes[name]]}
 
     def is_refused(self) -> bool:
-        """Whether nothing may be changed."""
+        """Return whether the run must make no change."""
         return not self.is_named or bool(self.differing)
 
     def after(self) -> Sources:
-        """What each source holds at the end."""
+        """Return the resources of all sources at the end."""
         bodies = {name: resources[name] for resources in self.before.values() for name in resources}
         return {member: {name: bodies[name] for name, home in self.homes.items() if home == member}
                 for member in self.sources}
 
 
 def fault_of(expected: Expected, ended: Ended, options: list[str], others: set[str], is_dry: bool) -> str:
-    """What is wrong with a run, or nothing. Others have put these names meanwhile."""
+    """Return the fault of a run, or "". Others have put these names meanwhile."""
     sources = expected.sources
     sent = {(member, *change) for member, taking in sources.items() for change in taking.sent}
     put = {(member, name) for member, what, name in sent if what == "put"}
@@ -80,7 +79,7 @@ def fault_of(expected: Expected, ended: Ended, options: list[str], others: set[s
 
 
 def fault_at_end(expected: Expected, ended: Ended, options: list[str], others: set[str]) -> str:
-    """What is wrong behind status 0."""
+    """Return the fault of a run with status 0."""
     sources = expected.sources
     found: Sources = {member: held_by(taking) for member, taking in sources.items()}
     wanted = expected.after()
@@ -103,14 +102,14 @@ def fault_at_end(expected: Expected, ended: Ended, options: list[str], others: s
 
 
 def first_line(expected: Expected) -> str:
-    """What a run says of its work."""
+    """Return the line of a run that reports its work."""
     count = sum(map(len, expected.before.values()))
     going, coming = len(expected.going), len(expected.coming)
     return f"{going:,} of {count:,} are where they do not live; {coming:,} have to be put"
 
 
 def fault_of_lines(expected: Expected, ended: Ended) -> str:
-    """What is wrong with what a run told that ended well."""
+    """Return the fault in the lines of a successful run."""
     lines = [first_line(expected)]
     for member in expected.sources:
         put, deleted = (sum(destination == member for destination, _ in those)
@@ -121,7 +120,7 @@ def fault_of_lines(expected: Expected, ended: Ended) -> str:
 
 
 def fault_of_dry(expected: Expected, ended: Ended, others: set[str]) -> str:
-    """What is wrong with what a dry run told."""
+    """Return the fault in the lines of a dry run."""
     output = sorted(ended.output.splitlines())
     moves = [f"move {member} {expected.homes[name]} {name}" for member, name in expected.going]
     wanted = sorted([first_line(expected), *moves])

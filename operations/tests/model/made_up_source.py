@@ -1,6 +1,6 @@
-"""A server of HTTP that answers each request with what a function gives: whole, cut, or nothing.
+"""Serve HTTP: send the response of a function to a request, whole or cut, or close the connection.
 
-It takes one request after another.
+The server answers one request at a time.
 """
 from __future__ import annotations
 
@@ -11,7 +11,7 @@ import threading
 from collections.abc import Callable
 from typing import NamedTuple
 
-# No client is waited for longer than this.
+# The timeout of a connection in seconds.
 SECONDS = 30
 
 
@@ -25,10 +25,7 @@ class Request(NamedTuple):
 
 
 class Answer(NamedTuple):
-    """An answer.
-
-    `length` is what its head says of the body, where that is not the body's own; `is_cut` closes behind it.
-    """
+    """A response. `length` is Content-Length if that differs from the body's; `is_cut` then closes the connection."""
 
     status: int
     body: bytes = b""
@@ -38,22 +35,19 @@ class Answer(NamedTuple):
     is_cut: bool = False
 
     def text(self, is_head: bool) -> bytes:
-        """The bytes of the response."""
+        """Return the bytes of the response."""
         length = len(self.body) if self.length is None else self.length
         size = "" if self.status == 204 else f"Content-Length: {length}\r\n"
         head = f"HTTP/1.1 {self.status} Said\r\nContent-Type: {self.kind}\r\n{size}{self.fields}\r\n"
         return head.encode("latin-1") + (b"" if self.status == 204 or is_head else self.body)
 
 
-# What answers: None closes the connection without an answer.
+# A function that answers requests: None closes the connection without a response.
 Answering = Callable[[Request], Answer | None]
 
 
 class MadeUpSource:
-    """A server, from `with` to its end.
-
-    `requests` has them; it keeps a connection open where `stays` is so.
-    """
+    """A server that runs in `with`. `requests` records its requests; `stays` keeps connections open."""
 
     def __init__(self, answer: Answering) -> None:
         self.answer, self.stays = answer, False
@@ -74,25 +68,25 @@ class MadeUpSource:
         self.thread.join(SECONDS)
 
     def serve(self) -> None:
-        """Serves one connection after another."""
+        """Serve connections one at a time."""
         while True:
             try:
                 connection = self.listener.accept()[0]
             except OSError:
                 return
-            # (what is no request ends its connection; a listener that was closed has no number to wait for)
+            # (an invalid request ends its connection; a closed listener has no descriptor to wait for)
             with connection, contextlib.suppress(OSError, ValueError):
                 connection.settimeout(SECONDS)
                 while self.serve_one(connection) and self.is_next_here(connection):
                     pass
 
     def is_next_here(self, connection: socket.socket) -> bool:
-        """Whether the next request comes by the same connection, and not by another one."""
+        """Return whether the next request comes on the same connection, and not on another one."""
         ready, _, _ = select.select([connection, self.listener], [], [], SECONDS)
         return connection in ready
 
     def serve_one(self, connection: socket.socket) -> bool:
-        """Serves a request. Whether the connection stays open."""
+        """Serve a request; return whether the connection stays open."""
         request = received(connection)
         if request is None:
             return False
@@ -100,7 +94,7 @@ class MadeUpSource:
         try:
             answer = self.answer(request)
         except BaseException as fault:
-            # (the check looks at it behind the run)
+            # (the check reads it after the run)
             self.fault = fault
             return False
         if answer is None:
@@ -114,7 +108,7 @@ class MadeUpSource:
 
 
 def received(connection: socket.socket) -> Request | None:
-    """A request that comes by a connection, or nothing where it does not come whole."""
+    """Return a request received on a connection, or None if it is incomplete."""
     head = b""
     while b"\r\n\r\n" not in head:
         piece = connection.recv(65_536)

@@ -1,14 +1,12 @@
-"""What a run of the mirror must make of its folder, by the history of its source (operations/docs/DESTINATIONS.md).
+"""Check a run of the mirror by the history of its source (operations/docs/DESTINATIONS.md).
 
-  - A run that ends with status 0 tells a moment: the folder is what the source held behind all changes up to
-    it, and the moment is remembered. It is not before the changes that stood when the run began, unless an
-    answer was older.
-  - A run that ends otherwise, or is killed, keeps the moment that was remembered, or forgets it before a
-    baseline. Each file is whole, with bytes that its name once had; what has not changed since that moment is
-    as it was then.
-  - No run removes more of what was there than it may.
-  - Where nothing changes and all answers are right, a run ends well. It asks for what lacks and nothing else,
-    and tells it.
+- A run with status 0 reports a moment: the folder equals the source after all changes up to it, and the mirror
+  remembers the moment. It includes all changes before the run began, unless a response was older.
+- Any other run keeps the remembered moment, or forgets it before a baseline. Every file is complete, with bytes that
+  its name once had; files without a change since that moment have the bytes of then.
+- No run removes more old files than allowed.
+- If nothing changes and all responses are correct, a run succeeds. It requests exactly the missing files, and reports
+  them.
 """
 from __future__ import annotations
 
@@ -22,8 +20,8 @@ from tests.reading import crash_model
 
 
 class Before(NamedTuple):
-    """A mirror: its files, the moment that it remembers, how many changes its source has, and whether there
-    is a folder.
+    """A mirror before a run: its files, the moment that it remembers, the number of changes of its source, and whether
+    the folder exists.
     """
 
     files: dict[str, bytes]
@@ -33,18 +31,18 @@ class Before(NamedTuple):
 
 
 def files_of(folder: pathlib.Path) -> dict[str, bytes]:
-    """The files of a mirror, but for its own."""
+    """Return the files of a mirror without the mirror's own."""
     found = {str(path.relative_to(folder)): path for path in folder.rglob("*") if path.is_file()}
     return {name: path.read_bytes() for name, path in found.items() if not name.startswith("#")}
 
 
 def names_of(files: dict[str, bytes]) -> set[str]:
-    """The names of resources whose files these are."""
+    """Return the names of the resources with these files."""
     return {path.removesuffix("#") for path in files}
 
 
 class Expected:
-    """What is known before a run."""
+    """The facts before a run, and the faults after it."""
 
     def __init__(self, history: History, before: Before, options: list[str], weather: Weather) -> None:
         self.history, self.before, self.options, self.weather = history, before, options, weather
@@ -56,18 +54,18 @@ class Expected:
         self.until = later[-1] if later else self.since
 
     def must_end_well(self) -> bool:
-        """Whether nothing stands against a good end."""
+        """Return whether the run must succeed."""
         if "--incremental" in self.options and self.before.remembered is None:
             return False
         may_go = self.lost(laid_out(self.history.resources_at())) <= self.may_lose()
         return self.weather.name == "calm" and may_go
 
     def lost(self, after: dict[str, bytes]) -> int:
-        """How many resources are gone."""
+        """Return the number of resources that are gone."""
         return len(names_of(self.before.files) - names_of(after))
 
     def may_lose(self) -> int:
-        """How many resources may go."""
+        """Return the number of resources that the run may remove."""
         count = len(names_of(self.before.files))
         if "--max-delete" in self.options:
             return int(self.options[self.options.index("--max-delete") + 1])
@@ -75,12 +73,12 @@ class Expected:
 
 
 def text(moment: int) -> str:
-    """A moment as documents write it."""
+    """Return a moment in the form of documents."""
     return str(crash_model.moment_text(moment))
 
 
 def fault_of(expected: Expected, ended: Ended, after: Before, requests: list[str]) -> str:
-    """What is wrong with what a run left, or nothing."""
+    """Return the fault of the folder after a run, or ""."""
     if expected.lost(after.files) > expected.may_lose():
         return f"{expected.lost(after.files)} resources are gone, and {expected.may_lose()} may be"
     if ended.status == 0:
@@ -91,7 +89,7 @@ def fault_of(expected: Expected, ended: Ended, after: Before, requests: list[str
 
 
 def fault_at_end(expected: Expected, ended: Ended, after: Before) -> str:
-    """What is wrong behind status 0."""
+    """Return the fault of a run with status 0."""
     moment, history = ended.output.split()[-1], expected.history
     if "--incremental" in expected.options and expected.before.remembered is None:
         return "it began with a baseline"
@@ -109,7 +107,7 @@ def fault_at_end(expected: Expected, ended: Ended, after: Before) -> str:
 
 
 def fault_amid(expected: Expected, after: Before) -> str:
-    """What is wrong behind a run that did not end well."""
+    """Return the fault of a failed or killed run."""
     history, remembered = expected.history, after.remembered
     if remembered not in (expected.before.remembered, None):
         return f"it remembers {remembered}, which was {expected.before.remembered} before"
@@ -129,7 +127,7 @@ def fault_amid(expected: Expected, after: Before) -> str:
 
 
 def fault_in_calm(expected: Expected, ended: Ended, requests: list[str]) -> str:
-    """What is wrong with a run of a source that stood still and answered rightly."""
+    """Return the fault of a run whose source did not change and answered correctly."""
     if expected.weather.name != "calm" or expected.weather.has_lied:
         return ""
     history, before = expected.history, expected.before.files
@@ -154,9 +152,7 @@ def fault_in_calm(expected: Expected, ended: Ended, requests: list[str]) -> str:
 
 
 def parts_after(history: History, moment: str) -> list[str]:
-    """The parts of the Change List that may have changes after a moment; one that is full ends with its last
-    change.
-    """
+    """Return the parts of the Change List that may have changes after a moment. A full part ends at its last change."""
     state = history.state
     parts = crash_model.chunks(state.changes, state.limit)
     if len(parts) <= 1:

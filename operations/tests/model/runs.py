@@ -1,11 +1,9 @@
-"""Runs of the command `ropepeach`, each in a process of its own that a small process forks: the modules are
-imported once.
-"""
+"""Run the command `ropepeach`: a small process forks one process per run, so the modules are imported once."""
 from __future__ import annotations
 
 import contextlib
 import ctypes
-import multiprocessing
+import multiprocessing.connection
 import os
 import pathlib
 import re
@@ -15,36 +13,36 @@ import traceback
 from typing import NamedTuple
 
 from operations.tests.mirror.mirrors import DIRECT
-from ropepeach import command
-from tests.program import Differs
+from ropepeach.cli import command
+from ropepeach.cli.subcommands import TABLE
 
-# No run takes longer than this, also on a busy machine.
+# The timeout of a run in seconds, long enough for a busy machine.
 SECONDS = 300
-# A setting of prctl(2): orphans below a process become its children.
+# An operation of prctl(2): orphans below a process become its children.
 CHILD_SUBREAPER = 36
-# The status of a run that ends by a traceback.
+# The exit status of a run that ends in a traceback.
 BROKEN = 70
 
 
 class Ended(NamedTuple):
-    """How a run ended, and what it wrote: a status below 0 is the signal that killed it."""
+    """The exit status, output and messages of a run: a negative status is the signal that killed it."""
 
     status: int
     output: str
     complaints: str
 
     def lines(self) -> list[str]:
-        """What it wrote on standard error, without the lines that say that it waits."""
-        return [line for line in self.complaints.splitlines() if "; asking again for " not in line]
+        """Return the messages, without those about waiting."""
+        return [line for line in self.complaints.splitlines() if "; waiting up to " not in line]
 
 
 class Runner:
-    """Runs the command, one run at a time. It has to begin before any thread does."""
+    """Run the command, one run at a time. The process that forks is spawned: it has no threads of the test."""
 
     def __init__(self) -> None:
-        fork = multiprocessing.get_context("fork")
-        self.link, other = fork.Pipe()
-        self.process = fork.Process(target=self.serve, args=(other,))
+        spawn = multiprocessing.get_context("spawn")
+        self.link, other = spawn.Pipe()
+        self.process = spawn.Process(target=serve, args=(other,))
         self.process.start()
         other.close()
         self.number = 0
@@ -57,58 +55,56 @@ class Runner:
         self.process.join(SECONDS)
         self.process.kill()
 
-    def serve(self, link: multiprocessing.connection.Connection) -> None:
-        """What the small process does: it forks for each run, and answers with its number, then with its
-        status.
-        """
-        self.link.close()
-        signal.signal(signal.SIGINT, signal.SIG_IGN)
-        # (what a killed run leaves becomes a child of this process, which waits for it)
-        ctypes.CDLL(None).prctl(CHILD_SUBREAPER, 1, 0, 0, 0)
-        for name in command.COMMANDS:
-            command.subcommand_of(name)
-        with contextlib.suppress(EOFError):
-            while True:
-                room, words = link.recv()
-                number = os.fork()
-                if number == 0:
-                    os.setsid()
-                    os._exit(run_within(pathlib.Path(room), words))
-                link.send(number)
-                status = os.waitstatus_to_exitcode(os.waitpid(number, 0)[1])
-                wait_for_all(number)
-                link.send(status)
-
     def run(self, room: pathlib.Path, *words: object) -> Ended:
-        """A whole run. What it writes lies in two files of a folder meanwhile."""
+        """Run the command; write its output and messages to two files of the folder."""
         self.link.send((str(room), [str(word) for word in words]))
         self.number = self.link.recv()
         if not self.link.poll(SECONDS):
             with contextlib.suppress(ProcessLookupError):
                 os.killpg(self.number, signal.SIGKILL)
             self.link.recv()
-            raise Differs(f"a run goes on for more than {SECONDS} seconds: {words}")
+            raise AssertionError(f"a run takes more than {SECONDS} seconds: {words}")
         status = self.link.recv()
         self.number = 0
         output, complaints = (pathlib.Path(room, name) for name in ("output", "complaints"))
         return Ended(status, output.read_text(errors="replace"), complaints.read_text(errors="replace"))
 
     def kill(self) -> None:
-        """Kills the run that goes on, if it has not ended by itself meanwhile."""
+        """Kill the current run, unless it has ended."""
         if self.number:
             with contextlib.suppress(ProcessLookupError):
                 os.kill(self.number, signal.SIGKILL)
 
 
+def serve(link: multiprocessing.connection.Connection) -> None:
+    """Fork a process for every run; send its process id, then its exit status."""
+    signal.signal(signal.SIGINT, signal.SIG_IGN)
+    # (the children of a killed run become children of this process, which waits for them)
+    ctypes.CDLL(None).prctl(CHILD_SUBREAPER, 1, 0, 0, 0)
+    for subcommand in TABLE:
+        subcommand.load()
+    with contextlib.suppress(EOFError):
+        while True:
+            room, words = link.recv()
+            number = os.fork()
+            if number == 0:
+                os.setsid()
+                os._exit(run_within(pathlib.Path(room), words))
+            link.send(number)
+            status = os.waitstatus_to_exitcode(os.waitpid(number, 0)[1])
+            wait_for_all(number)
+            link.send(status)
+
+
 def wait_for_all(number: int) -> None:
-    """Waits until all processes of a run are gone: those of a killed one may ask a source a moment longer."""
+    """Wait until all processes of a run have ended; those of a killed run may still send requests for a moment."""
     with contextlib.suppress(ChildProcessError):
         while True:
             os.waitpid(-number, 0)
 
 
 def run_within(room: pathlib.Path, words: list[str]) -> int:
-    """A run in this process, whose lines go to files, and its status."""
+    """Run the command in this process with its output in files; return its exit status."""
     os.environ.update(DIRECT)
     for number, name in ((1, "output"), (2, "complaints")):
         opened = os.open(room / name, os.O_WRONLY | os.O_CREAT | os.O_TRUNC, 0o600)
@@ -128,26 +124,20 @@ def run_within(room: pathlib.Path, words: list[str]) -> int:
 
 
 def number_before(word: str, text: str) -> int:
-    """The number that stands before a word in what a run says, as 3 in `3 put`."""
+    """Return the number before a word in the output of a run, as 3 in `3 put`."""
     match = re.search(rf"([0-9,]+) {word}", text)
-    if match is None:
-        raise Differs(f"no number of {word!r} in {text!r}")
+    assert match, f"no number of {word!r} in {text!r}"
     return int(match[1].replace(",", ""))
 
 
 def number_behind(word: str, text: str) -> int:
-    """The number that stands behind a word in what a run says, as 3 in `fetched 3`."""
+    """Return the number after a word in the output of a run, as 3 in `fetched 3`."""
     match = re.search(rf"{word} ([0-9,]+)", text)
-    if match is None:
-        raise Differs(f"no number behind {word!r} in {text!r}")
+    assert match, f"no number after {word!r} in {text!r}"
     return int(match[1].replace(",", ""))
 
 
-def in_a_line(run: Ended) -> None:
-    """Looks whether a run that was not killed ended as a command should: no traceback, and a line where it
-    failed.
-    """
-    if run.status == BROKEN or "Traceback" in run.complaints:
-        raise Differs(f"a traceback: {run.complaints[-800:]}")
-    if run.status > 0 and not run.lines():
-        raise Differs(f"status {run.status} without a line that says why: {run.output!r}")
+def check_end(run: Ended) -> None:
+    """Check that a run that was not killed has no traceback, and that a failed run has a message."""
+    assert run.status != BROKEN and "Traceback" not in run.complaints, f"a traceback: {run.complaints[-800:]}"
+    assert run.status <= 0 or run.lines(), f"status {run.status} without a message: {run.output!r}"

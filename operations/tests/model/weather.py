@@ -1,4 +1,4 @@
-"""How a made-up source answers: rightly or not, at once or late, while its history stands or goes on."""
+"""Simulate the responses of a source: correct or wrong, at once or late, with or without changes meanwhile."""
 from __future__ import annotations
 
 import random
@@ -9,7 +9,7 @@ from operations.tests.model.histories import History
 from operations.tests.model.made_up_source import Answer, Request
 from tests.reading import crash_model
 
-# How likely a request meets a fault, by the weather; `moving` has none, but the history goes on.
+# The probability that a request fails, by weather; in `moving` it is 0, but the source changes.
 FAULTS = {"calm": 0.0, "moving": 0.0, "unsettled": 0.04, "stormy": 0.2, "cached": 0.2, "gone": 0.0,
           "killing": 0.02}
 STATUSES = [400, 401, 403, 404, 404, 410, 429, 500, 500, 501, 502, 503, 503, 504, 507]
@@ -17,7 +17,7 @@ WRONG = [b"", b"<html><body>Error</body></html>\n", b"NoSuchDocument\n"]
 
 
 def served(state: crash_model.State, path: str) -> Answer | None:
-    """What a state of the source answers to a path, or nothing where it has nothing there."""
+    """Return the response for a path in a state of the source, or None."""
     if path.startswith("/resource/"):
         body = state.held.get(path.removeprefix("/resource/"), (None,))[0]
         return None if body is None else Answer(200, body, "a/b")
@@ -26,10 +26,7 @@ def served(state: crash_model.State, path: str) -> Answer | None:
 
 
 class Weather:
-    """Answers for a source.
-
-    `faults` counts the answers that were not right; `has_lied` is so once one was older than it should be.
-    """
+    """Responses of a source. `faults` counts the wrong ones; `has_lied` is true once a response was too old."""
 
     def __init__(self, history: History, rng: random.Random) -> None:
         self.history, self.rng, self.name = history, rng, "calm"
@@ -37,21 +34,21 @@ class Weather:
         self.kill: Callable[[], None] = lambda: None
 
     def calm(self) -> None:
-        """From now on all answers are right, and the history stands still."""
+        """Answer correctly from now on, and make no more changes."""
         self.name = "calm"
 
     def change(self) -> None:
-        """Other weather."""
+        """Draw new weather."""
         self.name = self.rng.choice(["calm", "calm", "moving", "moving", "unsettled", "unsettled", "stormy",
                                      "cached", "cached", "gone", "killing"])
 
     def begin(self, kill: Callable[[], None]) -> None:
-        """Before a run. In some weather it is killed at a request, or the source is gone from one on."""
+        """Prepare a run. In some weather it is killed at a request, or the source goes down after one."""
         self.requests, self.faults, self.kill = 0, 0, kill
         self.end = self.rng.randrange(1, 25) if self.name in ("gone", "killing") else -1
 
     def answer(self, request: Request) -> Answer | None:
-        """The answer to a request."""
+        """Return the response to a request."""
         self.requests += 1
         if self.requests == self.end and self.name == "killing":
             self.kill()
@@ -66,23 +63,23 @@ class Weather:
             return self.older(request) if self.name == "cached" else self.wrong(request)
         answer = self.right(request)
         if self.name != "calm" and self.rng.random() < 0.05:
-            # It comes late: the source has gone on meanwhile.
+            # A late response: the source has changed meanwhile.
             time.sleep(0.003)
             self.history.advance()
         return answer
 
     def right(self, request: Request) -> Answer:
-        """The right answer."""
+        """Return the correct response."""
         return served(self.history.state, request.path) or Answer(404, b"NoSuchDocument\n", "text/plain")
 
     def older(self, request: Request) -> Answer:
-        """What an earlier state would have answered, as a cache does."""
+        """Return the response of an earlier state, as from a cache."""
         self.has_lied = True
         state = self.rng.choice(self.history.states[-8:])
         return served(state, request.path) or self.right(request)
 
     def wrong(self, request: Request) -> Answer | None:
-        """An answer that is not right."""
+        """Return a wrong response."""
         right, what = self.right(request), self.rng.choice(["cut", "short", "older", "older", "other",
                                                             "status", "status", "none", "moved", "partial",
                                                             "space", "space"])
@@ -94,7 +91,7 @@ class Weather:
         if what == "older":
             return self.older(request)
         if what == "space":
-            # A document of another kind: its words are none of Sitemap 0.9, or of ResourceSync.
+            # A document of another kind, with unknown words in Sitemap 0.9 or ResourceSync.
             space = self.rng.choice([b"sitemap/0.9", b"rs/terms"])
             return right._replace(body=right.body.replace(space, self.rng.choice([b"sitemap/0.8", b"", space.upper()])))
         if what == "other":
@@ -110,7 +107,7 @@ class Weather:
                                                           fields="Content-Range: bytes 0-19/20\r\n")
 
     def other(self, body: bytes) -> bytes:
-        """Other bytes, mostly of the same length."""
+        """Return other bytes, mostly of the same length."""
         if not body or self.rng.random() < 0.3:
             return body + b"\n"
         at = self.rng.randrange(len(body))

@@ -1,5 +1,1 @@
-"""The page for people who would rather look (operations/install/site), in headless Chromium and Firefox, through the
-site of nginx (tests/README.md)."""
-
-# No run of all looks takes longer than this many seconds.
-LIMIT = 1_500
+"""Tests of the page of a source in headless Chromium and Firefox, through nginx's site (operations/docs/PAGE.md)."""

@@ -1,11 +1,14 @@
-"""Headless Chromium under its driver: pages that are opened, what they show, and what went wrong in them.
-Every wait has a limit."""
+"""Drive headless Chromium: open pages, and read their texts and faults. Every wait has a timeout."""
 import base64
 import contextlib
 import json
 import shutil
 import time
 from typing import Any
+
+import pytest
+
+pytest.importorskip("selenium.webdriver", reason="there is no python3-selenium here")
 
 from selenium import webdriver
 from selenium.common.exceptions import WebDriverException
@@ -14,11 +17,10 @@ from selenium.webdriver.remote.remote_connection import RemoteConnection
 
 from tests.program import Differs
 
-# No command to the driver, and no wait for a page, takes longer than this.
+# The timeout of a command to the driver, and of a wait for a page, in seconds.
 SECONDS = 45
 WIDE, NARROW = (1280, 900), (375, 812)
-# What each page notes from its beginning: what its policy refused, its faults, and whether anything of a
-# source's ran.
+# A script that records from the start of a page: refusals of its policy, its faults, and texts of a source that ran.
 NOTES = """
 const look = () => {
   if (document.querySelector(".resources .row bdi")?.textContent) window.firstRow = performance.now();
@@ -39,49 +41,49 @@ OPTIONS = ["--headless=new", "--no-sandbox", "--disable-gpu", "--disable-dev-shm
 
 
 class Asking:
-    """What is asked of a page in whatever browser, by scripts that run in it."""
+    """A browser whose pages run scripts of the tests."""
 
     patience: float = SECONDS
-    # The longest wait for a page since it was set to nothing.
+    # The longest wait for a page since the last reset.
     longest = 0.0
 
     def run(self, script: str, *arguments: Any) -> Any:
-        """What a function's body gives in the page."""
+        """Return the value of a function's body in the page."""
         raise NotImplementedError
 
     def open(self, address: str, size: tuple[int, int] = WIDE, scheme: str = "light") -> None:
-        """Opens a page in a window of so many CSS pixels, in light or dark."""
+        """Open a page in a window of this many CSS pixels, in light or dark."""
         raise NotImplementedError
 
     def forget(self) -> None:
-        """Leaves the page, and keeps none of the history: a browser keeps 50 entries, and drops first those
-        that no gesture of a reader made, as the steps of these looks are."""
+        """Leave the page, and drop the history. A browser keeps 50 entries, and first drops those without a user
+        gesture, as the steps of tests.
+        """
         raise NotImplementedError
 
     def press(self, key: str, text: str = "", code: int = 0, shift: bool = False) -> None:
-        """Presses a key, as a keyboard does."""
+        """Press a key."""
         raise NotImplementedError
 
     def still(self, is_still: bool) -> None:
-        """Whether the reader wants little motion."""
+        """Set whether the reader wants reduced motion."""
         raise NotImplementedError
 
     def labels(self, selector: str) -> list[tuple[str, str, str]]:
-        """Of each element of a selector that is seen its tag, and the role and the name that the browser
-        gives it."""
+        """Return the tags of all visible elements of a selector, with the roles and names that the browser computes."""
         raise NotImplementedError
 
     def close(self) -> None:
-        """Ends the browser."""
+        """End the browser."""
         raise NotImplementedError
 
     def text(self, part: str) -> str:
-        """The text of a part of the panel."""
+        """Return the text of a part of the panel."""
         script = "return document.querySelector(`[data-part='${arguments[0]}']`)?.textContent ?? ''"
         return str(self.run(script, part)).strip()
 
     def until(self, script: str, what: str, *arguments: Any) -> Any:
-        """Waits until a function's body gives something true in the page."""
+        """Wait until a function's body returns a true value in the page."""
         begun = time.monotonic()
         while not (found := self.run(script, *arguments)):
             if time.monotonic() > begun + self.patience:
@@ -93,29 +95,29 @@ class Asking:
         return found
 
     def equals(self, wanted: Any, script: str, *arguments: Any) -> None:
-        """Waits until a function's body gives a value, which it may not give at once."""
+        """Wait until a function's body returns a value in the page."""
         value = json.dumps(wanted, ensure_ascii=False, separators=(",", ":"))
         same_value = f"return JSON.stringify((() => {{ {script} }})()) === arguments[arguments.length - 1]"
         self.until(same_value, f"the value {wanted!r} of {script}", *arguments, value)
 
     def state(self, word: str) -> None:
-        """Waits until the state of the source has this word."""
+        """Wait until the state of the source has this word."""
         has_word = "return document.querySelector(`[data-part='state-word']`)?.textContent === arguments[0]"
         self.until(has_word, f"the state {word}", word)
 
     def click(self, part: str) -> None:
-        """Clicks a part of the panel."""
+        """Click a part of the panel."""
         self.run("document.querySelector(`[data-part='${arguments[0]}']`).click()", part)
 
     def faults(self) -> dict[str, list[str]]:
-        """What went wrong in the page: faults of its code, and what its policy refused."""
+        """Return the faults of the page's code, the refusals of its policy, and the texts of a source that ran."""
         script = "return {faults: window.faults ?? [], refused: window.refused ?? [], ran: window.ran ?? []}"
         found: dict[str, list[str]] = self.run(script)
         return found
 
 
 class Browser(Asking):
-    """One Chromium, which looks at one page after another."""
+    """Chromium, which opens one page after another."""
 
     def __init__(self, room: str, *more: str) -> None:
         options = webdriver.ChromeOptions()
@@ -132,72 +134,73 @@ class Browser(Asking):
         self.tell("Performance.enable", timeDomain="threadTicks")
 
     def tell(self, command: str, **words: Any) -> Any:
-        """A command of the browser's own protocol."""
+        """Send a command of the DevTools protocol."""
         return self.driver.execute_cdp_cmd(command, words)
 
     def size(self, width: int, height: int, scheme: str = "light", media: str = "") -> None:
-        """A window of this many CSS pixels, in light or dark, on a screen or on paper."""
+        """Set the window's CSS pixels, light or dark, and screen or paper."""
         self.tell("Emulation.setDeviceMetricsOverride", width=width, height=height, deviceScaleFactor=1,
                   mobile=False)
         self.tell("Emulation.setEmulatedMedia", media=media,
                   features=[{"name": "prefers-color-scheme", "value": scheme}])
 
     def open(self, address: str, size: tuple[int, int] = WIDE, scheme: str = "light") -> None:
-        """Opens a page."""
+        """Open a page in a window of this many CSS pixels, in light or dark."""
         self.size(*size, scheme)
         self.driver.get(address)
 
     def forget(self) -> None:
-        """Leaves the page, and keeps none of the history."""
+        """Leave the page, and drop the history. A browser keeps 50 entries, and first drops those without a user
+        gesture, as the steps of tests.
+        """
         self.driver.get("about:blank")
         self.tell("Page.resetNavigationHistory")
 
     def run(self, script: str, *arguments: Any) -> Any:
-        """What a function's body gives in the page."""
+        """Return the value of a function's body in the page."""
         return self.driver.execute_script(script, *arguments)
 
     def run_slowly(self, script: str, *arguments: Any) -> Any:
-        """What a function's body gives to its last argument, later."""
+        """Return the value that a function's body later passes to its last argument."""
         return self.driver.execute_async_script(script, *arguments)
 
     def busy(self) -> float:
-        """How many milliseconds of a processor the page's main thread has taken since it was opened."""
+        """Return the processor milliseconds of the page's main thread since it was opened."""
         return 1_000 * self.metric("TaskDuration")
 
     def heap(self) -> float:
-        """How many bytes the page's scripts hold, once what nobody holds is gone."""
+        """Return the bytes of the page's scripts after a garbage collection."""
         self.tell("HeapProfiler.collectGarbage")
         return self.metric("JSHeapUsedSize")
 
     def metric(self, name: str) -> float:
-        """What the browser has measured of the page by this name."""
+        """Return a measure of the page by its name."""
         return float(next(metric["value"] for metric in self.tell("Performance.getMetrics")["metrics"] if metric["name"]
                           == name))
 
     def press(self, key: str, text: str = "", code: int = 0, shift: bool = False) -> None:
-        """Presses a key, as a keyboard does."""
+        """Press a key."""
         words = {"key": key, "code": key, "windowsVirtualKeyCode": code, "modifiers": 8 if shift else 0}
         self.tell("Input.dispatchKeyEvent", type="keyDown", **words, **({"text": text} if text else {}))
         self.tell("Input.dispatchKeyEvent", type="keyUp", **words)
 
     def still(self, is_still: bool) -> None:
-        """Whether the reader wants little motion."""
+        """Set whether the reader wants reduced motion."""
         value = "reduce" if is_still else "no-preference"
         self.tell("Emulation.setEmulatedMedia", media="",
                   features=[{"name": "prefers-reduced-motion", "value": value}])
 
     def labels(self, selector: str) -> list[tuple[str, str, str]]:
-        """Of each element of a selector that is seen its tag, and the role and the name that the browser
-        gives it."""
+        """Return the tags of all visible elements of a selector, with the roles and names that the browser computes."""
         every = self.driver.find_elements("css selector", selector)
         found = [element for element in every if self.run("return arguments[0].checkVisibility()", element)]
         return [(element.tag_name, element.aria_role, element.accessible_name) for element in found]
 
     def picture(self) -> bytes:
-        """What is in view as a PNG."""
+        """Return a PNG of the view."""
         return base64.b64decode(self.tell("Page.captureScreenshot", format="png")["data"])
 
     def close(self) -> None:
-        """Ends the browser."""
+        """End the browser."""
         with contextlib.suppress(WebDriverException, OSError):
             self.driver.quit()

@@ -1,5 +1,4 @@
-"""Sources that are a few values of Python, also ones that lie: their documents as docs/DOCUMENTS.md has
-them, spelled apart from the program."""
+"""Make fake sources, which may lie, from Python values. The documents follow docs/DOCUMENTS.md."""
 import dataclasses
 import hashlib
 import random
@@ -10,7 +9,7 @@ from tests.reading.crash_model import HEAD, SPACES, moment_text
 
 Answer = tuple[int, str, bytes]
 FORMATTED = 0
-# The moment of the first change of those sources that are made up: 2026-03-01T00:00:00.000Z.
+# The moment of the first change of fake sources: 2026-03-01T00:00:00.000Z.
 BEGUN = 1_772_323_200_000
 HOUR = 3_600_000
 LARGE = 50_000
@@ -22,7 +21,7 @@ KINDS = [("pdf", "application/pdf"), ("xml", "application/xml"), ("html", "text/
 
 @dataclasses.dataclass(frozen=True)
 class Entry:
-    """What a list says of a name: `change` is empty in a Resource List."""
+    """An entry of a list: `change` is empty in a Resource List."""
 
     name: str
     moment: int
@@ -32,7 +31,7 @@ class Entry:
     hash: str = ""
 
     def text(self, base: str) -> str:
-        """The entry in a list of a source at a base."""
+        """Return the text of an entry, or of a document."""
         gone = self.change == "deleted"
         change = (f" change={quoteattr(self.change)} datetime={quoteattr(moment_text(self.moment))}"
                   if self.change else "")
@@ -42,18 +41,18 @@ class Entry:
 
 
 def entry_of(name: str, body: bytes, moment: int, change: str = "", kind: str = "text/plain") -> Entry:
-    """An entry with the facts of a body."""
+    """Return an entry with the length and digests of a body."""
     return Entry(name, moment, change, kind, len(body), hash_of(body))
 
 
 def hash_of(body: bytes) -> str:
-    """The digests of a body as a list has them."""
+    """Return the digests of a body as lists have them."""
     return f"md5:{hashlib.md5(body).hexdigest()} sha-256:{hashlib.sha256(body).hexdigest()}"
 
 
 @dataclasses.dataclass
 class Fake:
-    """A source at a base: its lists, and the bodies that it serves, which may be other ones."""
+    """A source at a base: its lists, and its served bodies, which may differ from the lists."""
 
     base: str
     listed: list[Entry] = dataclasses.field(default_factory=list)
@@ -65,7 +64,7 @@ class Fake:
     refusal: Answer | None = None
 
     def documents(self) -> dict[str, bytes]:
-        """Each document by its path."""
+        """Return the documents by path."""
         lists = "".join(f'<url><loc>{self.base}/{name}.xml</loc><rs:md capability="{name}"/></url>\n'
                         for name in ("resourcelist", "changelist"))
         capabilities = self.text("urlset", 'capability="capabilitylist"', lists)
@@ -83,7 +82,7 @@ class Fake:
 
     def add(self, found: dict[str, str], name: str, place: str, facts: str,
             parts: list[tuple[list[Entry], str]]) -> None:
-        """A list of one document, or an index with its parts."""
+        """Add a list of one document, or of parts with an index."""
         texts = [(self.entries(items), bounds) for items, bounds in parts]
         head = f'capability="{name}" {facts}'
         if len(texts) < 2:
@@ -96,15 +95,15 @@ class Fake:
             found[f"{place}{number}.xml"] = self.text("urlset", f'capability="{name}" {bounds}', text)
 
     def entries(self, items: list[Entry]) -> str:
-        """The entries of a list."""
+        """Return the entries of a list."""
         return "".join(item.text(self.base) for item in items)
 
     def text(self, root: str, facts: str, children: str) -> str:
-        """A document."""
+        """Return the text of an entry, or of a document."""
         return f"{HEAD}<{root} {SPACES}>\n<rs:md {facts}/>\n{children}</{root}>\n"
 
     def answer(self) -> Callable[[str], Answer]:
-        """What answers for a path."""
+        """Return the function that maps a path to a response."""
         documents = self.documents()
 
         def answer(path: str) -> Answer:
@@ -119,19 +118,19 @@ class Fake:
 
 
 def description(*bases: str) -> str:
-    """A Source Description that names the Capability Lists of these bases."""
+    """Return a Source Description that names the Capability Lists of these bases."""
     links = "".join(f'<url><loc>{base}/capabilitylist.xml</loc><rs:md capability="capabilitylist"/></url>\n'
                     for base in bases)
     return f'{HEAD}<urlset {SPACES}>\n<rs:md capability="description"/>\n{links}</urlset>\n'
 
 
 def chunks(items: list[Entry], limit: int) -> list[list[Entry]]:
-    """The parts of a list."""
+    """Return the parts of a list."""
     return [items[at : at + limit] for at in range(0, len(items), limit)]
 
 
 def published(fake: Fake, moment: int) -> Fake:
-    """Publishes what the changes make: the Resource List in the order of the names' bytes."""
+    """Publish the result of the changes: the Resource List in the byte order of the names."""
     current: dict[str, Entry] = {}
     for change in fake.changes:
         current.pop(change.name, None)
@@ -142,8 +141,7 @@ def published(fake: Fake, moment: int) -> Fake:
 
 
 def archive(base: str, number: int, seed: int = 1, begun: int = BEGUN) -> Fake:
-    """A source as an archive may be: some hundred resources, put in the busy hours of weeks, some anew,
-    some deleted."""
+    """Return a source of some hundred resources, put in the working hours of weeks; some were updated, some deleted."""
     chance, fake, moment = random.Random(seed), Fake(base, publication=7, limit=1_000), begun
     kinds: dict[str, str] = {}
     while len(kinds) < number:
@@ -167,8 +165,7 @@ def archive(base: str, number: int, seed: int = 1, begun: int = BEGUN) -> Fake:
 
 
 def large(base: str) -> Fake:
-    """A source of the most resources and the most changes: each name is there once, a tenth of them put
-    after the publication."""
+    """Return a source with the most resources and changes. All names occur once; 10% are put after the publication."""
     digest = hash_of(b"")
 
     def name(number: int) -> str:
@@ -182,3 +179,20 @@ def large(base: str) -> Fake:
                      + LARGE * 9 // 10 * 47_000 - 1)
     fake.changes = changes
     return fake
+
+
+def lying(base: str) -> Fake:
+    """Return a source with two wrong bodies: one differs in a byte, the other in its length."""
+    fake = archive(base, 60)
+    for entry, change in zip(fake.listed[:2],
+                             (lambda body: body[:-1] + bytes([body[-1] ^ 1]), lambda body: body + b"x")):
+        fake.bodies[entry.name] = (entry.kind, change(fake.bodies[entry.name][1]))
+    return fake
+
+
+def current(fake: Fake) -> list[Entry]:
+    """Return the last entries of the source's resources."""
+    found = {}
+    for change in fake.changes:
+        found[change.name] = change
+    return [entry for entry in found.values() if entry.change != "deleted"]

@@ -1,6 +1,6 @@
-"""Headless Firefox, driven by Marionette: its own protocol, as Debian has no driver of WebDriver for it.
+"""Drive headless Firefox by Marionette, its own protocol: Debian has no WebDriver for it.
 
-A command is `LENGTH:[0, NUMBER, NAME, FIELDS]` on a connection of loopback, and its answer
+A command is `LENGTH:[0, NUMBER, NAME, FIELDS]` on a connection of loopback, and its response
 `LENGTH:[1, NUMBER, FAULT, VALUE]`
 (https://firefox-source-docs.mozilla.org/testing/marionette/Protocol.html).
 """
@@ -17,7 +17,7 @@ from operations.tests.page.browser import SECONDS, WIDE, Asking
 from tests.program import Differs
 from tests.served_source import free_port
 
-# What a profile of its own has: nothing is fetched, nothing asked, no first page.
+# Settings of a new profile: no downloads, no questions, no first page.
 PREFERENCES = {
     "app.update.enabled": False, "browser.shell.checkDefaultBrowser": False, "browser.startup.page": 0,
     "datareporting.policy.dataSubmissionEnabled": False, "network.captive-portal-service.enabled": False,
@@ -29,7 +29,7 @@ PREFERENCES = {
     "network.http.speculative-parallel-limit": 0, "browser.aboutwelcome.enabled": False,
     "layout.css.prefers-color-scheme.content-override": 1, "browser.zoom.siteSpecific": False,
 }
-# A browser that begins on a busy machine may take minutes.
+# Seconds for a browser to start, which may take minutes on a busy machine.
 PATIENT = 240
 KEYS = {"Tab": "\ue004", "Enter": "\ue007", "Escape": "\ue00c", "ArrowDown": "\ue015", "ArrowUp": "\ue013",
         "Home": "\ue011", "End": "\ue010",
@@ -38,7 +38,7 @@ ELEMENT = "element-6066-11e4-a52e-4f735466cecf"
 
 
 class Firefox(Asking):
-    """One browser, which looks at one page after another."""
+    """Firefox, which opens one page after another."""
 
     def __init__(self, room: str) -> None:
         self.patience, self.number, self.port = SECONDS, 0, free_port()
@@ -62,7 +62,7 @@ class Firefox(Asking):
             raise
 
     def connected(self) -> socket.socket:
-        """The connection, once the browser listens."""
+        """Return the connection after the browser listens."""
         end = time.monotonic() + PATIENT
         while True:
             try:
@@ -73,14 +73,14 @@ class Firefox(Asking):
                 time.sleep(0.05)
 
     def read(self) -> Any:
-        """The next message."""
+        """Return the next message."""
         length = b""
         while not length.endswith(b":"):
             length += self.some(1)
         return json.loads(self.some(int(length[:-1])))
 
     def some(self, number: int) -> bytes:
-        """So many bytes of the connection."""
+        """Return this many bytes from the connection."""
         found = b""
         while len(found) < number:
             more = self.connection.recv(number - len(found))
@@ -90,7 +90,7 @@ class Firefox(Asking):
         return found
 
     def tell(self, command: str, **fields: Any) -> Any:
-        """The value that a command gives."""
+        """Send a command; return its value."""
         self.number += 1
         text = json.dumps([0, self.number, command, fields]).encode()
         self.connection.sendall(b"%d:%s" % (len(text), text))
@@ -100,7 +100,7 @@ class Firefox(Asking):
         return value["value"] if isinstance(value, dict) and "value" in value else value
 
     def privileged(self, script: str, *arguments: Any) -> Any:
-        """What a function's body gives in the browser itself."""
+        """Return the value of a function's body in the browser's own context."""
         self.tell("Marionette:SetContext", value="chrome")
         try:
             return self.tell("WebDriver:ExecuteScript", script=script, args=list(arguments))
@@ -108,48 +108,47 @@ class Firefox(Asking):
             self.tell("Marionette:SetContext", value="content")
 
     def prefer(self, name: str, value: int) -> None:
-        """Gives a preference of the browser another value."""
+        """Set a preference of the browser."""
         self.privileged("Services.prefs.setIntPref(arguments[0], arguments[1])", name, value)
 
     def size(self, width: int, height: int, scheme: str = "light", media: str = "") -> None:
-        """A window of so many CSS pixels, by the browser's own zoom, in light or dark."""
+        """Set the window's CSS pixels by the browser's zoom, and light or dark."""
         del height, media
         self.prefer("layout.css.prefers-color-scheme.content-override", int(scheme == "light"))
         self.privileged("gBrowser.selectedBrowser.fullZoom = arguments[0]", WIDE[0] / width)
 
     def still(self, is_still: bool) -> None:
-        """Whether the reader wants little motion."""
+        """Set whether the reader wants reduced motion."""
         self.prefer("ui.prefersReducedMotion", int(is_still))
 
     def open(self, address: str, size: tuple[int, int] = WIDE, scheme: str = "light") -> None:
-        """Opens a page."""
+        """Open a page."""
         self.size(*size, scheme)
         self.tell("WebDriver:Navigate", url=address)
-        # (a page of another host begins without a zoom)
+        # (a page of another host starts without a zoom)
         self.size(*size, scheme)
-        # (it zooms by whole sixtieths of a pixel, so a window of 375 pixels has 384)
+        # (the zoom is a multiple of 1/60 of a pixel, so a window of 375 pixels has 384)
         self.until("return Math.abs(innerWidth / arguments[0] - 1) < 0.05", f"a window of {size[0]} pixels",
                    size[0])
 
     def forget(self) -> None:
-        """Leaves the page, and keeps none of the history."""
+        """Leave the page, and drop the history."""
         self.tell("WebDriver:Navigate", url="about:blank")
         self.privileged("gBrowser.selectedBrowser.purgeSessionHistory()")
 
     def run(self, script: str, *arguments: Any) -> Any:
-        """What a function's body gives in the page."""
+        """Return the value of a function's body in the page."""
         return self.tell("WebDriver:ExecuteScript", script=script, args=list(arguments), sandbox=None)
 
     def press(self, key: str, text: str = "", code: int = 0, shift: bool = False) -> None:
-        """Presses a key, as a keyboard does."""
+        """Press a key."""
         del code, shift
         value = KEYS.get(key, text or key)
         actions = [{"type": "keyDown", "value": value}, {"type": "keyUp", "value": value}]
         self.tell("WebDriver:PerformActions", actions=[{"type": "key", "id": "keys", "actions": actions}])
 
     def labels(self, selector: str) -> list[tuple[str, str, str]]:
-        """Of each element of a selector that is seen its tag, and the role and the name that the browser
-        gives it."""
+        """Return the tags of all visible elements of a selector, with the roles and names that the browser computes."""
         found = []
         for element in self.tell("WebDriver:FindElements", using="css selector", value=selector):
             if self.run("return arguments[0].checkVisibility()", element):
@@ -159,7 +158,7 @@ class Firefox(Asking):
         return found
 
     def close(self) -> None:
-        """Ends the browser."""
+        """End the browser."""
         with contextlib.suppress(AttributeError, OSError, Differs, ValueError):
             self.tell("Marionette:Quit", flags=["eForceQuit"])
         with contextlib.suppress(subprocess.TimeoutExpired):

@@ -1,98 +1,103 @@
-"""What every look at the page needs: a room, the program, one browser, and sources that are made up, each
-behind nginx with the page."""
+"""Give tests of the page a folder, the program, a browser, and fake sources behind nginx with the page."""
 import contextlib
+import http.client
 import itertools
 import pathlib
 import re
 import subprocess
 from collections.abc import Callable, Iterator
 from contextlib import AbstractContextManager
-from typing import Any
+from email.message import Message
+
+import pytest
 
 from operations.tests.page.browser import Asking, Browser
 from operations.tests.page.fake import Fake
 from operations.tests.page.site import site
 from operations.tests.tools.lists_server import Server, serving
-from tests.program import Differs
 from tests.served_source import free_port
 
 SECONDS = 20
-
-
-def same(what: str, wanted: Any, found: Any) -> None:
-    """Compares two values."""
-    if wanted != found:
-        raise Differs(f"{what}: wanted {wanted!r}, found {str(found)[:500]!r}")
-
-
-def has(what: str, words: str, text: str) -> None:
-    """Looks whether a text has some words."""
-    if words not in text:
-        raise Differs(f"{what}: {words!r} is not in {text[-500:]!r}")
-
-
-class Unfit(Exception):
-    """A change that does not fit what it changes: no look has to find this out."""
+# Marks of modules of tests of the page, which share their browsers.
+IN_BROWSER = [pytest.mark.needs("chromium", "chromedriver", "nginx"), pytest.mark.xdist_group("page"),
+              pytest.mark.timeout(300)]
+# Seeds of random tests; the long form draws more.
+SEEDS = pytest.mark.parametrize("seed", [1, *(pytest.param(seed, marks=pytest.mark.long) for seed in range(2, 12))])
+# A change of the page: the site caches no list here, so checks need not wait for a fresh one.
+SOON = "checks.js", "OLDEST = 2_500", "OLDEST = 100"
 
 
 def exchanged(text: str, old: str, new: str) -> str:
-    """A text with other words in the one place where the old ones stand."""
-    if text.count(old) != 1:
-        raise Unfit(f"{old!r} is there {text.count(old)} times")
+    """Replace the only occurrence of an old text in a text."""
+    assert text.count(old) == 1, f"{old!r} is there {text.count(old)} times"
     return text.replace(old, new)
 
 
 def replaced(file: pathlib.Path, old: str, new: str) -> None:
-    """Puts other words into a file."""
+    """Replace the only occurrence of an old text in a file."""
     file.write_text(exchanged(file.read_text(), old, new))
+
+
+def request(port: int, method: str, path: str, body: bytes | None = None,
+            **fields: str) -> tuple[int, Message, bytes]:
+    """Return the status of a response, its headers, and its body."""
+    connection = http.client.HTTPConnection("127.0.0.1", port, timeout=SECONDS)
+    try:
+        connection.request(method, path, body, fields)
+        answer = connection.getresponse()
+        return answer.status, answer.headers, answer.read()
+    finally:
+        connection.close()
+
+
+def put(port: int, name: str, body: bytes, kind: str = "text/plain") -> None:
+    """Put a resource."""
+    assert request(port, "PUT", f"/resource/{name}", body, **{"Content-Type": kind})[0] in (201, 204), f"put {name}"
 
 
 Change = Callable[[str], str]
 
 
 def unchanged(settings: str) -> str:
-    """The settings of nginx as they are installed."""
+    """Return the installed settings of nginx unchanged."""
     return settings
 
 
 class Shown:
-    """A page that is shown, and the source behind it, which can become another one."""
+    """A page and its source, which a test can replace."""
 
     def __init__(self, base: str, fake: Fake, server: Server) -> None:
         self.base, self.fake, self.server = base, fake, server
 
     def is_now(self, fake: Fake) -> None:
-        """From here on the source is this one."""
+        """Replace the source."""
         self.fake, self.server.answer = fake, fake.answer()
 
 
 class Looked:
-    """The room of all looks. `change` makes other settings of nginx, `edit` another page: a look has to
-    notice where they are wrong."""
+    """A folder, the program, and a browser. `edit` changes the page."""
 
-    def __init__(self, program: str, room: str, browser: Asking, is_long: bool = False) -> None:
-        self.program, self.room, self.browser = program, pathlib.Path(room), browser
-        self.change: Change = unchanged
+    def __init__(self, program: str, room: pathlib.Path, browser: Asking, is_long: bool = False) -> None:
+        self.program, self.room, self.browser = program, room, browser
         self.edit: Callable[[pathlib.Path], None] = lambda page: None
         self.numbers = itertools.count()
-        # Whether this is the long form, which measures by the clock.
+        # The long form also measures elapsed time.
         self.is_long = is_long
 
     @property
     def chromium(self) -> Browser:
-        """The browser, for what only Chromium can be asked."""
+        """Return the browser, for commands that only Chromium has."""
         assert isinstance(self.browser, Browser)
         return self.browser
 
     def site(self, behind: int, port: int = 0, change: Change = unchanged,
              certificate: str = "") -> AbstractContextManager[int]:
-        """nginx before a port, with the page and the settings that are looked at."""
-        return site(self.room, behind, port, lambda settings: change(self.change(settings)), self.edit,
-                    certificate)
+        """Run nginx with the page in front of a port."""
+        return site(self.room, behind, port, change, self.edit, certificate)
 
     @contextlib.contextmanager
     def hurried(self, file: str, old: str, new: str) -> Iterator[None]:
-        """A page that waits less long in one place."""
+        """Change a constant of the page, to shorten its waits."""
         before = self.edit
 
         def edit(page: pathlib.Path) -> None:
@@ -108,8 +113,7 @@ class Looked:
     @contextlib.contextmanager
     def fake(self, make: Callable[[str], Fake], change: Change = unchanged, base: str = "", port: int = 0,
              certificate: str = "") -> Iterator[Shown]:
-        """A source that is made up by a function of its base, behind nginx, which has TLS where there is a
-        certificate."""
+        """Run a fake source, made by a function of its base, behind nginx, with TLS if there is a certificate."""
         port = port or free_port()
         fake = make(base or f"http{'s' * bool(certificate)}://127.0.0.1:{port}")
         with serving(fake.answer()) as server, self.site(int(server.url.rpartition(":")[2]), port, change,
@@ -119,8 +123,7 @@ class Looked:
     @contextlib.contextmanager
     def source(self, fill: Callable[[int], None],
                limit: int = 3) -> Iterator[tuple[str, pathlib.Path, subprocess.Popen[bytes]]]:
-        """The program on a new file, filled by a function of its base, behind nginx; gives its base and
-        its file."""
+        """Run the program behind nginx, filled by a function of the port; return its base, file and process."""
         port, disk = free_port(), self.room / f"{next(self.numbers)}.disk"
         base = f"http://127.0.0.1:{port}"
         subprocess.run([self.program, "format", disk, str(4 << 20), base, str(limit)], check=True,
@@ -137,14 +140,13 @@ class Looked:
                 server.kill()
 
     def status(self, disk: pathlib.Path) -> tuple[str, ...]:
-        """What `status` tells of a file, once its server has ended."""
+        """Return the figures of `status` of a file, after its server has ended."""
         status = subprocess.run([self.program, "run", disk], input=b"status\n", capture_output=True, check=True,
                                 timeout=SECONDS).stdout.decode()
         found = re.fullmatch(r"resources (\d+) changes (\d+) publication (\d+) last (\S+)\n", status)
-        if not found:
-            raise Differs(f"the status: {status[:200]!r}")
+        assert found, f"the status: {status[:200]!r}"
         return found.groups()
 
     def is_well(self) -> None:
-        """Nothing of the page's own failed, its policy refused nothing, and nothing of a source's ran."""
-        same("what went wrong in the page", {"faults": [], "refused": [], "ran": []}, self.browser.faults())
+        """Check that no script of the page failed, its policy refused no request, and no text of a source ran."""
+        assert self.browser.faults() == {"faults": [], "refused": [], "ran": []}

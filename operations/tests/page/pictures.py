@@ -1,10 +1,9 @@
-"""Draws the pictures of the page in docs/pictures: eight states of a source that is made up, in a window and
-on a telephone.
-
-The source has a host's name that the browser takes for loopback.
+"""Draw the pictures of the page in operations/docs/pictures: eight states of a fake source, in a window and on a
+telephone. The source has a host name that the browser resolves to loopback.
 """
 import dataclasses
 import io
+import pathlib
 import time
 from collections.abc import Callable
 
@@ -12,8 +11,7 @@ from PIL import Image
 
 from operations.tests.page import fake as fakes
 from operations.tests.page.browser import NARROW, Browser
-from operations.tests.page.looked import Looked, Shown, exchanged
-from operations.tests.page.looks_states import SOON
+from operations.tests.page.looked import SOON, Looked, Shown, exchanged
 from tests.program import ROOT, room_in_memory
 from tests.served_source import free_port
 
@@ -30,7 +28,7 @@ VIEW = "document.activeElement.blur(); document.querySelector('.holdings').scrol
 
 
 def archive(base: str) -> fakes.Fake:
-    """A source whose last change was two hours ago, with names in several scripts."""
+    """Return a source whose last change was two hours ago, with names in several scripts."""
     last = fakes.archive(base, 620).changes[-1].moment
     fake = fakes.archive(base, 620, begun=time.time_ns() // 1_000_000 - (last - fakes.BEGUN) - 2 * fakes.HOUR)
     begun = fake.changes[-1].moment
@@ -42,31 +40,31 @@ def archive(base: str) -> fakes.Fake:
 
 
 def unlawful(fake: fakes.Fake) -> fakes.Fake:
-    """The source with a name that no mirror takes."""
+    """Return the source with a name that mirrors refuse."""
     last = fake.changes[-1].moment
     changes = [*fake.changes, fakes.entry_of("letters/../../etc/passwd", b"body", last + 400_000, "created")]
     return fakes.published(dataclasses.replace(fake, changes=changes), last + 500_000)
 
 
 def damaged(fake: fakes.Fake) -> fakes.Fake:
-    """The source with every thirtieth body changed in a byte."""
+    """Return the source with a byte changed in every thirtieth body."""
     bad = {name: (kind, body and body[:-1] + bytes([body[-1] ^ 1])) for name,
            (kind, body) in [*fake.bodies.items()][::30]}
     return dataclasses.replace(fake, bodies=fake.bodies | bad)
 
 
 def with_host_name(settings: str) -> str:
-    """Settings of nginx for the host's name."""
+    """Return the settings of nginx for the host name."""
     return exchanged(settings, "server_name 127.0.0.1;", f"server_name {BASE.removeprefix('http://')};")
 
 
 def again(browser: Browser) -> None:
-    """Reads the lists again."""
+    """Reload the lists."""
     browser.click("again")
 
 
 def choose(browser: Browser) -> None:
-    """A search, with one resource chosen and checked."""
+    """Search, choose one resource, and check it."""
     browser.run(CHOSEN)
     browser.until("return document.querySelector('.card h3')", "the card")
     browser.click("check")
@@ -76,7 +74,7 @@ def choose(browser: Browser) -> None:
 
 
 def check(browser: Browser) -> None:
-    """A check of a hundred, to its end."""
+    """Check a hundred resources."""
     browser.click("check-some")
     browser.state("Disagrees")
     browser.until("return document.querySelector('[data-part=bar]').hidden", "the end of the checks")
@@ -84,8 +82,7 @@ def check(browser: Browser) -> None:
 
 @dataclasses.dataclass(frozen=True)
 class Picture:
-    """A state: its file, its word, what the source becomes once the page is open, and what a reader does
-    then."""
+    """A state: its file, its word, the change of the source after the page opens, and the steps of a reader."""
 
     name: str
     word: str
@@ -96,7 +93,7 @@ class Picture:
 
 
 def refusing(refusal: tuple[int, str, bytes]) -> Callable[[fakes.Fake], fakes.Fake]:
-    """What makes of a source one that answers so to everything."""
+    """Return a function that makes a source send this response to every request."""
     return lambda fake: dataclasses.replace(fake, refusal=refusal)
 
 
@@ -111,7 +108,7 @@ PICTURES = [
 
 
 def taken(browser: Browser, name: str) -> None:
-    """Writes a picture of what is in view, in few colours."""
+    """Write a picture of the view, with few colours."""
     image = Image.open(io.BytesIO(browser.picture())).convert("RGB").quantize(COLOURS,
                                                                               dither=Image.Dither.NONE)
     place = FOLDER / f"page-{name}.png"
@@ -122,7 +119,7 @@ def taken(browser: Browser, name: str) -> None:
 
 
 def drawn(browser: Browser, shown: Shown, fake: fakes.Fake, picture: Picture) -> None:
-    """The pictures of one state."""
+    """Draw the pictures of one state."""
     for size, ending in ((picture.window, ""), (NARROW, "-phone")):
         shown.is_now(fake)
         browser.open("about:blank")
@@ -136,13 +133,13 @@ def drawn(browser: Browser, shown: Shown, fake: fakes.Fake, picture: Picture) ->
 
 
 def draw(program: str) -> int:
-    """All pictures."""
+    """Draw all pictures; return the exit status."""
     port = free_port()
     with room_in_memory("page-") as room:
         place = f"--host-resolver-rules=MAP archive.example.org:80 127.0.0.1:{port}"
         browser = Browser(room, place, f"--unsafely-treat-insecure-origin-as-secure={BASE}")
         try:
-            look = Looked(program, room, browser)
+            look = Looked(program, pathlib.Path(room), browser)
             with look.hurried(*SOON), look.fake(archive, with_host_name, BASE, port) as shown:
                 fake = shown.fake
                 for picture in PICTURES:

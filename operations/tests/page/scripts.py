@@ -1,46 +1,44 @@
-"""What is run in the page to look at it: what is drawn, its contrast, its frames. Each is the body of a
-function."""
+"""Function bodies of JavaScript that inspect the page: its rows, its contrast, its frames."""
 
-# The texts of the rows that are drawn, cell by cell.
+# Return the texts of the drawn rows, cell by cell.
 ROWS = """
 const rows = [...document.querySelectorAll(`.${arguments[0]} .row`)];
 return rows.map((row) => [...row.children].map((it) => it.textContent));
 """
 
-# Puts words into a search, as a reader who types them.
+# Type a text into a search.
 TYPED = """
 const field = document.querySelector(`[data-part="${arguments[0]}"]`);
 field.value = arguments[1];
 field.dispatchEvent(new Event("input"));
 """
 
-# Elements that a source's texts could have made, in what shows them.
+# Count elements that a source's texts could have made, where the page shows these texts.
 STRANGE = """
 const kinds = "script, img, iframe, object, embed, base, form, style, link, meta";
 return document.querySelector("main").querySelectorAll(kinds).length;
 """
 
-# The figures of the table beside the time line, and the names of the bodies that differ.
+# Return the figures of the table of the time line, and the names of differing bodies.
 TABLE = """
 const rows = [...document.querySelectorAll("details tbody tr")];
 return rows.map((it) => [...it.children].slice(1).map((cell) => Number(cell.textContent)));
 """
 DIFFERING = "return [...document.querySelectorAll('.differing bdi')].map((it) => it.textContent)"
 
-# The levels of the headings.
+# Return the levels of the headings.
 LEVELS = """
 const headings = [...document.querySelectorAll("h1, h2, h3, h4")];
 return headings.filter((it) => it.checkVisibility()).map((it) => Number(it.localName[1]));
 """
 
-# What can be pressed, and is seen.
+# Return the classes of visible controls.
 PRESSED = """
 const every = [...document.querySelectorAll(".actions button, .quiet, .search")];
 return every.filter((it) => it.checkVisibility()).map((it) => it.className);
 """
 
-# What each pair of colours is, where it stands, and its ratio of contrast by WCAG 2.2: texts, bars, and the
-# edges of what can be pressed.
+# Return pairs of colours, their elements and their contrast by WCAG 2.2: texts, bars and edges of controls.
 CONTRAST = r"""
 const parsed = (text) => (text.match(/[\d.]+/g) ?? []).map(Number);
 const light = (rgb) => {
@@ -91,8 +89,7 @@ for (const it of document.querySelectorAll("input")) {
 return [...found.values()];
 """
 
-# Scrolls the list of resources a screen a frame, down and then to far places, for some seconds, and gives how
-# long each frame took.
+# Scroll the list of resources for some seconds, by screens and to distant rows; return the duration of every frame.
 SCROLLED = r"""
 const done = arguments[0];
 const view = document.querySelector(".resources .view");
@@ -114,13 +111,13 @@ view.scrollIntoView();
 requestAnimationFrame(step);
 """
 
-# When the last list had come, and when the first row of the resources was drawn, in milliseconds.
+# Return the milliseconds until the last list arrived and until the first row was drawn.
 SHOWN = r"""
 const lists = performance.getEntriesByType("resource").filter((it) => /list/.test(it.name) && it.name.endsWith(".xml"));
 return { came: Math.max(...lists.map((it) => it.responseEnd)), shown: window.firstRow ?? 0, lists: lists.length };
 """
 
-# What lies beyond the right edge of the window, or is cut off in what does not scroll.
+# Return elements that extend beyond the right edge of the window, or are cut off where they cannot scroll.
 WIDER = r"""
 const found = [];
 const wide = document.documentElement.scrollWidth;
@@ -134,15 +131,14 @@ for (const it of document.querySelectorAll("main *, header *, footer *")) {
 return found;
 """
 
-# What has the focus: its role or kind, and its name.
+# Return the role or kind of the focused element, and its name.
 FOCUSED = r"""
 const it = document.activeElement;
 const name = it.getAttribute("aria-label") ?? it.dataset.part ?? it.textContent;
 return `${it.getAttribute("role") ?? it.localName} ${name.trim().slice(0, 40)}`;
 """
 
-# Reads texts as documents twice, by the page's own reader and by the browser's parser, and tells where they
-# differ.
+# Read texts by the page's own reader and by the browser's parser; return the differences.
 READ_TWICE = r"""
 const [texts, done] = arguments;
 const SITEMAP = "http://www.sitemaps.org/schemas/sitemap/0.9";
@@ -178,7 +174,7 @@ import("/site/documents.js").then(({ documentOf }) => {
 }).catch((fault) => done({ differing: [String(fault)], read: 0, refused: 0 }));
 """
 
-# Presses and touches all that there is.
+# Click and touch every control.
 POKED = r"""
 for (const it of document.querySelectorAll("main button, main summary")) it.click();
 const field = document.querySelector(".field");

@@ -1,4 +1,4 @@
-"""nginx with the site of operations/install/ and its page, before something that answers as a source does."""
+"""Run nginx with the site of operations/install/ and its page in front of a source."""
 import contextlib
 import os
 import pathlib
@@ -14,22 +14,21 @@ from tests.program import ROOT
 from tests.served_source import free_port
 
 PAGE = ROOT / "operations/install/site"
-# Where the site looks for the page once it is installed.
+# The installed path of the page, which the site serves.
 INSTALLED = "/usr/local/share/ropepeach/site"
-# Where the site has the keeper's file of who runs it, and what that becomes here.
+# The site's path for the operator's file, and its path here.
 SETTINGS, ABOUT = "root /etc/ropepeach;", "settings/source.json"
 SECONDS = 20
 
 
 def configured(room: str, port: int, behind: int, change: Callable[[str], str], certificate: str) -> str:
-    """The settings of nginx: the site on this port of loopback, before a source on that one, with a room's page.
-
-    Without the file of a certificate and its key TLS is left out.
+    """Return nginx settings for the site on a loopback port, with the page of a folder and a source on another port.
+    Without a certificate file, which has the key too, there is no TLS.
     """
     folders = re.findall(r"--http-([a-z-]+)-temp-path",
                          subprocess.run(["nginx", "-V"], capture_output=True, text=True,
                                         timeout=SECONDS).stderr)
-    # (a master that is root gives its workers another user, who cannot write here)
+    # (if the master runs as root, its workers run as a user that cannot write here)
     user = f"user {pwd.getpwuid(os.getuid()).pw_name};" if os.getuid() == 0 else ""
     site = install_looks.site_on(room, port, behind)
     site = re.sub(r"/etc/ssl/\w+/source\.example\.org\.\w+", certificate,
@@ -39,7 +38,7 @@ def configured(room: str, port: int, behind: int, change: Callable[[str], str], 
     if site.count(SETTINGS) != 1:
         raise ValueError(f"the site has {SETTINGS} {site.count(SETTINGS)} times")
     site = site.replace(SETTINGS, f"root {room}/settings;")
-    # (what a source serves changes within a look, so nothing is kept here)
+    # (a source changes often during a test, so nginx caches no list here)
     site = re.sub(r"proxy_cache_valid\s[^;]*;", "", change(site.replace(INSTALLED, f"{room}/page")))
     places = "".join(f"{name.replace('-', '_')}_temp_path {room}/{name};\n" for name in folders)
     main = f"daemon off; worker_processes 1; {user} pid {room}/pid; error_log {room}/errors;\nevents {{}}\n"
@@ -50,10 +49,9 @@ def configured(room: str, port: int, behind: int, change: Callable[[str], str], 
 def site(folder: pathlib.Path, behind: int, port: int = 0,
          change: Callable[[str], str] = lambda settings: settings,
          edit: Callable[[pathlib.Path], None] = lambda page: None, certificate: str = "") -> Iterator[int]:
-    """The port of nginx before a source on the port `behind`. `change` makes other settings, and `edit`
-    another page."""
+    """Run nginx in front of a source on port `behind`; return its port. `change` changes settings, `edit` the page."""
     port = port or free_port()
-    # (a port may come again once it is free)
+    # (a port may be reused once it is free)
     room = pathlib.Path(tempfile.mkdtemp(prefix="site-", dir=folder))
     shutil.copytree(PAGE, room / "page")
     (room / ABOUT).parent.mkdir()

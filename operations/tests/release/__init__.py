@@ -1,1 +1,1 @@
-"""The check of `make release`: its short form makes no artifact of weight, its long form makes all of them twice."""
+"""Tests of `make release`: the short form makes no large artifact, the long form makes all of them twice."""

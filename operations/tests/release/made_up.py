@@ -1,4 +1,4 @@
-"""A small repository with a program, its stamp and a verdict of the gate, made up for the rows of a release."""
+"""Make a small repository with a program, its stamp and a verdict of the gate, for tests of a release."""
 from __future__ import annotations
 
 import dataclasses
@@ -13,7 +13,7 @@ from tests import verdict
 
 KIT = "kit-1 logic abc"
 DAY = "2026-01-01"
-# Of each commit that is made up: its author and its moment.
+# The author and the moment of every commit here.
 AUTHOR = {"GIT_AUTHOR_NAME": "a", "GIT_AUTHOR_EMAIL": "a@example.org", "GIT_COMMITTER_NAME": "a",
           "GIT_COMMITTER_EMAIL": "a@example.org", "GIT_AUTHOR_DATE": "1767225600 +0000",
           "GIT_COMMITTER_DATE": "1767225600 +0000",
@@ -32,14 +32,14 @@ CHANGELOG = """# Changelog
 
 
 def git(root: Path, *words: str) -> str:
-    """Runs git in a repository, by its own settings alone."""
+    """Run git in a repository, with its own settings only."""
     process = subprocess.run(["git", *words], cwd=root, env={**os.environ, **AUTHOR}, check=True, capture_output=True,
                              text=True)
     return process.stdout.strip()
 
 
 def commit(root: Path, subject: str = "a commit") -> str:
-    """Commits all that is there, and gives the commit."""
+    """Commit all files; return the commit."""
     git(root, "init", "--quiet", "--initial-branch=main")
     git(root, "add", "--all")
     git(root, "commit", "--quiet", "--message", subject)
@@ -48,12 +48,12 @@ def commit(root: Path, subject: str = "a commit") -> str:
 
 @dataclasses.dataclass
 class MadeUp:
-    """A repository that may be released. What is wrong with it is done to it by name."""
+    """A repository that may be released, until a test changes it."""
 
     root: Path
 
     def __post_init__(self) -> None:
-        """Makes it right."""
+        """Make the repository."""
         self.root.mkdir(parents=True)
         (self.root / "VERSION").write_text("0.1.0\n")
         (self.root / "CHANGELOG.md").write_text(CHANGELOG)
@@ -66,34 +66,34 @@ class MadeUp:
 
     @property
     def program(self) -> Path:
-        """Its program."""
+        """Return the path of the program."""
         return self.root / "out/rs_source"
 
     def write_stamp(self, **fields: object) -> None:
-        """Writes the stamp of its program, with some fields otherwise."""
+        """Write the stamp of the program, with some other fields."""
         right = {"sha256": digest(self.program), "commit": self.first, "has_changes": False, "date": 1767225600,
                  "kit": KIT}
         Stamp(**{**right, **fields}).write(self.program)  # type: ignore[arg-type]
 
     def write_verdict(self, **fields: object) -> None:
-        """Writes the gate's verdict, with some fields otherwise."""
+        """Write the gate's verdict, with some other fields."""
         right = {"commit": self.first, "changes": (), "kit": KIT, "passed": 3, "failed": (), "skipped": (),
                  "line": "3 passed, 0 failed"}
         verdict.write(self.root, verdict.Verdict(**{**right, **fields}))  # type: ignore[arg-type]
 
     def read(self, with_skips: bool = False) -> Grounds:
-        """What a release of it stands on."""
+        """Return the grounds of a release, or raise Unfit."""
         return grounds.read(self.root, self.program, with_skips, DAY)
 
 
 def another_commit(made: MadeUp) -> None:
-    """A commit behind the gate's."""
+    """Make a commit after the gate's."""
     (made.root / "a").write_text("a\n")
     commit(made.root, "another")
 
 
 def tag_elsewhere(made: MadeUp) -> None:
-    """The version's tag on another commit than the one that is released."""
+    """Tag the version on another commit than the released one."""
     git(made.root, "tag", "v0.1.0")
     another_commit(made)
     made.first = git(made.root, "rev-parse", "HEAD")
@@ -102,7 +102,7 @@ def tag_elsewhere(made: MadeUp) -> None:
 
 
 def changelog(made: MadeUp, text: str) -> None:
-    """Another changelog, committed, with the gate's verdict on it."""
+    """Commit another changelog, with the gate's verdict on it."""
     (made.root / "CHANGELOG.md").write_text(text)
     made.first = commit(made.root, "a changelog")
     made.write_stamp()

@@ -1,3 +1,1 @@
-"""A source on a replicated store: three machines on one kernel, of which one dies after another
-(operations/docs/REPLICAS.md).
-"""
+"""Tests of a source on a replicated store of three machines, which die in turn (operations/docs/REPLICAS.md)."""

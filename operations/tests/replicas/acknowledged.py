@@ -1,6 +1,6 @@
-"""A program on a machine that is given commands, and what its file has to hold after the ones that it acknowledged.
+"""Send random commands to a program on a machine, and compare its file with the acknowledged ones.
 
-The commands come from a seed. The model of tests/reading gives each answer and each document to the byte.
+The commands come from a seed. The model of tests/reading gives every response and document to the byte.
 """
 import os
 import select
@@ -15,21 +15,21 @@ BASE, LIMIT, SIZE = "https://s.example.org", 100, 2 << 20
 NAMES = [f"n{number}" for number in range(24)]
 LENGTHS = [0, 1, 511, 512, 700, 4_096, 8_999]
 KIND = "text/plain"
-# Words that a command begins to be acknowledged with.
+# First words of an acknowledgement.
 ACKNOWLEDGED = (b"created", b"updated", b"deleted", b"published", b"grouped")
 NOT_OPEN = (b"rs_source: Device\n",)
-# The command line of a program that has a file open.
+# A pattern for the command line of a program that has a file open.
 RUNS = r"^\S*rs_source .*\brun "
 
 
 def put_line(draw):
-    """A command that puts a body of a length that is drawn."""
+    """Return a command that puts a body of random length."""
     length = draw.choice([*LENGTHS, draw.randrange(9_000)])
     return f"put {draw.choice(NAMES)} {draw.randbytes(length).hex() or '-'} {KIND}"
 
 
 def drawn_line(draw, state):
-    """A command, as the lines of a script."""
+    """Return a random command, as lines of a script."""
     share = draw.random()
     if share < 0.72:
         return put_line(draw)
@@ -42,7 +42,7 @@ def drawn_line(draw, state):
 
 
 class Program:
-    """`rs_source run FILE` on a machine, asked through its pipes. No answer is waited for longer than it may take."""
+    """`rs_source run FILE` on a machine, driven through its pipes. Every response has a timeout."""
 
     def __init__(self, machine, program, file):
         self.process = machine.started(program, "run", file, stdin=subprocess.PIPE, stdout=subprocess.PIPE,
@@ -51,7 +51,7 @@ class Program:
         os.set_blocking(self.process.stdout.fileno(), False)
 
     def read(self, is_whole, seconds):
-        """Reads until what came is whole."""
+        """Read until the input is complete."""
         end = time.monotonic() + seconds
         while not is_whole():
             is_there, _, _ = select.select([self.process.stdout], [], [], max(0, end - time.monotonic()))
@@ -63,7 +63,7 @@ class Program:
             self.rest += piece
 
     def ask(self, line, seconds=100):
-        """The first line of the answer."""
+        """Send a line; return the first line of the response."""
         try:
             self.process.stdin.write(line.encode() + b"\n")
         except OSError:
@@ -73,7 +73,7 @@ class Program:
         return answer
 
     def shown(self, path, seconds=100):
-        """What `show` gives of a path, or its refusal."""
+        """Return the document or body that `show` prints for a path, or its refusal."""
         answer = self.ask(f"show {path}", seconds)
         if not answer.startswith(b"bytes "):
             return answer
@@ -83,7 +83,7 @@ class Program:
         return body
 
     def close(self, seconds=100):
-        """Ends the program in peace, and gives what it said."""
+        """Close the program's input, wait for its end, and return its messages."""
         self.process.stdin.close()
         try:
             self.process.wait(seconds)
@@ -94,7 +94,7 @@ class Program:
         return messages
 
     def drop(self):
-        """Ends it at once, wherever it is. (What hangs in the kernel ends with its machine.)"""
+        """Kill the program. (If it hangs in the kernel, it ends with its machine.)"""
         kill(self.process)
         try:
             self.process.wait(5)
@@ -105,14 +105,14 @@ class Program:
 
 
 class Source:
-    """What was acknowledged of a source, and the command of which no answer came."""
+    """The acknowledged state of a source, and the command without a response."""
 
     def __init__(self, draw):
         self.draw, self.state, self.pending, self.acknowledged, self.stood = draw, State(BASE, LIMIT), None, 0, 0
         self.seconds, self.heard = [], None
 
     def feed(self, program, count, seconds=100):
-        """Gives so many commands, or as many as are acknowledged. Whether all were."""
+        """Send commands until this many or the first that is not acknowledged. Return whether all were acknowledged."""
         for _ in range(count):
             line = drawn_line(self.draw, self.state)
             answer, then = self.state.after(line, 0)
@@ -131,15 +131,15 @@ class Source:
         return True
 
     def small(self, program):
-        """Two commands that leave room on the smallest disk."""
+        """Send two commands that leave room on the smallest disk."""
         for line in (f"put {NAMES[self.acknowledged % 5]} {self.draw.randbytes(8).hex()} {KIND}", "publish"):
             answer, self.state = self.state.after(line, 0)
             compare("an answer", answer.encode(), program.ask(line))
             self.acknowledged += 1
 
     def settle(self, program):
-        """Compares all that a program shows with what was acknowledged, to the byte. The command without an answer may
-        stand or not.
+        """Compare the whole source with the acknowledged commands, to the byte. The command without a response may or
+        may not have been applied.
         """
         found = program.ask("status") + b"\n"
         if self.pending and found == self.pending.status():
@@ -149,7 +149,7 @@ class Source:
         self.compare_whole(program)
 
     def compare_whole(self, program):
-        """Compares each document and each resource that a program shows, and lets it verify all."""
+        """Compare all documents and resources that a program shows, and run `verify`."""
         for path, text in documents(self.state).items():
             compare(path, text if isinstance(text, bytes) else text.encode(), program.shown(path))
         for name in NAMES:
@@ -161,19 +161,19 @@ class Source:
 
 
 def formatted(machine, program, file):
-    """Makes a new source on a machine."""
+    """Make a new source on a machine."""
     machine.done("rm", "-f", file)
     machine.done(program, "format", file, SIZE, BASE, LIMIT)
 
 
 def opened(machine, program, file, seconds=100):
-    """Opens a source, again and again while it is refused as `Device`: the program, and the seconds that it took."""
+    """Open a source; retry while it is refused as `Device`. Return the program, and the seconds until it was open."""
     began = time.monotonic()
     while True:
         running = Program(machine, program, file)
         try:
             if running.ask("status", seconds).startswith(b"resources"):
-                # (the answer is asked for again by who compares)
+                # (the caller requests the status again, and compares it)
                 return running, time.monotonic() - began
             messages = b"no status"
         except Ended:

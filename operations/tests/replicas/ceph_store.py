@@ -1,7 +1,7 @@
-"""A CephFS over three machines, set up as operations/docs/REPLICAS.md says: on each a monitor, a copy (OSD) and a
-metadata server; and the steps of its page.
+"""Run a CephFS over three machines as in operations/docs/REPLICAS.md, and take the steps of this page.
 
-The manager, which counts and decides nothing, lies beside the machines.
+Every machine has a monitor, a copy (OSD) and a metadata server. The manager, which collects statistics and makes no
+decision, runs outside the machines.
 """
 import json
 import select
@@ -23,11 +23,11 @@ PAGE = {
     "mon_election_timeout": 2,
     "mds_beacon_interval": 2,
     "mds_beacon_grace": 8,
-    # (where the machine of a monitor dies with it, this grace counts: 60 by default)
+    # (if a machine dies with its monitor, this grace applies: 60 s by default)
     "mds_beacon_mon_down_grace": 8,
     "mds_reconnect_timeout": 10,
 }
-# What makes the cluster small, and quiet about being small.
+# Settings for a small cluster, without the warnings about its size.
 SMALL = {
     "auth_cluster_required": "none",
     "auth_service_required": "none",
@@ -50,9 +50,8 @@ SMALL = {
     "rados_mon_op_timeout": 30,
     "crash_dir": "/nowhere",
 }
-# Asks the monitors: a line of JSON with a command in, one with the answer out. Each start of the command `ceph` takes
-# half a second of a
-# processor. The Python of Debian runs it, which has the module of Ceph.
+# A script that sends commands to the monitors: one line of JSON in, one line out. Starting `ceph` takes half a second
+# of a processor. Debian's Python, which has the module of Ceph, runs the script.
 ASKER = """
 import json, sys, rados
 with rados.Rados(conffile=sys.argv[1], name="client.admin") as cluster:
@@ -63,31 +62,31 @@ with rados.Rados(conffile=sys.argv[1], name="client.admin") as cluster:
 """
 FOLDER, NAME = "mnt", "source.disk"
 A_YEAR = 31_536_000
-# A metadata server that hangs does not answer, and is asked again: by then another one may have its place.
+# Timeouts in seconds. A request to a metadata server that hangs is retried, as another server may replace it.
 TOLD_WITHIN, EVICTED_WITHIN = 15, 180
 
 
 class Asker:
-    """Answers of the monitors, asked by a process in the switch's network."""
+    """Ask the monitors by a process in the switch's network."""
 
     def __init__(self, switch, conf):
         self.words = [PYTHON, "-c", ASKER, conf]
         self.switch, self.process = switch, None
 
     def start(self):
-        """Starts the process that asks the monitors."""
+        """Start the process that asks the monitors."""
         self.process = self.switch.started(*self.words, stdin=subprocess.PIPE, stdout=subprocess.PIPE,
                                            stderr=subprocess.DEVNULL, bufsize=0)
         if self.line(SECONDS) != b"ready\n":
             raise Stuck("the monitors do not answer")
 
     def line(self, seconds):
-        """A line of its output, or nothing where none comes in time."""
+        """Return a line of its output, or "" after a timeout."""
         is_told, _, _ = select.select([self.process.stdout], [], [], seconds)
         return self.process.stdout.readline() if is_told else b""
 
     def close(self):
-        """Ends the process, if there is one."""
+        """End the process, if there is one."""
         if self.process:
             self.process.kill()
             self.process.wait()
@@ -96,7 +95,7 @@ class Asker:
             self.process = None
 
     def query(self, prefix, **words):
-        """The answer of the monitors as a value, or None where there is none within half a minute."""
+        """Return the response of the monitors as a value, or None after half a minute."""
         try:
             if not self.process:
                 self.start()
@@ -105,12 +104,12 @@ class Asker:
         except (ValueError, OSError, Stuck):
             self.close()
             return None
-        # (a list of fences has a line behind it)
+        # (a line follows the list of fences)
         return None if status else json.JSONDecoder().raw_decode(text.strip() or "null")[0]
 
 
 class CephFS:
-    """The file system, over machines that run."""
+    """The file system, over running machines."""
 
     def __init__(self, switch, machines, room, settings=None):
         self.switch, self.machines, self.room = switch, machines, Path(room)
@@ -119,7 +118,7 @@ class CephFS:
         self.asker, self.heard = Asker(switch, self.conf), None
 
     def configure(self):
-        """Writes the settings of all daemons and clients."""
+        """Write the settings of all daemons and clients."""
         addresses = ",".join(machine.address for machine in self.machines)
         places = {"fsid": self.fsid, "mon_host": addresses,
                   "mon_initial_members": ",".join(machine.name for machine in self.machines),
@@ -135,29 +134,29 @@ class CephFS:
         (self.room / "m0" / "mgr").mkdir(parents=True, exist_ok=True)
 
     def daemon(self, machine, *words, **how):
-        """Runs a program of Ceph on a machine; a daemon goes on by itself."""
+        """Run a program of Ceph on a machine; daemons continue in the background."""
         return machine.done(words[0], "--conf", self.conf, *words[1:], **how)
 
     def start_monitor(self, machine):
-        """Starts the monitor of a machine."""
+        """Start the monitor of a machine."""
         self.daemon(machine, "ceph-mon", "-i", machine.name, "--public-addr", machine.address)
 
     def start_copy(self, machine):
-        """Starts the process that keeps the copy of a machine."""
+        """Start the process of the copy of a machine."""
         self.daemon(machine, "ceph-osd", "-i", machine.number - 1)
 
     def start_metadata(self, machine):
-        """Starts the metadata server of a machine."""
+        """Start the metadata server of a machine."""
         self.daemon(machine, "ceph-mds", "-i", machine.name)
 
     def start_missing(self, machine):
-        """Starts what does not run on a machine."""
+        """Start the daemons that do not run on a machine."""
         for name, start in (("mon", self.start_monitor), ("osd", self.start_copy), ("mds", self.start_metadata)):
             if not machine.processes(f"^ceph-{name} "):
                 start(machine)
 
     def make(self):
-        """Makes the cluster and its file system."""
+        """Make the cluster and its file system."""
         self.configure()
         monitors = [words for machine in self.machines
                     for words in ("--addv", machine.name, f"[v2:{machine.address}:3300,v1:{machine.address}:6789]")]
@@ -180,11 +179,11 @@ class CephFS:
         self.must("fs new", fs_name="fs", metadata="meta", data="data")
 
     def must(self, prefix, **words):
-        """A command of the monitors that has to be done; what it does is waited for elsewhere."""
+        """Send the monitors a command that must succeed; callers wait for its effect."""
         self.asker.query(prefix, **words)
 
     def make_copy(self, machine):
-        """Makes the copy of a machine, and starts its process."""
+        """Make the copy of a machine, and start its process."""
         number, name = machine.number - 1, str(uuid.uuid4())
         self.must("osd new", uuid=name, id=str(number))
         machine.done("mkdir", "-p", machine.data / "osd")
@@ -192,18 +191,18 @@ class CephFS:
         self.start_copy(machine)
 
     def close(self):
-        """Ends what runs outside of the machines."""
+        """End the processes outside the machines."""
         self.asker.close()
         if self.manager:
             self.manager.kill()
             self.manager.wait()
 
     def status(self):
-        """The state of the cluster; nothing where the monitors do not answer."""
+        """Return the status of the cluster, or {} if the monitors do not answer."""
         return self.asker.query("status") or {}
 
     def ails(self):
-        """What keeps the cluster from being as it should, or nothing."""
+        """Return the reason why the cluster is not healthy, or ""."""
         status = self.status()
         if not status:
             return "no answer"
@@ -216,7 +215,7 @@ class CephFS:
                 f"{list(status['health']['checks'])}")
 
     def heal(self, seconds=180):
-        """Waits until all is well, and gives the seconds that it took."""
+        """Wait until the cluster is healthy; return the seconds."""
         try:
             return until(lambda: not self.ails(), seconds, "HEALTH_OK", 0.3)[1]
         except Stuck as stuck:
@@ -224,22 +223,22 @@ class CephFS:
 
     # The steps of the page.
     def folder(self, machine):
-        """Where a machine has the file system."""
+        """Return the mount point of a machine."""
         return machine.room / FOLDER
 
     def file(self, machine):
-        """The file of the source on a machine."""
+        """Return the file of the source on a machine."""
         return self.folder(machine) / NAME
 
     def mount(self, machine, *more, seconds=100):
-        """Mounts the file system on a machine."""
+        """Mount the file system on a machine."""
         machine.done("mkdir", "-p", self.folder(machine))
         output = self.daemon(machine, "ceph-fuse", *more, self.folder(machine), seconds=seconds)
         if machine.done("stat", "-f", "-c", "%T", self.folder(machine)) != "fuseblk":
             raise Stuck(f"no file system on {machine.name}: {output}")
 
     def unmount(self, machine, is_lost=False):
-        """Takes a mount away: in peace, or one whose process was lost."""
+        """Unmount the file system; `is_lost` kills the process of the mount."""
         if is_lost:
             machine.kill("^ceph-fuse ")
             machine.done("umount", "--lazy", self.folder(machine), check=False)
@@ -248,7 +247,7 @@ class CephFS:
         until(lambda: not machine.processes("^ceph-fuse "), SECONDS, f"the end of the mount on {machine.name}")
 
     def end_sessions(self, machine, by):
-        """Ends the sessions of a machine's mounts. Whether the metadata server answered, and none is left."""
+        """End the sessions of a machine's mounts. Return whether the metadata server answered all requests."""
         try:
             output = self.command(by, "tell", "mds.fs:0", "session", "ls", seconds=TOLD_WITHIN)
             for session in json.loads(output[output.index("["):]):
@@ -260,15 +259,13 @@ class CephFS:
             return False
 
     def command(self, by, *words, seconds=SECONDS):
-        """Runs the command `ceph` on a machine, and gives its output alone."""
+        """Run the command `ceph` on a machine; return its standard output."""
         quiet = ["sh", "-c", 'exec "$@" 2>/dev/null', "sh", "ceph", "--conf", self.conf, "--connect-timeout", 30,
                  "--format", "json", *words]
         return by.done(*quiet, seconds=seconds)
 
     def fence(self, machine, by):
-        """Fences a machine's mounts from another machine: no copy takes anything from its address, and its sessions are
-        ended.
-        """
+        """Fence a machine's mounts from another machine: no copy accepts its writes, and its sessions end."""
         self.command(by, "osd", "blocklist", "add", machine.address, A_YEAR)
         try:
             until(lambda: self.end_sessions(machine, by), EVICTED_WITHIN, f"the end of the sessions of {machine.name}",
@@ -277,14 +274,14 @@ class CephFS:
             raise Stuck(f"{stuck}: {self.heard}; {self.ails()}") from None
 
     def fences(self, machine):
-        """The fences of a machine's mounts, each with its end, or None where the monitors do not answer."""
+        """Return the fences of a machine's mounts with their ends, or None if the monitors do not answer."""
         found = (self.asker.query("osd dump") or {}).get("blocklist")
-        # (a mount has port 0, and a metadata server that was replaced another one)
+        # (a mount has port 0; a fenced metadata server has another port)
         return None if found is None else {address: end for address, end in found.items()
                                            if address.startswith(f"{machine.address}:0/")}
 
     def lift(self, machine):
-        """Lets a machine's mounts in again, once nothing of before runs there."""
+        """Remove the fences of a machine's mounts; its old processes must have ended."""
         def is_lifted():
             fences = self.fences(machine)
             for address in fences or {}:

@@ -1,30 +1,21 @@
-"""Stores and settings that lose what was acknowledged. Each has to be seen to lose, by the very comparisons that find
-nothing on CephFS.
+"""Run stores and settings that lose acknowledged commands, which the comparisons must detect.
 
-Each function below is one control; it gives what was lost, or nothing where all tries were sound.
+A control returns the loss, or "" if no attempt lost a command.
 """
-import random
-import shutil
-import tempfile
 import time
-import traceback
 
 from operations.tests.replicas.acknowledged import Program, Source, formatted, opened
-from operations.tests.replicas.gluster_store import GlusterFS
-from operations.tests.replicas.machines import SECONDS, Ended, Stuck, three
-from operations.tests.replicas.rbd_fuse import RbdFuse
+from operations.tests.replicas.machines import SECONDS, Ended
 from operations.tests.replicas.relay import Feeding
 from tests.program import Differs
-from tests.skipped import not_tried
 
 TRIES = 20
-ON_CEPH, ON_GLUSTER = ["rbd-fuse"], ["glusterd", "glusterfs", "gluster"]
-# A file of this size is kept for a second by GlusterFS, whatever another machine writes.
+# GlusterFS caches a file of this size for a second, even if another machine writes.
 SMALL = 49_152
 
 
 def lost(program, source):
-    """What a program does not show of what was acknowledged, or nothing."""
+    """Return the acknowledged commands that a program does not show, or ""."""
     try:
         source.settle(program)
     except Differs as fault:
@@ -33,7 +24,7 @@ def lost(program, source):
 
 
 def rbd_fuse_with_its_cache(relay, image):
-    """A is fenced amid commands, and B opens. `rbd-fuse` answers a sync well whatever its flush heard."""
+    """Fence A during commands, and open B. `rbd-fuse` reports success of a sync even if its flush failed."""
     here, there = relay.machines[:2]
     for number in range(TRIES):
         image.make(here, relay.program)
@@ -60,7 +51,7 @@ def rbd_fuse_with_its_cache(relay, image):
 
 
 def a_writer_that_is_not_fenced(relay, image):
-    """A is open and at rest on `rbd-fuse`; B opens beside it. Both acknowledge puts."""
+    """Open B while A is open and at rest on `rbd-fuse`. Both acknowledge puts."""
     here, there = relay.machines[:2]
     image.make(here, relay.program)
     image.mount(here)
@@ -85,14 +76,14 @@ def a_writer_that_is_not_fenced(relay, image):
 
 
 def gluster_at_a_handover(machines, store, program, draw):
-    """A small source, both mounts stay. A ends in peace, and B opens at once."""
+    """Close A, and open B at once, with a small source; both mounts stay."""
     source, (here, there, _) = Source(draw), machines
     here.done(program, "format", store.file(here), SMALL, "https://s.example.org", 100)
     time.sleep(2)
     for number in range(TRIES):
         running, _ = opened(here, program, store.file(here))
         source.small(running)
-        # (the machine that stands by looks at the file, as `ropepeach look` does while it is served)
+        # (the standby machine reads the file, as `ropepeach look` does while it is served)
         there.done("cat", store.file(there))
         source.small(running)
         running.close()
@@ -109,8 +100,9 @@ def gluster_at_a_handover(machines, store, program, draw):
 
 
 def gluster_with_two_writers(machines, store, program, draw):
-    """A is open and at rest. The copies' processes are started anew, one after another, and B opens beside A. Both
-    acknowledge puts.
+    """Restart the processes of the copies in turn while the first machine has the source open and idle.
+
+    Then open it on the second; both acknowledge puts.
     """
     source, (here, there, _) = Source(draw), machines
     here.done("rm", "-f", store.file(here))
@@ -137,40 +129,3 @@ def gluster_with_two_writers(machines, store, program, draw):
     except Differs as fault:
         return str(fault)[:160]
     return found
-
-
-def what_failed(control, *arguments):
-    """Does a control, and tells what it lost. Gives what failed: a control that lost nothing."""
-    try:
-        found = control(*arguments)
-    except (Ended, Stuck, OSError, ValueError, LookupError) as fault:
-        traceback.print_exception(fault)
-        return [f"control {control.__name__}: {type(fault).__name__} {fault}"]
-    print(f"control: {control.__name__}: {'lost, as it should: ' + found if found else 'NOT SEEN to lose'}", flush=True)
-    return [] if found else [f"control {control.__name__}: not seen to lose"]
-
-
-def on_ceph(relay):
-    """The controls on the cluster that runs."""
-    if missing := [tool for tool in ON_CEPH if not shutil.which(tool)]:
-        not_tried("replicas, the controls on an image of Ceph", f"there is no {', no '.join(missing)} here")
-        return []
-    image = RbdFuse(relay.store)
-    return what_failed(rbd_fuse_with_its_cache, relay, image) + what_failed(a_writer_that_is_not_fenced, relay, image)
-
-
-def on_gluster(options):
-    """The controls on GlusterFS, on machines of their own."""
-    if missing := [tool for tool in ON_GLUSTER if not shutil.which(tool)]:
-        not_tried("replicas, the controls on GlusterFS", f"there is no {', no '.join(missing)} here")
-        return []
-    draw = random.Random(options.seed)
-    with tempfile.TemporaryDirectory(
-            prefix="replicas-", ignore_cleanup_errors=True) as room, three(room, "600M") as (_, machines):
-        store = GlusterFS(machines)
-        try:
-            store.make()
-        except Stuck as fault:
-            return [f"GlusterFS: {fault}"]
-        return [fault for control in (gluster_at_a_handover, gluster_with_two_writers)
-                for fault in what_failed(control, machines, store, options.program, draw)]

@@ -1,5 +1,4 @@
-"""A GlusterFS volume over three machines, a copy on each, with no option set: a control, which has to be seen to lose.
-"""
+"""Run a GlusterFS volume over three machines, all with a copy, with default options: a control, which must lose."""
 import re
 import signal
 
@@ -17,25 +16,25 @@ mount --bind "$1/log" /var/log/glusterfs
 
 
 class GlusterFS:
-    """The volume, over machines that run."""
+    """The volume, over running machines."""
 
     def __init__(self, machines):
         self.machines = machines
 
     def folder(self, machine):
-        """Where a machine has the volume."""
+        """Return the mount point of a machine."""
         return machine.room / "gluster"
 
     def file(self, machine):
-        """The file of the source on a machine."""
+        """Return the file of the source on a machine."""
         return self.folder(machine) / NAME
 
     def command(self, *words, seconds=SECONDS):
-        """A command of the store, by the first machine."""
+        """Run a command of the store on the first machine."""
         return self.machines[0].done("gluster", "--mode=script", *words, seconds=seconds)
 
     def make(self):
-        """Makes the volume, and mounts it on each machine."""
+        """Make the volume, and mount it on all machines."""
         for machine in self.machines:
             machine.done("sh", "-c", FOLDERS, "sh", machine.data, self.folder(machine))
             machine.done("glusterd")
@@ -49,19 +48,19 @@ class GlusterFS:
             self.mount(machine)
 
     def mount(self, machine):
-        """Mounts the volume on a machine."""
+        """Mount the volume on a machine."""
         machine.done("glusterfs", "--process-name", "fuse", f"--volfile-server={machine.address}",
                      f"--volfile-id={VOLUME}", self.folder(machine))
         if machine.done("stat", "-f", "-c", "%T", self.folder(machine)) != "fuseblk":
             raise Stuck(f"no volume on {machine.name}")
 
     def copies(self):
-        """How many copies have a process that is well."""
+        """Return the number of copies with a healthy process."""
         is_well = r"<path>/[^<]*</path>\s*<peerid>[^<]*</peerid>\s*<status>1</status>"
         return len(re.findall(is_well, self.command("--xml", "volume", "status", VOLUME)))
 
     def renew_copies(self, each):
-        """Kills and starts the process of each copy in turn, with so much time between."""
+        """Kill and restart the processes of the copies in turn, with a pause in seconds between."""
         for machine in self.machines:
             machine.send(signal.SIGKILL, r"^\S*glusterfsd ")
             each()

@@ -1,9 +1,8 @@
-"""Three machines on one kernel. Each has a network, mounts, processes and a name of its own, and a disk of its own, an
-XFS on a loop device.
+"""Run three machines on one kernel, with separate networks, mounts, processes and names, and an XFS on a loop device.
 
-A machine dies as a whole with its first process, and all of them die with the process that made them. What one kernel
-cannot show: two clocks, two disks beneath, a real power cut. `drop_pages` is the nearest to one: the machine's file
-system forgets what it has not synced.
+A machine dies as a whole with its first process, and all machines die with the process that made them. One kernel
+cannot simulate two clocks, two disks below, or a real power cut. `drop_pages` is the closest to a power cut: the
+machine's file system forgets unsynced writes.
 """
 import contextlib
 import fcntl
@@ -17,7 +16,7 @@ import time
 from pathlib import Path
 
 NETWORK = "10.78.0"
-# The first process of a machine: it mounts, says so, and waits for what ends below it.
+# The first process of a machine: it mounts, reports this, and reaps processes below it.
 FIRST = """
 set -e
 mount --make-rprivate /
@@ -29,26 +28,26 @@ echo ready
 trap '' TERM INT
 while :; do sleep 3600 & wait $!; done
 """
-# XFS_IOC_GOINGDOWN of linux/fs/xfs, with XFS_FSOP_GOING_FLAGS_NOLOGFLUSH: nothing more reaches the device.
+# XFS_IOC_GOINGDOWN of linux/fs/xfs, with XFS_FSOP_GOING_FLAGS_NOLOGFLUSH: no more writes reach the device.
 GOING_DOWN, AT_ONCE = 0x8004587D, 2
 DYING = ["setpriv", "--pdeathsig", "KILL"]
 SECONDS = 60
 
 
 class Stuck(Exception):
-    """A step that did not end well, or not within its time."""
+    """A step that failed or took too long."""
 
 
 class Late(Exception):
-    """The time for all is over. No step waits on after it."""
+    """The time for all tests is over. No step waits after it."""
 
 
 class Ended(Exception):
-    """A program that has ended where it had to answer."""
+    """A program that ended instead of a response."""
 
 
 def done(words, seconds=SECONDS, check=True):
-    """What a command prints. It is killed where it takes longer."""
+    """Return the output of a command; kill it after a timeout."""
     try:
         process = subprocess.run(list(map(str, words)), stdin=subprocess.DEVNULL, stdout=subprocess.PIPE,
                                  stderr=subprocess.STDOUT, timeout=seconds + 10)
@@ -61,7 +60,7 @@ def done(words, seconds=SECONDS, check=True):
 
 
 def kill(process):
-    """Ends a process that was started on a machine, and the one below it, which entered the machine's processes."""
+    """Kill a process that was started on a machine, and its child, which entered the machine's processes."""
     with contextlib.suppress(OSError):
         for number in Path(f"/proc/{process.pid}/task/{process.pid}/children").read_text().split():
             os.kill(int(number), signal.SIGKILL)
@@ -69,8 +68,7 @@ def kill(process):
 
 
 def is_over(number):
-    """Whether a process has ended with all of its threads: until then it has its files, and no command line any more.
-    """
+    """Return whether a process and its threads have ended: until then it holds its files, without a command line."""
     try:
         state = Path(f"/proc/{number}/stat").read_text().rpartition(") ")[2][0]
         return state in "ZX" and len(os.listdir(f"/proc/{number}/task")) == 1
@@ -79,7 +77,7 @@ def is_over(number):
 
 
 def until(is_so, seconds, what, pause=0.1):
-    """Waits until something is so, and gives it with the seconds that it took."""
+    """Wait until a condition is true; return its value and the seconds."""
     started = time.monotonic()
     while not (found := is_so()):
         if time.monotonic() - started > seconds:
@@ -89,7 +87,7 @@ def until(is_so, seconds, what, pause=0.1):
 
 
 class Switch:
-    """The network between the machines, with a place of its own from which one can ask the store."""
+    """The network between the machines, with a namespace for requests to the store."""
 
     def __init__(self):
         self.process = subprocess.Popen([*DYING, "unshare", "--net", "--uts", "sh", "-c",
@@ -101,25 +99,25 @@ class Switch:
         self.done("ip", "address", "add", f"{NETWORK}.100/24", "dev", "br0")
 
     def within(self):
-        """The words by which a command runs within its network."""
+        """Return the words that run a command in its network."""
         return ["nsenter", "-t", str(self.process.pid), "-n", "-u"]
 
     def done(self, *words, seconds=SECONDS, check=True):
-        """Runs a command within its network, and gives its output."""
+        """Run a command in its network; return its output."""
         return done([*self.within(), "timeout", "-s", "KILL", seconds, *words], seconds, check)
 
     def started(self, *words, **how):
-        """A process beside the machines, which ends with this one."""
+        """Start a process outside the machines, which ends with this one."""
         return subprocess.Popen([*DYING, *self.within(), *map(str, words)], start_new_session=True, **how)
 
     def close(self):
-        """Ends it."""
+        """Remove the network."""
         self.process.kill()
         self.process.wait()
 
 
 class Machine:
-    """A machine of this number, 1 to 3. Its disk outlasts its death."""
+    """A machine of this number, 1 to 3. Its disk survives its death."""
 
     def __init__(self, number, switch, room, size="8G"):
         self.number, self.switch, self.address, self.name = number, switch, f"{NETWORK}.{number}", f"m{number}"
@@ -130,7 +128,7 @@ class Machine:
         done(["mkfs.xfs", "-q", self.disk])
 
     def start(self):
-        """Starts the machine, and joins it to the network."""
+        """Start the machine, and join it to the network."""
         words = [*DYING, "unshare", "--net", "--mount", "--pid", "--uts", "--fork", "--kill-child", "--mount-proc"]
         words += ["sh", "-c", FIRST, "sh", self.name, str(self.disk), str(self.data)]
         self.process = subprocess.Popen(words, start_new_session=True, stdin=subprocess.DEVNULL, stdout=subprocess.PIPE,
@@ -142,7 +140,7 @@ class Machine:
         self.first = int(Path(f"/proc/{self.process.pid}/task/{self.process.pid}/children").read_text().split()[0])
         link, switch = f"v{self.number}", self.switch
         switch.done("ip", "link", "delete", link, check=False)
-        # (the same address of the card after each start, as a real one has)
+        # (the network card keeps its address over starts, as a real one does)
         card = ["name", "eth0", "address", f"02:00:00:00:00:0{self.number}", "netns", self.first]
         switch.done("ip", "link", "add", link, "type", "veth", "peer", *card)
         switch.done("ip", "link", "set", link, "master", "br0", "up")
@@ -151,23 +149,23 @@ class Machine:
 
     @property
     def is_live(self):
-        """Whether the machine runs."""
+        """Return whether the machine runs."""
         return self.process is not None
 
     def within(self):
-        """The words by which a command runs within the machine."""
+        """Return the words that run a command in the machine."""
         return ["nsenter", "-t", str(self.first), "-n", "-m", "-p", "-u"]
 
     def done(self, *words, seconds=SECONDS, check=True):
-        """What a command prints on this machine."""
+        """Return the output of a command on this machine."""
         return done([*self.within(), "timeout", "-s", "KILL", seconds, *words], seconds, check)
 
     def started(self, *words, **how):
-        """A process on the machine, which ends with it."""
+        """Start a process on the machine, which ends with it."""
         return subprocess.Popen([*DYING, *self.within(), *map(str, words)], start_new_session=True, **how)
 
     def processes(self, pattern):
-        """The numbers of this machine's processes of this command line."""
+        """Return the ids of this machine's processes with this command line."""
         ours, found = os.readlink(f"/proc/{self.first}/ns/pid"), []
         for path in Path("/proc").iterdir():
             with contextlib.suppress(OSError):
@@ -177,7 +175,7 @@ class Machine:
         return found
 
     def send(self, sign, pattern):
-        """Sends a signal to processes, and gives their numbers."""
+        """Send processes a signal; return their ids."""
         found = self.processes(pattern)
         for number in found:
             with contextlib.suppress(ProcessLookupError):
@@ -185,17 +183,17 @@ class Machine:
         return found
 
     def kill(self, pattern):
-        """Kills processes, and waits until they are gone."""
+        """Kill processes, and wait until they have ended."""
         found = self.send(signal.SIGKILL, pattern)
         until(lambda: all(map(is_over, found)) and not self.processes(pattern), SECONDS,
               f"the end of {pattern} on {self.name}", 0.02)
 
     def connect(self, is_up):
-        """Plugs the machine in, or pulls the plug."""
+        """Connect the machine to the network, or disconnect it."""
         self.switch.done("ip", "link", "set", f"v{self.number}", "up" if is_up else "down")
 
     def drop_pages(self):
-        """The machine's file system goes down without writing anything more, as its disk does in a power cut."""
+        """Shut the machine's file system down without more writes, as in a power cut."""
         number = os.open(f"/proc/{self.first}/root{self.data}", os.O_RDONLY)
         try:
             fcntl.ioctl(number, GOING_DOWN, struct.pack("I", AT_ONCE))
@@ -203,7 +201,7 @@ class Machine:
             os.close(number)
 
     def die(self, by_power=False):
-        """All of it ends at once; by power, also what its disk does not have yet."""
+        """Kill the whole machine at once; by power, also drop the writes that are not on its disk."""
         if not self.is_live:
             return
         if by_power:
@@ -224,7 +222,7 @@ class Machine:
 
 @contextlib.contextmanager
 def three(room, size="8G"):
-    """A switch and three machines, started; at the end nothing of them is left."""
+    """Yield a switch and three started machines; remove all of them at the end."""
     switch, machines = Switch(), []
     try:
         for number in (1, 2, 3):

@@ -1,4 +1,4 @@
-"""An image of Ceph as a file by `rbd-fuse`, with its cache: a control, which has to be seen to lose."""
+"""Mount an image of Ceph as a file by `rbd-fuse`, with its cache: a control, which must lose commands."""
 import contextlib
 
 from operations.tests.replicas.acknowledged import BASE, LIMIT, SIZE
@@ -8,7 +8,7 @@ POOL, IMAGE = "rp", "source"
 
 
 class RbdFuse:
-    """The image, over a cluster that runs."""
+    """The image, over a running cluster."""
 
     def __init__(self, store):
         self.store, self.conf = store, store.room / "rbd.conf"
@@ -18,7 +18,7 @@ class RbdFuse:
         store.heal()
 
     def make(self, machine, program):
-        """A new source in a new image."""
+        """Make a new source in a new image."""
         local = machine.room / "image.disk"
         machine.done("rm", "-f", local)
         machine.done(program, "format", local, SIZE, BASE, LIMIT)
@@ -26,26 +26,26 @@ class RbdFuse:
         machine.done("rbd", "--conf", self.conf, "import", "--dest-pool", POOL, local, IMAGE)
 
     def folder(self, machine):
-        """Where a machine has the image."""
+        """Return the mount point of a machine."""
         return machine.room / "rbd"
 
     def file(self, machine):
-        """The file of the source on a machine."""
+        """Return the file of the source on a machine."""
         return self.folder(machine) / IMAGE
 
     def mount(self, machine):
-        """Mounts the image on a machine."""
+        """Mount the image on a machine."""
         machine.done("mkdir", "-p", self.folder(machine))
         machine.done("rbd-fuse", "-c", self.conf, "-p", POOL, self.folder(machine))
         until(lambda: machine.done("stat", "-c", "%s", self.file(machine), check=False) == str(SIZE), SECONDS,
               "the image is a file", 0.2)
 
     def unmount(self, machine):
-        """Takes the image from a machine, also where its process hangs."""
+        """Unmount the image from a machine, even if its process hangs."""
         with contextlib.suppress(Stuck):
             machine.kill("^rbd-fuse ")
         machine.done("umount", "--lazy", self.folder(machine), check=False)
 
     def fence(self, machine, by):
-        """The whole address is fenced, as for CephFS."""
+        """Fence the whole address, as for CephFS."""
         self.store.command(by, "osd", "blocklist", "add", machine.address, 3_600)

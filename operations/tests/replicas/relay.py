@@ -1,6 +1,4 @@
-"""A source that goes from machine to machine by the steps of operations/docs/REPLICAS.md, and what is acknowledged
-meanwhile.
-"""
+"""Move a source between machines by the steps of operations/docs/REPLICAS.md, and record the acknowledged commands."""
 import os
 import signal
 import subprocess
@@ -13,26 +11,26 @@ from operations.tests.replicas.acknowledged import RUNS, Source, formatted, open
 from operations.tests.replicas.machines import SECONDS, Ended, Stuck
 from tests.program import TOOLS, Differs
 
-# The command waits so long for the store, and is waited for no longer than that.
+# Seconds that the command waits for the store, and the timeout of the command.
 WAIT, LATEST = 120, 300
 
 
 class Feeding(threading.Thread):
-    """Commands one after another, until one is not acknowledged."""
+    """Send commands until one is not acknowledged."""
 
     def __init__(self, source, program):
         super().__init__(daemon=True)
         self.source, self.program, self.fault = source, program, None
 
     def run(self):
-        """Feeds the program until it ends, and keeps a difference that it met."""
+        """Send commands until the program ends, and keep the difference if there is one."""
         try:
             self.source.feed(self.program, sys.maxsize, 150)
         except Differs as fault:
             self.fault = fault
 
     def over(self, seconds=160):
-        """Waits for the end, and raises what was wrong."""
+        """Wait for the end, and raise the difference if there is one."""
         self.join(seconds)
         if self.is_alive():
             raise Stuck(f"a command has no answer {seconds} s later")
@@ -41,28 +39,28 @@ class Feeding(threading.Thread):
 
 
 class Relay:
-    """The store, the machines, and the source on the one that serves."""
+    """The store, the machines, and the source on the serving machine."""
 
     def __init__(self, store, program, draw):
         self.store, self.machines, self.program, self.draw = store, store.machines, os.path.abspath(program), draw
         self.source, self.at, self.running, self.goes_on = Source(draw), self.machines[0], None, []
 
     def begin(self):
-        """Makes a source on the first machine, and opens it."""
+        """Make a source on the first machine, and open it."""
         self.store.mount(self.at)
         formatted(self.at, self.program, self.store.file(self.at))
         self.running = opened(self.at, self.program, self.store.file(self.at))[0]
         self.feed(3)
 
     def feed(self, count):
-        """Commands that have to be acknowledged, each of them."""
+        """Send this many commands, all of which must be acknowledged."""
         if not self.source.feed(self.running, count):
             raise Stuck(f"refused on {self.at.name}, where nothing is wrong: {self.source.heard!r}")
 
     def takeover(self, to, other, *words, status=0, wait=WAIT):
-        """Runs `ropepeach takeover` on a machine; it has to end with this status. Gives what it said.
+        """Run `ropepeach takeover` on a machine, check its exit status, and return its output and messages.
 
-        What it refuses is not lost: the store may be slow. What it lets pass is wrong.
+        A wrong refusal raises Stuck, as the store may be slow. A wrong success raises Differs.
         """
         command = ["env", f"CEPH_CONF={self.store.conf}", PYTHON, TOOLS / "ropepeach-command", "takeover",
                    self.store.file(to), other.address]
@@ -76,7 +74,7 @@ class Relay:
         return process.stdout + process.stderr
 
     def open_on(self, to, other, *words):
-        """Mounts, looks at each step and opens the source there. Gives what it took."""
+        """Mount, run the takeover and open the source on a machine. Return the seconds of the steps as a text."""
         began = time.monotonic()
         self.mount(to)
         mounted = time.monotonic()
@@ -86,7 +84,7 @@ class Relay:
         return f"the mount {mounted - began:.1f}, the steps {looked - mounted:.1f}"
 
     def mount(self, to, seconds=150):
-        """Mounts the store on a machine, and tries again for so many seconds."""
+        """Mount the store on a machine; retry for this many seconds."""
         end = time.monotonic() + seconds
         while True:
             try:
@@ -95,13 +93,13 @@ class Relay:
                 self.store.unmount(to, is_lost=True)
                 if time.monotonic() > end:
                     raise
-                # (a fence that was asked for while a monitor was away may come once more, behind its lifting)
+                # (a fence requested while a monitor was down may return after it was lifted)
                 if "blocklisted" in str(stuck):
                     print(f"{to.name} is fenced once more: {self.store.fences(to)}", flush=True)
                     self.store.lift(to)
 
     def go_back(self, to):
-        """The planned way: the program ends in peace here, and the source is opened there."""
+        """Move the source as planned: close it here, and open it there."""
         here = self.at
         self.running.close()
         self.store.unmount(here)
@@ -109,7 +107,7 @@ class Relay:
         self.source.settle(self.running)
 
     def intrude(self, program):
-        """A program that was fenced is asked for puts: none may be acknowledged. Gives what it answers."""
+        """Send puts to a fenced program, and check that it acknowledges no put. Return the responses."""
         answers = []
         for _ in range(2):
             try:
@@ -121,7 +119,7 @@ class Relay:
         return answers
 
     def clear(self, machine):
-        """Ends all of the source on a machine that was fenced, and gives it back to the store."""
+        """End all processes of the source on a fenced machine, and return the machine to the store."""
         if machine.is_live:
             machine.send(signal.SIGKILL, RUNS)
             self.store.unmount(machine, is_lost=True)

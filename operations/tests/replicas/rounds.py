@@ -1,9 +1,8 @@
-"""Rounds: the machine that serves meets a death amid commands, another one takes over by the page's steps, and later
-the source goes back.
+"""Run rounds: the serving machine fails during commands, another machine takes over by the page's steps, and the source
+returns later.
 
-Each kind of death is a function below; its first line says which. What the source holds is compared with what was
-acknowledged, to the byte, after each of the two ways, and once more after a machine that is still alive was let at the
-store again.
+The functions below are the kinds of failure. The source is compared with the acknowledged commands, to the byte, after
+both moves, and again after a surviving machine regains access to the store.
 """
 import signal
 import time
@@ -12,65 +11,63 @@ from operations.tests.replicas.acknowledged import RUNS
 from operations.tests.replicas.relay import Feeding
 from tests.program import Differs
 
-# A copy's process is away for so long, before the program ends too.
+# Seconds without a copy's process before the program is killed too.
 WITHOUT_A_COPY = 2
 
 
 def own_copy(here, there):
-    """The process of the copy on the machine that serves."""
+    """Kill the process of the copy on the serving machine."""
     here.kill("^ceph-osd ")
 
 
 def other_copy(here, there):
-    """The process of the copy on the machine that takes over."""
+    """Kill the process of the copy on the machine that takes over."""
     there.kill("^ceph-osd ")
 
 
 def mount(here, there):
-    """The process of the mount."""
+    """Kill the process of the mount."""
     here.kill("^ceph-fuse ")
 
 
 def program(here, there):
-    """The program."""
+    """Kill the program."""
     here.kill(RUNS)
 
 
 def machine(here, there):
-    """The whole machine, at once."""
+    """Kill the whole machine at once."""
     here.die()
 
 
 def power(here, there):
-    """The machine's power: what its disk was not given by a sync is gone, too."""
+    """Cut the machine's power: unsynced data on its disk is lost too."""
     here.die(by_power=True)
 
 
 def network(here, there):
-    """The machine's network, while a command is under way. The machine goes on, and comes back while another one
-    serves.
-    """
+    """Disconnect the machine during a command. It runs on, and returns while another machine serves."""
     here.connect(False)
 
 
 def network_at_rest(here, there):
-    """The machine's network, while no command is under way."""
+    """Disconnect the machine while no command is in progress."""
     here.connect(False)
 
 
 def hang(here, there):
-    """The machine hangs, and wakes up while another one serves."""
+    """Freeze the machine, which wakes up while another machine serves."""
     here.send(signal.SIGSTOP, ".")
 
 
 KINDS = [own_copy, other_copy, mount, program, machine, power, network, network_at_rest, hang]
-# Those whose machine is alive when the other one serves.
+# Kinds after which the machine is alive while another one serves.
 SURVIVORS = (network, network_at_rest, hang)
 COPIES = (own_copy, other_copy)
 
 
 def wake(kind, here):
-    """The machine that was fenced goes on."""
+    """Let the fenced machine continue."""
     if kind is hang:
         here.send(signal.SIGCONT, ".")
     else:
@@ -78,7 +75,7 @@ def wake(kind, here):
 
 
 def meet(relay, kind, there):
-    """Lets the death come amid commands. Gives the commands under way, and when it came."""
+    """Cause the failure during commands. Return the running commands, and the time of the failure."""
     here, feeding = relay.at, Feeding(relay.source, relay.running)
     if kind is not network_at_rest:
         feeding.start()
@@ -97,10 +94,9 @@ def meet(relay, kind, there):
 
 
 def let_back(relay, kind, here, feeding, late, count):
-    """A machine that is alive comes back while the other one serves: it acknowledges nothing new, and changes nothing.
+    """Let a surviving machine return while another one serves: it acknowledges no command, and makes no change.
 
-    `count` commands may have been acknowledged: the answer of the store to a command that stands may reach the machine
-    late.
+    `count` commands may have been acknowledged: the store's response to an applied command may reach the machine late.
     """
     wake(kind, here)
     if kind is not network_at_rest:
@@ -115,7 +111,7 @@ def let_back(relay, kind, here, feeding, late, count):
 
 
 def one_round(relay, kind):
-    """A round. Gives the seconds until the source was open again, and what is told of the round."""
+    """Run a round. Return the seconds until the source was open again, and a line about the round."""
     relay.feed(relay.draw.randrange(4, 16))
     here, late = relay.at, relay.running
     there = relay.draw.choice([machine for machine in relay.machines if machine is not here])

@@ -1,19 +1,18 @@
-"""How long a put takes on the store and beside it, and what `serve` answers while copies are gone."""
+"""Measure puts on the store and on a disk, and the responses of `serve` while copies are down."""
 import contextlib
 import random
 import statistics
 import subprocess
 import time
-import traceback
 
 from operations.tests import PYTHON
 from operations.tests.replicas.acknowledged import Program, formatted
-from operations.tests.replicas.machines import Ended, Stuck, kill, until
+from operations.tests.replicas.machines import Ended, kill, until
 from tests.program import Differs
 from tests.threads import beside
 
 PUTS, BODY, PORT = 150, 4_096, "8080"
-# With one copy alone nothing is answered for so long, and then a copy comes back.
+# Seconds with a single copy, which answers no request, before a copy returns.
 ALONE = 15
 REQUEST = """import http.client, sys, time
 began, connection = time.monotonic(), http.client.HTTPConnection("127.0.0.1", int(sys.argv[1]), timeout=170)
@@ -24,7 +23,7 @@ print(connection.getresponse().status, round(time.monotonic() - began, 2))
 
 
 def median_put(machine, program, file):
-    """The median of puts of 4 KiB to a new source, in milliseconds."""
+    """Return the median milliseconds of puts of 4 KiB to a new source."""
     formatted(machine, program, file)
     running, body, seconds = Program(machine, program, file), random.Random(1).randbytes(BODY).hex(), []
     for number in range(PUTS):
@@ -38,7 +37,7 @@ def median_put(machine, program, file):
 
 
 def puts(relay):
-    """Puts on the machine's own disk and on the store, three times in turn."""
+    """Measure puts on the machine's own disk and on the store, alternating three times."""
     here = relay.at
     local, remote = here.data / "timed.disk", relay.store.folder(here) / "timed.disk"
     for _ in range(3):
@@ -48,19 +47,19 @@ def puts(relay):
 
 
 def timed_request(machine, method="PUT"):
-    """The status of a request on a machine, and its seconds."""
+    """Return the status of a request on a machine, and its seconds."""
     status, seconds = machine.done(PYTHON, "-c", REQUEST, PORT, method, seconds=180).split()
     return int(status), float(seconds)
 
 
 def report(what, found):
-    """Prints the answers, each with its seconds."""
+    """Print responses with their seconds."""
     answers = ", ".join(f"{method} {status} after {seconds:.1f} s" for method, (status, seconds) in found)
     print(f"serve, {what}: {answers}", flush=True)
 
 
 def alone(relay, here, others):
-    """Both other copies are gone: what a PUT and a GET behind it are answered once one of them is back."""
+    """Kill both other copies; print the responses to a PUT and a GET once one copy is back."""
     for machine in others:
         machine.kill("^ceph-osd ")
     found = []
@@ -78,7 +77,7 @@ def alone(relay, here, others):
 
 
 def served(relay):
-    """What a server on the store answers while one copy's process, one machine's network, or two copies are gone."""
+    """Print the responses of a server on the store while one copy's process, one network, or two copies are down."""
     here, store = relay.at, relay.store
     others = [machine for machine in relay.machines if machine is not here]
     file = store.folder(here) / "served.disk"
@@ -106,14 +105,3 @@ def served(relay):
         server.stdout.close()
     until(lambda: not here.processes(r"rs_source serve "), 60, "the end of the server")
     here.done("rm", "-f", file)
-
-
-def run(relay):
-    """Measures. Gives what failed."""
-    try:
-        puts(relay)
-        served(relay)
-    except (Differs, Ended, Stuck, ValueError) as fault:
-        traceback.print_exception(fault)
-        return [f"times: {type(fault).__name__} {fault}"]
-    return []

@@ -1,14 +1,12 @@
-"""The four ways in which GlusterFS by default broke the promise, each tried on CephFS, where none may.
+"""Cause on CephFS the four failures in which default GlusterFS broke the promise.
 
-Each function below is one way, or one form of it. What another machine shows is compared with what was acknowledged, to
-the byte.
+After a failure the source on another machine is compared with all acknowledged commands, to the byte.
 """
 import signal
 import time
-import traceback
 
 from operations.tests.replicas.acknowledged import RUNS, Program, opened
-from operations.tests.replicas.machines import SECONDS, Ended, Stuck, until
+from operations.tests.replicas.machines import SECONDS, Ended, until
 from operations.tests.replicas.relay import Feeding
 from tests.program import Differs, compare
 
@@ -16,7 +14,7 @@ HANDOVERS, LATE, TIMES = 20, 12, 3
 
 
 def copies_of(relay):
-    """The numbers of the machines whose copies have the file's first object, that of the copy that answers first."""
+    """Return the numbers of the machines whose copies have the file's first object, the primary copy first."""
     file = relay.store.file(relay.at)
     name = f"{int(relay.at.done('stat', '-c', '%i', file)):x}.00000000"
     found = relay.store.asker.query("osd map", pool="data", object=name)
@@ -24,33 +22,33 @@ def copies_of(relay):
 
 
 def up(relay):
-    """How many copies are up, by the monitors."""
+    """Return the number of copies that are up, by the monitors."""
     return len([copy for copy in (relay.store.asker.query("osd dump") or {"osds": []})["osds"] if copy["up"]])
 
 
 def leave(relay):
-    """The source is closed in peace where it is, and its mount is taken away."""
+    """Close the source, and unmount its store."""
     relay.running.close()
     relay.store.unmount(relay.at)
 
 
 def take(relay, to):
-    """The source is opened on another machine, and compared."""
+    """Open the source on another machine, and compare it."""
     relay.mount(to)
     relay.running, relay.at = opened(to, relay.program, relay.store.file(to))[0], to
     relay.source.settle(relay.running)
 
 
 def halted_and_dead(draw, first, others):
-    """The numbers of the copies that a write does not reach, one or both of the others, and of one that dies."""
+    """Draw the numbers of the one or two other copies that a write does not reach, and of the copy that dies."""
     halted = others if draw.random() < 0.5 else [draw.choice(others)]
     living = [number for number in (first, *others) if number not in halted]
     return halted, first if len(halted) == 2 else draw.choice(living)
 
 
 def copies_that_differ(relay):
-    """A write reaches some copies and not all, its machine and one copy die. B opens without that copy; it comes back,
-    another one dies; C opens.
+    """Let a write reach some of the copies, then kill its machine and one copy. B opens without that copy; it returns,
+    another copy dies, and C opens.
     """
     here, (first, *others) = relay.at, copies_of(relay)
     by_number = {machine.number: machine for machine in relay.machines}
@@ -91,7 +89,7 @@ def copies_that_differ(relay):
 
 
 def an_old_copy_that_comes_back(relay):
-    """A loses its power, B takes over. A comes back, B acknowledges at once and loses its power, and A opens again."""
+    """Cut A's power, so that B takes over. A returns, B acknowledges at once and loses its power, and A opens again."""
     here = relay.at
     there = relay.draw.choice([machine for machine in relay.machines if machine is not here])
     late = relay.running
@@ -118,10 +116,8 @@ def an_old_copy_that_comes_back(relay):
 
 
 def an_old_copy_alone(relay):
-    """A copy misses commands, the two others die, and it comes back alone: nothing is read of it, with `min_size` 2 or
-    1.
-
-    Once another one is back all is there.
+    """Kill two copies while the third has missed commands: no machine reads it, with `min_size` 2 or 1. Once another
+    copy is back, all commands are there.
     """
     here, seconds = relay.at, []
     for least in (2, 1):
@@ -135,7 +131,7 @@ def an_old_copy_alone(relay):
             machine.kill("^ceph-osd ")
         relay.store.start_missing(old)
         time.sleep(2)
-        # (nothing of the file's own objects comes within these seconds)
+        # (a read of the file's first object must time out)
         name = f"{relay.inode:x}.00000000"
         output = old.done("timeout", "-s", "KILL", 15, "rados", "--conf", relay.store.conf, "-p", "data", "get", name,
                           "/run/read", check=False)
@@ -152,9 +148,7 @@ def an_old_copy_alone(relay):
 
 
 def two_writers(relay):
-    """A's program is open and at rest. Copies are started anew, the metadata server fails: at no moment does the file
-    open on B, or is taken over.
-    """
+    """Restart copies and fail the metadata server while A is open and at rest: B cannot open the file or take over."""
     here, there = relay.at, next(machine for machine in relay.machines if machine is not relay.at)
     relay.mount(there)
     refusals = 0
@@ -180,7 +174,7 @@ def two_writers(relay):
 
 
 def old_bytes_at_a_handover(relay):
-    """Both mounts stay. A ends in peace and B opens at once, and back, again and again."""
+    """Close A and open B at once, and back, several times; both mounts stay."""
     here, there = relay.at, next(machine for machine in relay.machines if machine is not relay.at)
     relay.mount(there)
     waits = []
@@ -198,20 +192,3 @@ def old_bytes_at_a_handover(relay):
 
 WAYS = [copies_that_differ] * TIMES + [an_old_copy_that_comes_back] * TIMES + [an_old_copy_alone, two_writers,
                                                                                old_bytes_at_a_handover]
-
-
-def run(relay):
-    """Tries each way. Gives what failed."""
-    relay.inode = int(relay.at.done("stat", "-c", "%i", relay.store.file(relay.at)))
-    for way in WAYS:
-        began = time.monotonic()
-        try:
-            relay.feed(4)
-            text = way(relay)
-        except (Differs, Ended, Stuck) as fault:
-            traceback.print_exception(fault)
-            return [f"{way.__name__}: {type(fault).__name__} {fault}"]
-        print(f"way: {way.__name__}: nothing is lost, {time.monotonic() - began:.0f} s: {text}", flush=True)
-    print(f"replicas: {len(WAYS)} trials of four ways, {relay.source.acknowledged} commands acknowledged, 0 lost",
-          flush=True)
-    return []

@@ -1,1 +1,1 @@
-"""Checks of what is installed, of folders that are filled, and of the sizes of disks."""
+"""Tests of installed files, of folders that are filled, and of disk sizes."""

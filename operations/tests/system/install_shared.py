@@ -1,26 +1,31 @@
-"""What the looks at what is installed share (install.py): tools, requests, certificates and comparisons."""
+"""Commands, requests and certificates that the tests of operations/install/ share."""
 import contextlib
 import http.client
+import http.server
 import pathlib
 import subprocess
-import tempfile
+import threading
 import time
+from collections.abc import Iterator, Mapping
+from types import MappingProxyType
+from typing import Any
 
-from tests.program import Differs, compare
+from tests.program import Differs
 from tests.system.edge_runs import connected
 
 SECONDS = 30
+NO_HEADERS: Mapping[str, str] = MappingProxyType({})
 
 
-def told_by(*words, **settings):
-    """What a tool writes, on either end, and its status."""
+def told_by(*words: str | pathlib.Path, **settings: Any) -> tuple[str, int]:
+    """Run a command; return its output with its messages, and its exit status."""
     process = subprocess.run(words, stdout=subprocess.PIPE, stderr=subprocess.STDOUT, text=True, timeout=SECONDS,
                              **settings)
     return process.stdout, process.returncode
 
 
-def wait_for(port, nginx):
-    """Waits until nginx listens."""
+def wait_for(port: int, nginx: subprocess.Popen[bytes]) -> None:
+    """Wait until nginx listens."""
     for _ in range(SECONDS * 100):
         with contextlib.suppress(ConnectionRefusedError), connected(port):
             return
@@ -30,22 +35,18 @@ def wait_for(port, nginx):
     raise Differs(f"nginx does not listen: status {nginx.poll()}")
 
 
-def request(port, method, path, body=None, seconds=SECONDS, **fields):
-    """The status of the answer to one request, and its body."""
+def request(port: int, method: str, path: str, body: Any = None, headers: Mapping[str, str] = NO_HEADERS,
+            seconds: float = SECONDS) -> tuple[int, bytes]:
+    """Send one request; return the status of the response, and its body."""
     connection = http.client.HTTPConnection("127.0.0.1", port, timeout=seconds)
     with contextlib.closing(connection):
-        connection.request(method, path, body, fields)
+        connection.request(method, path, body, headers)
         response = connection.getresponse()
         return response.status, response.read()
 
 
-def compare_answers(what, wanted, found):
-    """Compares values by what they look like in Python."""
-    compare(what, repr(wanted).encode(), repr(found).encode()[:200])
-
-
-def certified(room, name):
-    """The path of a new certificate with its key, which vouches for itself."""
+def certified(room: str | pathlib.Path, name: str) -> str:
+    """Return the path of a new self-signed certificate with its key."""
     words = ["-x509", "-newkey", "rsa:2048", "-nodes", "-days", "2", "-subj", f"/CN={name}", "-addext",
              "subjectAltName=IP:127.0.0.1"]
     key, certificate, both = (f"{room}/{name}.{suffix}" for suffix in ("key", "crt", "pem"))
@@ -55,12 +56,27 @@ def certified(room, name):
     return both
 
 
-def fault_of(check, program):
-    """Why a thing does not hold, or nothing."""
-    with tempfile.TemporaryDirectory() as room:
+@contextlib.contextmanager
+def answering(status: int, body: bytes) -> Iterator[int]:
+    """Run a server with one response for every GET; return its port."""
+    class Answers(http.server.BaseHTTPRequestHandler):
+        def do_GET(self) -> None:
+            self.send_response(status)
+            self.end_headers()
+            self.wfile.write(body)
+
+        def log_message(self, *words: object) -> None:
+            pass
+
+    class Server(http.server.HTTPServer):
+        def handle_error(self, request: object, client_address: object) -> None:
+            """Ignore a client that leaves early."""
+
+    with Server(("127.0.0.1", 0), Answers) as server:
+        thread = threading.Thread(target=server.serve_forever)
+        thread.start()
         try:
-            check(program, room)
-        except (Differs, OSError, ValueError, LookupError, subprocess.SubprocessError,
-                http.client.HTTPException) as fault:
-            return f"{type(fault).__name__} {fault}"
-    return ""
+            yield server.server_port
+        finally:
+            server.shutdown()
+            thread.join()

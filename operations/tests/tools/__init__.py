@@ -1,6 +1,4 @@
-"""The command `ropepeach`, run as its users run it, against the proved program and against sources that lie
-(tests/README.md).
-"""
+"""Tests of the command `ropepeach`, run as users do, with the proved program and lying sources (tests/README.md)."""
 from operations.tests import PYTHON
 from tests.program import TOOLS
 

@@ -1,36 +1,30 @@
-"""Values that the checks of texts of any source stand on: addresses, moments, refusals."""
+"""Make values for tests of texts of other software: addresses, moments, refusals."""
 from __future__ import annotations
 
-from collections.abc import Callable
+import re
+from contextlib import AbstractContextManager
+
+import pytest
 
 from ropepeach.faults import Fault
-from ropepeach.mirror_address import Address, address_in
-from ropepeach.moments import Moment, moment_in
-from tests.program import Differs
+from ropepeach.resync.addresses import Address, address_in
+from ropepeach.resync.moments import Moment, moment_in
 
 
 def at(text: str) -> Address:
-    """An address that is one."""
+    """Return an address."""
     address = address_in(text)
-    if address is None:
-        raise Differs(f"{text}: is no address")
+    assert address is not None, text
     return address
 
 
 def moment(text: str) -> Moment:
-    """A moment that is one."""
+    """Return a moment."""
     found = moment_in(text)
-    if found is None:
-        raise Differs(f"{text}: is no moment")
+    assert found is not None, text
     return found
 
 
-def refused(look: Callable[[], object], words: str, kind: type[Fault] = Fault) -> None:
-    """Looks whether something ends by a fault that says this."""
-    try:
-        found = look()
-    except kind as fault:
-        if words not in str(fault):
-            raise Differs(f"{fault}: {words!r} is not in it") from None
-        return
-    raise Differs(f"{words!r}: it is taken: {found!r}"[:300])
+def refused(says: str, kind: type[Fault] = Fault) -> AbstractContextManager[pytest.ExceptionInfo[Fault]]:
+    """Check that a block raises a fault with this message."""
+    return pytest.raises(kind, match=re.escape(says))

@@ -1,6 +1,4 @@
-"""A file system that has several names as one: the names that a command gives to the system are changed by a C library
-before it.
-"""
+"""Simulate a file system on which several names are equal: a C library changes the names in system calls."""
 from __future__ import annotations
 
 import pathlib
@@ -8,8 +6,7 @@ import pathlib
 from operations.tests.mirror.mirrors import DIRECT
 from tests.program import interposed
 
-# `fold` has upper case as lower case, `keep` too, but lists a name as it was made; `dots` drops dots at the end;
-# `refuse` takes no colon.
+# `fold` and `keep` ignore case; `keep` lists names as they were made; `dots` drops trailing dots; `refuse` refuses `:`.
 TEXT = r"""
 #define _GNU_SOURCE
 #include <ctype.h>
@@ -89,6 +86,6 @@ int mkdir(const char *path, mode_t mode) { return mkdirat(AT_FDCWD, path, mode);
 
 
 def folding(room: pathlib.Path, how: str) -> dict[str, str]:
-    """The environment of a command whose folder `m` lies on such a file system."""
+    """Return the environment of a command for which the folder `m` is on this file system."""
     library: dict[str, str] = interposed(room, "folded", TEXT)
     return library | DIRECT | {"FOLDED": f"{room}/m", "HOW": how}

@@ -1,4 +1,4 @@
-"""Values from a generator (hypothesis), given to a function: the same ones in each run."""
+"""Call a function with generated values (hypothesis), the same in every run."""
 from __future__ import annotations
 
 from collections.abc import Callable, Mapping
@@ -15,7 +15,7 @@ EXAMPLES = 60
 
 
 def tried(strategies: Mapping[str, Any], look: Callable[..., None], examples: int = EXAMPLES) -> None:
-    """Gives a function what strategies make."""
+    """Call a function with values of strategies."""
     how = settings(max_examples=examples, derandomize=True, deadline=None, database=None,
                    suppress_health_check=list(HealthCheck),
                    phases=[Phase.generate], print_blob=False)

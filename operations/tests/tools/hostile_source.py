@@ -1,4 +1,4 @@
-"""A source that lies: a server in Python that answers each path with what a row wants, and counts what it sent."""
+"""Serve a source that lies: a test writes its responses by path, and it counts the sent bytes."""
 from __future__ import annotations
 
 import contextlib
@@ -18,13 +18,13 @@ MOMENT = "2000-02-29T00:00:00.001Z"
 
 
 def listed(capability: str, entries: Iterable[str], root: str = "urlset", attributes: str = "") -> bytes:
-    """A document of these entries."""
+    """Return a document of these entries."""
     return f'{HEAD.format(root)}<rs:md capability="{capability}"{attributes}/>\n{"".join(entries)}</{root}>\n'.encode()
 
 
 def entry(loc: str, body: bytes = b"body", length: int | str | None = None, hashes: str | None = None,
           moment: str = MOMENT) -> str:
-    """An entry of a Resource List, or of a Change List for a change at a moment."""
+    """Return an entry of a Resource List, or of a Change List for a change at a moment."""
     hashes = (f"md5:{hashlib.md5(body).hexdigest()} sha-256:{hashlib.sha256(body).hexdigest()}"
               if hashes is None else hashes)
     length = len(body) if length is None else length
@@ -33,17 +33,17 @@ def entry(loc: str, body: bytes = b"body", length: int | str | None = None, hash
 
 
 def gone(loc: str, moment: str) -> str:
-    """An entry of a Change List for a deletion."""
+    """Return an entry of a Change List for a deletion."""
     return f'<url><loc>{loc}</loc><rs:md change="deleted" datetime="{moment}"/></url>\n'
 
 
 def pointed(loc: str, capability: str) -> str:
-    """An entry that leads to a document of a capability."""
+    """Return an entry that links to a document of a capability."""
     return f'<url><loc>{loc}</loc><rs:md capability="{capability}"/></url>\n'
 
 
 def answered(body: bytes, status: str = "200 OK", fields: str = "", length: int | str | None = None) -> bytes:
-    """The bytes of a response."""
+    """Return the bytes of a response."""
     length_field = f"Content-Length: {len(body) if length is None else length}\r\n" if length != "" else ""
     head = (f"HTTP/1.1 {status}\r\nContent-Type: application/xml\r\n{length_field}Connection: close\r\n"
             f"{fields}\r\n")
@@ -51,9 +51,7 @@ def answered(body: bytes, status: str = "200 OK", fields: str = "", length: int 
 
 
 class Liar:
-    """A source that is well, but for the paths in `answers`: bytes of a response, or a function that gets the
-    connection.
-    """
+    """A Ropepeach with responses in `answers` by path: bytes, or a function that returns chunks of bytes."""
 
     def __init__(self) -> None:
         self.listener = socket.create_server(("127.0.0.1", 0))
@@ -71,32 +69,32 @@ class Liar:
         self.resources([entry(f"{base}/resource/a")], attributes=at)
 
     def documents(self, texts: Mapping[str, bytes]) -> None:
-        """Serves texts at these paths."""
+        """Serve texts at these paths."""
         self.answers |= {path: answered(text) for path, text in texts.items()}
 
     def resources(self, entries: Iterable[str], root: str = "urlset", attributes: str = f' at="{MOMENT}"') -> None:
-        """Gives the Resource List these entries."""
+        """Serve a Resource List of these entries."""
         self.documents({"/resourcelist.xml": listed("resourcelist", entries, root, attributes)})
 
     def serve(self) -> None:
-        """Serves until the listener is closed, each connection by a thread of its own."""
+        """Serve until the listener is closed, every connection in its own thread."""
         with contextlib.suppress(OSError):
             while True:
                 threading.Thread(target=self.serve_one, args=self.listener.accept()[:1], daemon=True).start()
 
     def serve_one(self, connection: socket.socket) -> None:
-        """Answers one request. Where a row has no answer the connection ends, and so the run under test fails."""
+        """Answer one request. A fault in `answers` ends the connection, which fails the run under test."""
         with connection, contextlib.suppress(OSError, ValueError, Differs, StopIteration):
             connection.settimeout(30)
             self.answer(connection)
 
     def answer(self, connection: socket.socket) -> None:
-        """Answers one request, and waits until the client has closed its end."""
+        """Answer one request, and wait until the client has closed its end."""
         head = b""
         while b"\r\n\r\n" not in head and (piece := connection.recv(65_536)):
             head += piece
         words = head.split(b" ", 2)
-        # (a client that leaves early has asked for nothing)
+        # (a client that disconnects early sent no request)
         if len(words) < 3 or b"\r\n\r\n" not in head:
             return
         path = words[1].decode(errors="replace")
@@ -111,7 +109,7 @@ class Liar:
 
 
 def in_parts(liar: Liar, entries: Sequence[str], limit: int = 5_000) -> None:
-    """Gives the Resource List of a source these entries, in parts of this many."""
+    """Serve a Resource List of these entries, in parts of this size."""
     parts = [entries[at : at + limit] for at in range(0, len(entries), limit)]
     names = [f"/resourcelist/1/{number}.xml" for number in range(len(parts))]
     liar.resources([f'<sitemap><loc>{liar.base}{name}</loc><rs:md at="{MOMENT}"/></sitemap>\n' for name in names],
@@ -122,7 +120,7 @@ def in_parts(liar: Liar, entries: Sequence[str], limit: int = 5_000) -> None:
 
 def changed(liar: Liar, *parts: list[str], start: str = MOMENT,
             bounds: Sequence[tuple[str | None, str | None]] | None = None) -> None:
-    """Gives the Change List of a source these entries; where bounds are given, as parts that say them."""
+    """Serve a Change List of these entries; with bounds, in parts with these bounds."""
     names = [f"/changelist/{number}.xml" for number in range(len(bounds or []))]
     ends = [f' until="{last}"' if last is not None else "" for _, last in bounds or []]
     pointers = []
@@ -136,7 +134,7 @@ def changed(liar: Liar, *parts: list[str], start: str = MOMENT,
 
 
 def collected(liar: Liar, sources: Iterable[str] | Mapping[str, Mapping[str, bytes]]) -> None:
-    """Lets an address be that of a collection, whose sources hold these files each."""
+    """Serve a collection of sources with these files, or with `a` if only their names are given."""
     texts: dict[str, bytes] = {}
     for name in sources:
         base, files = f"{liar.base}/{name}", sources[name] if isinstance(sources, dict) else {"a": b"body"}
@@ -159,7 +157,7 @@ def collected(liar: Liar, sources: Iterable[str] | Mapping[str, Mapping[str, byt
 
 @contextlib.contextmanager
 def lying() -> Iterator[Liar]:
-    """A liar that serves."""
+    """Serve a source; stop it with the block."""
     liar = Liar()
     thread = threading.Thread(target=liar.serve, daemon=True)
     thread.start()
@@ -171,7 +169,7 @@ def lying() -> Iterator[Liar]:
 
 
 def dripping(head: bytes, piece: bytes, seconds: float = 0.05) -> Response:
-    """Pieces that come slowly, for longer than anybody waits here."""
+    """Return a response whose chunks arrive slowly, for longer than any client waits."""
 
     def pieces() -> Iterator[bytes]:
         yield head
@@ -183,7 +181,7 @@ def dripping(head: bytes, piece: bytes, seconds: float = 0.05) -> Response:
 
 
 def flooding(head: bytes, piece: bytes = bytes(65_536)) -> Response:
-    """Pieces that come for ever, at once."""
+    """Return an endless response."""
 
     def pieces() -> Iterator[bytes]:
         yield head

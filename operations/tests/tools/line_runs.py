@@ -1,5 +1,4 @@
-"""What operations.tests.tools.line runs the command on, and how: here, on a terminal, for each command, for completion.
-"""
+"""Run the command in the test's process, on a terminal, for all subcommands, and for completion."""
 from __future__ import annotations
 
 import contextlib
@@ -8,17 +7,14 @@ import json
 import os
 import pty
 import subprocess
-import sys
 from collections.abc import Iterator, Sequence
 from pathlib import Path
 from typing import Any
-from unittest import mock
 
 import ropepeach
-from operations.tests.tools import rows
-from operations.tests.tools.rows import wanted
+from operations.tests.tools import COMMAND
 from operations.tests.tools.running import SECONDS, Server, written
-from ropepeach import command, output
+from ropepeach.cli import command, output
 from tests.program import ROOT
 
 Ran = subprocess.CompletedProcess[str]
@@ -28,7 +24,7 @@ MESSAGE = {"level", "text"}
 
 
 def here(*words: str) -> Ran:
-    """A run of the command within this process."""
+    """Run the command in this process; return its exit status, output and messages."""
     texts = io.StringIO(), io.StringIO()
     with contextlib.redirect_stdout(texts[0]), contextlib.redirect_stderr(texts[1]):
         try:
@@ -39,17 +35,8 @@ def here(*words: str) -> Ran:
 
 
 @contextlib.contextmanager
-def with_another_rule(check: str, where: object, name: str, value: object) -> Iterator[None]:
-    """The command with another rule; the rows of this check run it within this process."""
-    with mock.patch.object(where, name, value), mock.patch.object(sys.modules[check], "run_command", here):
-        yield
-
-
-@contextlib.contextmanager
-def surroundings(room: Path, program: Path) -> Iterator[dict[str, Sequence[str]]]:
-    """What each command can be run on: its words, by its name. The commands do well, but for `takeover`
-    and those of a source of this machine that isn't there.
-    """
+def surroundings(room: Path, program: str) -> Iterator[dict[str, Sequence[str]]]:
+    """Yield the arguments of every subcommand, by its name. `takeover` and commands of a missing source fail."""
     folder = written(room / "folder", {"a": b"1", "b/c": b"22"})
     with contextlib.chdir(room), Server(program, room / "a.disk") as server:
         lines = [f'address = "{server.url}"', "[source.s1]", f'address = "{server.url}"', f'base = "{server.url}"',
@@ -70,14 +57,14 @@ def surroundings(room: Path, program: Path) -> Iterator[dict[str, Sequence[str]]
 
 
 def status_and(done: Ran, status: int) -> Ran:
-    """A run that has to end with a status."""
-    wanted(done.returncode == status, f"status {done.returncode}, and not {status}: {done}")
+    """Check the exit status of a run; return the run."""
+    assert done.returncode == status, f"status {done.returncode}, and not {status}: {done}"
     return done
 
 
 @contextlib.contextmanager
-def collection_of_two(program: Path, room: Path) -> Iterator[list[Server]]:
-    """Two sources, and the file collection.toml of them in this folder."""
+def collection_of_two(program: str, room: Path) -> Iterator[list[Server]]:
+    """Serve two sources, and write the file collection.toml of them in this folder."""
     base = "https://a.example"
     with (Server(program, room / "0.disk", base=f"{base}/s0") as first,
           Server(program, room / "1.disk", base=f"{base}/s1") as other):
@@ -90,23 +77,22 @@ def collection_of_two(program: Path, room: Path) -> Iterator[list[Server]]:
 
 
 def object_of(name: str, done: Ran) -> dict[str, Any]:
-    """The object that a run printed, which has to have its form."""
+    """Return the JSON object that a run printed; check its form."""
     found: dict[str, Any] = json.loads(done.stdout)
-    wanted(set(found) == FIELDS, f"{name}: fields {sorted(found)}")
-    wanted((found["command"], found["version"], found["status"]) == (name, ropepeach.__version__,
-                                                                     done.returncode), f"{name}: {found}")
-    wanted(all(isinstance(result, dict) and result for result in found["results"]),
-           f"{name}: results {found['results']}")
+    assert set(found) == FIELDS, f"{name}: fields {sorted(found)}"
+    assert (found["command"], found["version"], found["status"]) == (name, ropepeach.__version__,
+                                                                     done.returncode), f"{name}: {found}"
+    assert all(isinstance(result, dict) and result for result in found["results"]), name
     for message in found["messages"]:
-        wanted(MESSAGE <= set(message) <= MESSAGE | {"source"}, f"{name}: {message}")
-        wanted(message["level"] in {level.value for level in output.Level}, f"{name}: {message}")
+        assert MESSAGE <= set(message) <= MESSAGE | {"source"}, f"{name}: {message}"
+        assert message["level"] in {level.value for level in output.MessageLevel}, f"{name}: {message}"
     return found
 
 
 def on_a_terminal(words: Sequence[str], settings: dict[str, str]) -> str:
-    """What a run writes on a terminal."""
+    """Run the command on a terminal; return its output."""
     ours, its = pty.openpty()
-    line = [*rows.words_of_command(), *words]
+    line = [*COMMAND, *words]
     with subprocess.Popen(line, stdin=its, stdout=its, stderr=its, env=os.environ | settings):
         os.close(its)
         output = b""
@@ -118,7 +104,7 @@ def on_a_terminal(words: Sequence[str], settings: dict[str, str]) -> str:
 
 
 def completed(shell: str, text: str) -> list[str]:
-    """What bash offers for the last word of a line."""
+    """Return bash's completions of the last word of a line."""
     script = ("source operations/install/ropepeach.bash; COMP_WORDS=({0}); [[ '{0}' == *' ' ]] && COMP_WORDS+=('');"
               " COMP_CWORD=$((${{#COMP_WORDS[@]}} - 1)); _ropepeach;"
               " printf '%s\\n' \"${{COMPREPLY[@]}}\"").format(text)

@@ -1,6 +1,4 @@
-"""A server of the documents of a source that is a few values of Python, which can also answer as a source does that is
-not well.
-"""
+"""Serve the responses of a function by path: the documents of a state of a source, or faults."""
 from __future__ import annotations
 
 import contextlib
@@ -15,7 +13,7 @@ Answering = Callable[[str], tuple[int, str, bytes]]
 
 
 class Server(http.server.ThreadingHTTPServer):
-    """Serves what `answer` gives for a path: a status, a type and a body. `requests` has the paths."""
+    """Serve the results of `answer` by path: a status, a type and a body. `requests` records the paths."""
 
     daemon_threads = True
 
@@ -26,16 +24,16 @@ class Server(http.server.ThreadingHTTPServer):
         self.url = f"http://127.0.0.1:{self.server_address[1]}"
 
     def handle_error(self, request: object, client_address: object) -> None:
-        """Says nothing of a client that leaves early."""
+        """Ignore a client that disconnects early."""
 
 
 class Handler(http.server.BaseHTTPRequestHandler):
-    """Answers GET."""
+    """Answer GET."""
 
     server: Server
 
     def do_GET(self) -> None:
-        """Answers with what the server has for the path."""
+        """Send the server's response for the path."""
         self.server.requests.append(self.path)
         status, kind, body = self.server.answer(self.path)
         self.send_response(status)
@@ -46,12 +44,12 @@ class Handler(http.server.BaseHTTPRequestHandler):
             self.wfile.write(body)
 
     def log_message(self, *_: object) -> None:
-        """Logs nothing."""
+        """Log nothing."""
 
 
 @contextlib.contextmanager
 def serving(answer: Answering) -> Iterator[Server]:
-    """A server, which ends with the block."""
+    """Serve; stop with the block."""
     with Server(answer) as server:
         thread = threading.Thread(target=server.serve_forever, daemon=True)
         thread.start()
@@ -63,19 +61,19 @@ def serving(answer: Answering) -> Iterator[Server]:
 
 
 def documents_of(state: crash_model.State) -> Answering:
-    """What answers with the documents of a state."""
+    """Return responses with the documents of a state."""
     texts = {path: text.encode() for path, text in crash_model.documents(state).items()}
     return lambda path: (
         200, "application/xml", texts[path]) if path in texts else (404, "text/plain", b"NoSuchDocument\n")
 
 
 def always(status: int, body: bytes, kind: str = "text/plain") -> Answering:
-    """What answers so to everything."""
+    """Return one response for every path."""
     return lambda path: (status, kind, body)
 
 
 def slow(seconds: float) -> Answering:
-    """What answers late."""
+    """Return delayed responses."""
 
     def answer(path: str) -> tuple[int, str, bytes]:
         time.sleep(seconds)
@@ -85,7 +83,7 @@ def slow(seconds: float) -> Answering:
 
 
 def after(state: crash_model.State, lines: Sequence[tuple[int, str]]) -> crash_model.State:
-    """A state after lines, of which each has its moment before it."""
+    """Return a state after these lines, given with their moments."""
     for moment, line in lines:
         state = state.after(line, moment)[1]
     return state

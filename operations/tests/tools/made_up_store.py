@@ -1,4 +1,4 @@
-"""A store that is made up: the commands `ceph` and `findmnt`, which answer what a row wants (takeover.py)."""
+"""Simulate a store: commands `ceph` and `findmnt` that print a test's answers (test_takeover.py)."""
 from __future__ import annotations
 
 import contextlib
@@ -13,7 +13,7 @@ from typing import Any
 from tests.disks import disks
 
 OTHER, HERE = "10.78.0.1", "10.78.0.2"
-# A command that answers with the file of its words, and does not end well where there is none.
+# A command that prints the file named by its arguments, and fails without one.
 ANSWERS = """#!/bin/sh
 while [ $# -gt 0 ]; do case $1 in --connect-timeout|--format) shift 2;; *) break;; esac; done
 echo "$*" >> "${0%/*}/asked"
@@ -23,23 +23,23 @@ exec cat "${0%/*}/answers/${0##*/}-$*"
 
 
 def until(**more: float) -> str:
-    """A moment from now on, as the store writes it."""
+    """Return a moment that is this far ahead, in the form of the store."""
     return (
         datetime.datetime.now(datetime.timezone.utc) + datetime.timedelta(**more)).strftime("%Y-%m-%dT%H:%M:%S.%f+0000")
 
 
 def session(address: str, number: int) -> dict[str, Any]:
-    """A session of a client with an address, as the store writes it."""
+    """Return a session of a client with an address, in the form of the store."""
     return {"id": number, "state": "open", "entity": {"addr": {"type": "v1", "addr": f"{address}:0", "nonce": 7}}}
 
 
 def group(number: str, state: str = "active+clean") -> dict[str, Any]:
-    """A group of copies, as the store writes it."""
+    """Return a group of copies, in the form of the store."""
     return {"pgid": number, "state": state, "up": [0, 1, 2], "acting": [0, 1, 2]}
 
 
 class MadeUp:
-    """What a store answers, which a row changes: at first all is done, and OTHER was lost."""
+    """The answers of a store, which a test changes. At first every step is done, and OTHER was lost."""
 
     def __init__(self, room: Path) -> None:
         self.room, self.bin = Path(room), Path(room, "bin")
@@ -49,7 +49,7 @@ class MadeUp:
         self.socket.touch()
         self.file = self.room / "a.disk"
         disks.disk(room, "empty", "a.disk")
-        # (a mount that was killed has left its socket, and a copy's process has one)
+        # (the socket of a killed mount, and the socket of a copy's process)
         for name in ("ceph-client.admin.3.4.asok", "ceph-osd.1.5.6.asok"):
             (self.room / "run" / name).touch()
         pool = {"type": 1, "size": 3, "min_size": 2}
@@ -77,7 +77,7 @@ class MadeUp:
         }
 
     def places(self) -> dict[str, str]:
-        """The file in which the made-up command finds each answer."""
+        """Return the file of every answer by its name."""
         target = f"--json --target {self.room.resolve()}/a.disk --output TARGET,FSTYPE,OPTIONS"
         return {"mount": f"findmnt-{target}", "daemon": f"ceph-daemon {self.socket} status",
                 "config": f"ceph-daemon {self.socket} config show",
@@ -85,7 +85,7 @@ class MadeUp:
                 "dump": "ceph-osd dump", "groups": "ceph-pg dump pgs_brief"}
 
     def write(self) -> None:
-        """Writes the commands, and the file of each answer."""
+        """Write the commands, and a file per answer."""
         shutil.rmtree(self.bin)
         self.bin.mkdir()
         for name in ("ceph", "findmnt"):
@@ -98,12 +98,12 @@ class MadeUp:
                 path.write_text(json.dumps(self.answers[name]))
 
     def fence(self, fences: Mapping[str, str]) -> None:
-        """The store's list of fences."""
+        """Set the store's list of fences."""
         self.answers["dump"]["blocklist"] = fences
 
     @contextlib.contextmanager
     def changed(self, name: str, change: Callable[[Any], Any]) -> Iterator[None]:
-        """The store with one answer changed in place, or by another one."""
+        """Change one answer in place, or replace it; restore it at the end."""
         before = copy.deepcopy(self.answers)
         self.answers[name] = change(self.answers[name]) or self.answers[name]
         yield

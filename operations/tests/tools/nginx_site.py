@@ -1,4 +1,4 @@
-"""Files that nginx serves, and mirrors of them: what the checks of sources behind nginx share."""
+"""Serve files by nginx, and mirror them."""
 from __future__ import annotations
 
 import contextlib
@@ -13,7 +13,7 @@ import time
 from collections.abc import Iterator
 
 from operations.tests.tools import running
-from operations.tests.tools.running import ropepeach, same
+from operations.tests.tools.running import ropepeach
 from tests.served_source import free_port
 
 SETTINGS = """daemon off; worker_processes 1; {user} pid {room}/nginx.pid; error_log {room}/errors;
@@ -30,14 +30,14 @@ http {{
 
 @dataclasses.dataclass
 class Site:
-    """Files that nginx serves."""
+    """A folder that nginx serves."""
 
     room: pathlib.Path
     base: str
     process: subprocess.Popen[bytes]
 
     def hold(self, texts: dict[str, bytes]) -> None:
-        """Serves these files by path, and no others."""
+        """Serve these files by path."""
         for path, body in texts.items():
             place = self.room / "site" / re.sub("%([0-9A-F]{2})", lambda escape: chr(int(escape[1], 16)), path[1:])
             place.parent.mkdir(parents=True, exist_ok=True)
@@ -45,12 +45,12 @@ class Site:
                 place.write_bytes(body)
 
     def remove(self, path: str) -> None:
-        """Serves a file no more."""
+        """Stop serving a file."""
         (self.room / "site" / path[1:]).unlink()
 
     def statuses(self, front: str) -> dict[str, int]:
-        """The last status of each path that was asked for since this was called before."""
-        # (nginx writes each line once the answer is sent; a run ends behind that by little)
+        """Return the last status of every path requested since the last call."""
+        # (nginx writes a line after the response, possibly after the end of the run)
         time.sleep(0.2)
         log = self.room / "log"
         found = dict(re.findall(r'"GET (\S+) [^"]*" (\d+)', log.read_text()))
@@ -60,10 +60,10 @@ class Site:
 
 @contextlib.contextmanager
 def site(room: pathlib.Path) -> Iterator[Site]:
-    """A site, which ends with the block."""
+    """Run nginx; stop it with the block."""
     port, settings = free_port(), room / "nginx.conf"
     (room / "site").mkdir(parents=True)
-    # (a master that is root gives its workers another user, who cannot read here)
+    # (if the master runs as root, its workers run as a user that cannot read here)
     user = f"user {pwd.getpwuid(os.getuid()).pw_name};" if os.getuid() == 0 else ""
     settings.write_text(SETTINGS.format(room=room, port=port, user=user))
     with subprocess.Popen(["nginx", "-p", room, "-e", room / "errors", "-c", settings]) as process:
@@ -77,20 +77,20 @@ def site(room: pathlib.Path) -> Iterator[Site]:
 
 
 def answers(base: str) -> bool:
-    """Whether nginx answers."""
+    """Return whether nginx answers."""
     return subprocess.run([sys.executable, "-c", "import socket, sys; socket.create_connection(('127.0.0.1', "
                                                  "int(sys.argv[1])))", base.rpartition(":")[2]],
                           capture_output=True, check=False).returncode == 0
 
 
-def files_of(folder: str) -> dict[str, bytes]:
-    """The files of a mirror below its host, but for its own."""
+def files_of(folder: str = "m") -> dict[str, bytes]:
+    """Return the files of a mirror below the folder of its host, without the mirror's own."""
     return {"/".join(path.relative_to(folder).parts[1:]): path.read_bytes() for path in pathlib.Path(folder).rglob("*")
             if path.is_file() and not path.name.startswith("#")}
 
 
-def mirrored(what: str, base: str, folder: str, *words: str) -> str:
-    """A run that ends well; gives its line."""
-    status, output, complaints = ropepeach("mirror", "--any-source", base, folder, *words)
-    same(f"{what}: {complaints}", 0, status)
-    return str(output)
+def mirrored(base: str, *words: str, into: str = "m") -> str:
+    """Run the mirror, check that it succeeds, and return its output."""
+    status, output, messages = ropepeach("mirror", base, into, *words)
+    assert status == 0, messages
+    return output

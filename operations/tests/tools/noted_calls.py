@@ -1,8 +1,8 @@
-"""The calls by which `ropepeach mirror` changes a folder, as the system gets them, in their order.
+"""Record the system calls by which `ropepeach mirror` changes a folder, in order.
 
-The command runs with a C library (`cc` builds it) that notes each call on what lies below FOLDER. It takes no more than
-AT_ONCE bytes in one write, lets a sync of all last SLOW microseconds longer, and lets the call FAILS fail, counted from
-1 in the list, by the error ERROR.
+The command runs with a C library (built by `cc`) that records every call on a path below FOLDER. It writes at most
+AT_ONCE bytes per call, makes a sync of the file system last SLOW microseconds longer, and fails call FAILS, counted
+from 1, with the error ERROR.
 """
 from __future__ import annotations
 
@@ -111,7 +111,7 @@ int unlink(const char *path) { return unlinkat(AT_FDCWD, path, 0); }
 
 
 class Call(NamedTuple):
-    """A call: its name, whether it was let fail, the path and the other one, below the folder, which itself is ``."""
+    """A call: its name, whether it failed, its path and its second path, relative to the folder."""
 
     name: str
     failed: bool
@@ -119,25 +119,23 @@ class Call(NamedTuple):
     to: str
 
 
-# Runs `mirror` with batches of 3 files.
+# A script that runs `mirror` with batches of 3 files.
 RUN = """import sys
 sys.path.insert(0, sys.argv.pop(1))
-from ropepeach import command, mirror_folder
+from ropepeach.cli import command
+from ropepeach.mirror import folder as mirror_folder
 mirror_folder.BATCH = 3
 sys.exit(command.main(sys.argv[1:]))
 """
 
 
-def noted(room: pathlib.Path, words: Sequence[str], tools: str | pathlib.Path = TOOLS,
-          **settings: object) -> tuple[int, str, list[Call]]:
-    """A run of `mirror` on the folder `m`, of the package in this folder: its exit status, its complaints, and its
-    calls.
-    """
+def noted(room: pathlib.Path, words: Sequence[str], **settings: object) -> tuple[int, str, list[Call]]:
+    """Run `mirror` on the folder `m`; return its exit status, its messages and its calls."""
     log, folder = room / "calls", str(room / "m")
     log.unlink(missing_ok=True)
     environment = interposed(room, "noted", SHIM) | DIRECT | {"CALLS": str(log), "FOLDER": folder}
     environment |= {name: str(value) for name, value in settings.items()}
-    process = subprocess.run([PYTHON, "-c", RUN, tools, "mirror", *words, folder], env=environment, capture_output=True,
+    process = subprocess.run([PYTHON, "-c", RUN, TOOLS, "mirror", *words, folder], env=environment, capture_output=True,
                              text=True, timeout=SECONDS)
     lines = [line.split("\t") for line in log.read_text().splitlines()] if log.exists() else []
     below = lambda path: os.path.relpath(path, folder) if path else ""

@@ -1,7 +1,7 @@
-"""A machine that is made up: /etc, /var/lib and /var/cache of its own, in a mount namespace, and a systemd that starts
-the source alone.
+"""Simulate a machine: its own /etc, /var/lib and /var/cache in a mount namespace, and a systemd that only starts
+sources.
 
-nginx, runuser and the program are real. Before each program of a step stands a small one, which can kill the command.
+nginx, runuser and the program are real. Small programs wrap the programs of the steps, and can kill the command.
 """
 from __future__ import annotations
 
@@ -17,20 +17,21 @@ from collections.abc import Iterator
 from dataclasses import dataclass
 from pathlib import Path
 
-from operations.tests.tools import rows
-from operations.tests.tools.rows import wanted
+import pytest
+
+from operations.tests.tools import COMMAND
 
 USER, NUMBER = "ropepeach", 987
-# No run of the command takes longer than this many seconds.
+# The timeout of a run of the command in seconds.
 SECONDS = 60
-# What the machine has of this one's /etc.
+# Files of this machine's /etc that the simulated machine has.
 COPIED = ("passwd", "group", "shadow", "nsswitch.conf", "login.defs", "pam.d", "security", "ld.so.cache", "localtime",
           "mime.types", "nginx")
 MOUNTED = {"etc": "/etc", "lib": "/var/lib", "cache": "/var/cache", "bin": "/usr/local/bin"}
-# What a step runs, and where the real one is.
+# Programs of the steps, and the paths of the real ones.
 STEPPED = {"runuser": "/usr/sbin/runuser", "nginx": "/usr/sbin/nginx", "ln": "/bin/ln",
            "systemctl": "/usr/local/bin/made-up-systemctl"}
-# Counts the programs of steps; the one of this number ends with its parent, before it begins or when it is done.
+# A wrapper that counts the programs of steps. The program of one number kills its parent, before it begins or after it.
 STEP = """#!/bin/sh
 count=$(($(cat /var/cache/count) + 1))
 echo $count > /var/cache/count
@@ -79,12 +80,12 @@ ENTER = "".join(f'/bin/mount --bind "$0/{name}" {path} && ' for name, path in MO
 
 @dataclass(frozen=True)
 class Machine:
-    """A made-up machine in a folder."""
+    """A simulated machine in a folder."""
 
     room: Path
 
     def run(self, *words: str, **more: str) -> subprocess.CompletedProcess[str]:
-        """Runs a program there."""
+        """Run a program in it."""
         (self.room / "cache/count").write_text("0\n")
         environment = {"PATH": "/usr/local/bin:/usr/sbin:/usr/bin:/sbin:/bin", "HOME": "/root", "LANG": "C.UTF-8",
                        **more}
@@ -93,20 +94,20 @@ class Machine:
                               capture_output=True, text=True, timeout=SECONDS, stdin=subprocess.DEVNULL)
 
     def command(self, *words: str, **more: str) -> subprocess.CompletedProcess[str]:
-        """Runs `ropepeach` there."""
-        return self.run(*rows.COMMAND, *words, **more)
+        """Run `ropepeach` in it."""
+        return self.run(*COMMAND, *words, **more)
 
     def count(self) -> int:
-        """How many programs of steps the last run began."""
+        """Return the number of programs of steps that the last run began."""
         return int((self.room / "cache/count").read_text())
 
     def calls(self) -> list[str]:
-        """What was asked of systemd."""
+        """Return the calls of systemctl."""
         path = self.room / "cache/calls"
         return path.read_text().splitlines() if path.exists() else []
 
     def tree(self) -> dict[str, tuple[int, int, bytes | str]]:
-        """All that may be changed, by its path: mode, owner, and bytes or where it leads."""
+        """Return all files that may be changed, by path: mode, owner, and bytes or link target."""
         found: dict[str, tuple[int, int, bytes | str]] = {}
         for folder in ("etc/ropepeach", "etc/nginx", "lib/ropepeach"):
             for path in sorted((self.room / folder).rglob("*")):
@@ -117,17 +118,17 @@ class Machine:
         return found
 
     def pid(self, name: str) -> int:
-        """The process of a source."""
+        """Return the process id of a source."""
         return int((self.room / f"cache/pid-{name}").read_text())
 
     def look(self, file: str) -> dict[str, object]:
-        """What `ropepeach look` says of a file there."""
+        """Return the facts of one of its files by `ropepeach look`."""
         answer: dict[str, object] = json.loads(self.command("look", "--json", file).stdout)["results"][0]
         return answer
 
 
-def build(room: Path, program: Path) -> Machine:
-    """Builds the folders of a machine."""
+def build(room: Path, program: str) -> Machine:
+    """Build the folders of a machine."""
     for name in COPIED:
         if Path("/etc", name).is_dir():
             shutil.copytree(Path("/etc", name), room / "etc" / name, symlinks=True)
@@ -154,8 +155,10 @@ def build(room: Path, program: Path) -> Machine:
 
 
 @contextlib.contextmanager
-def machine(room: Path, program: Path) -> Iterator[Machine]:
-    """A machine, whose sources end with it."""
+def machine(room: Path, program: str) -> Iterator[Machine]:
+    """Yield a machine, and end its sources with the block; skip the test where folders cannot be mounted."""
+    if subprocess.run(["unshare", "--mount", "true"], capture_output=True).returncode:
+        pytest.skip("nobody may mount folders here (unshare)")
     room.mkdir(exist_ok=True)
     made = build(room, program)
     try:
@@ -168,7 +171,7 @@ def machine(room: Path, program: Path) -> Iterator[Machine]:
 
 
 def request(made: Machine, method: str, path: str, body: bytes | None = None) -> tuple[int, bytes]:
-    """What the source answers on its port."""
+    """Send a request to the source; return its status and its body."""
     settings = (made.room / "etc/ropepeach/one.env").read_text()
     port = int(settings.rpartition("PORT=")[2])
     with contextlib.closing(http.client.HTTPConnection("127.0.0.1", port, timeout=30)) as connection:
@@ -178,7 +181,7 @@ def request(made: Machine, method: str, path: str, body: bytes | None = None) ->
 
 
 def is_closed(made: Machine) -> bool:
-    """Whether nobody listens on the port of the source."""
+    """Return whether the port of the source is closed."""
     try:
         request(made, "GET", "/capabilitylist.xml")
     except ConnectionError:
@@ -187,8 +190,8 @@ def is_closed(made: Machine) -> bool:
 
 
 def until(holds: object, seconds: float = 30) -> None:
-    """Waits until something holds."""
+    """Wait until a condition holds."""
     end = time.monotonic() + seconds
     while not holds():  # type: ignore[operator]
-        wanted(time.monotonic() < end, f"not within {seconds} seconds")
+        assert time.monotonic() < end, f"not within {seconds} seconds"
         time.sleep(0.05)

@@ -1,13 +1,13 @@
-"""Trees of files and rules for them, drawn at random."""
+"""Draw random trees of files, and rules for them."""
 from __future__ import annotations
 
 import contextlib
 import random
 from pathlib import Path
 
-from ropepeach.filters import Rule
+from ropepeach.resync.filters import Rule
 
-# What names are made of, and what takes the place of a character of a path in a pattern.
+# Characters of names, and fragments of patterns that replace a character of a path.
 CHARACTERS = "aab.bc[]*?\\-é{x!"
 WILD = ["*", "?", "**", "[a-c]", "[!a]", "[^b/]", "[[:alpha:]]", "[[:punct:]]", "***", "[]a]", "[a-", "[\\]]"]
 PIECES = ["a", "b", "c", ".", "/", "*", "**", "?", "[ab]", "[!b]", "\\", "[[:digit:]", "[:alnum:]", "[-a]", "[a\\-c]",
@@ -15,13 +15,13 @@ PIECES = ["a", "b", "c", ".", "/", "*", "**", "?", "[ab]", "[!b]", "\\", "[[:dig
 
 
 def made(source: Path, draws: random.Random) -> Path:
-    """A new folder of files and folders."""
+    """Make a folder of files and folders, and return it."""
     source.mkdir(parents=True)
     folders = [source]
     for _ in range(draws.randint(3, 25)):
         name = "".join(draws.choice(CHARACTERS) for _ in range(draws.randint(1, 3)))
         path = draws.choice(folders) / name
-        # (a name may be drawn twice, once of a file and once of a folder)
+        # (a name may be drawn twice, once for a file and once for a folder)
         with contextlib.suppress(OSError):
             if draws.random() < 0.4:
                 path.mkdir()
@@ -32,7 +32,7 @@ def made(source: Path, draws: random.Random) -> Path:
 
 
 def pattern_for(paths: list[str], draws: random.Random) -> str:
-    """A pattern: that of a path with some characters changed, or one of pieces."""
+    """Return a pattern: a path with some characters changed, or joined fragments."""
     if paths and draws.random() < 0.6:
         path = draws.choice(paths)
         text = "".join(draws.choice([*WILD, f"\\{character}"]) if draws.random() < 0.25 else character
@@ -45,8 +45,8 @@ def pattern_for(paths: list[str], draws: random.Random) -> str:
 
 
 def rules_for(paths: set[str], draws: random.Random) -> list[Rule]:
-    """Some rules for a tree of these paths."""
+    """Return some rules for a tree of these paths."""
     patterns = [pattern_for(sorted(paths), draws) for _ in range(draws.randint(1, 5))]
-    # (what rsync reads as a rule of another kind is refused, and tried elsewhere)
+    # (the command refuses other kinds of rsync rules, which test_patterns.py tests)
     return [Rule(pattern, draws.random() < 0.4)
             for pattern in patterns if pattern != "!" and pattern[:2] not in ("+ ", "- ")]

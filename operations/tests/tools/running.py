@@ -1,6 +1,4 @@
-"""What the checks of operations/tests/tools share: runs of the command, sources that are served, stopped and killed,
-folders, and a line a row.
-"""
+"""Run the command, serve, stop and kill sources, and write folders, for the tests of the command."""
 from __future__ import annotations
 
 import contextlib
@@ -9,44 +7,45 @@ import pathlib
 import re
 import signal
 import subprocess
-import sys
 import time
-from collections.abc import Callable, Mapping, Sequence
+from collections.abc import Callable, Iterator, Mapping
 from typing import Any
 
 from operations.tests.mirror.mirrors import DIRECT, OWN
 from operations.tests.tools import COMMAND
-from tests.program import PROGRAM, Differs, room_in_memory
+from tests.program import Differs
 from tests.served_source import free_port
-from tests.skipped import SKIPPED, NotTried, not_tried
 
 Path = str | os.PathLike[str]
 Run = subprocess.Popen[str]
-# No step takes longer than this, also on a busy machine.
+# The timeout of a step in seconds, long enough for a busy machine.
 SECONDS = 120
 
 
-def same(what: str, wanted: object, found: object) -> None:
-    """Compares two values."""
-    if wanted != found:
-        raise Differs(f"{what}: wanted {wanted!r}, found {str(found)[:600]!r}")
+@contextlib.contextmanager
+def within(seconds: float, why: str) -> Iterator[None]:
+    """Fail a block that takes longer than some seconds."""
+    def ring(*_: object) -> None:
+        raise Differs(why)
 
-
-def has(what: str, words: str, text: str) -> None:
-    """Looks whether a text has some words."""
-    if words not in text:
-        raise Differs(f"{what}: {words!r} is not in {text[-600:]!r}")
+    before = signal.signal(signal.SIGALRM, ring)
+    signal.setitimer(signal.ITIMER_REAL, seconds)
+    try:
+        yield
+    finally:
+        signal.setitimer(signal.ITIMER_REAL, 0)
+        signal.signal(signal.SIGALRM, before)
 
 
 def begun(*words: object, **settings: Any) -> Run:
-    """A run of the command that has begun."""
+    """Start the command; return its process."""
     how: dict[str, Any] = {"stdout": subprocess.PIPE, "stderr": subprocess.PIPE, "text": True,
                            "env": os.environ | DIRECT} | settings
     return subprocess.Popen([*COMMAND, *map(str, words)], **how)
 
 
 def ended(run: Run) -> tuple[int, str, str]:
-    """How a run ends by itself: its status, what it wrote, and its complaints."""
+    """Wait for the end of a run; return its exit status, output and messages."""
     try:
         output, complaints = run.communicate(timeout=SECONDS)
     except subprocess.TimeoutExpired:
@@ -57,12 +56,12 @@ def ended(run: Run) -> tuple[int, str, str]:
 
 
 def ropepeach(*words: object, **settings: Any) -> tuple[int, str, str]:
-    """A whole run of the command."""
+    """Run the command; return its exit status, output and messages."""
     return ended(begun(*words, **settings))
 
 
 class Server:
-    """A source on a file, at a port that stays, which is stopped and started again."""
+    """A source on a file, at a fixed port, which can be stopped and restarted."""
 
     def __init__(self, program: Path, disk: Path, size: int = 8 << 20, limit: int = 100, base: str | None = None,
                  data: bytes | None = None) -> None:
@@ -83,52 +82,52 @@ class Server:
         self.kill()
 
     def start(self, count: int = 1_000_000) -> None:
-        """Serves so many connections, and waits until it listens."""
+        """Serve this many connections, and wait until it listens."""
         words = [self.program, "serve", self.disk, str(self.port), str(count)]
         self.process = subprocess.Popen(words, stdout=subprocess.PIPE)
         assert self.process.stdout
         with self.process.stdout as output:
-            same("the server's line", b"listening 127.0.0.1:%d\n" % self.port, output.readline())
+            assert output.readline() == b"listening 127.0.0.1:%d\n" % self.port
 
     def kill(self) -> None:
-        """Kills the server, if it runs."""
+        """Kill the server if it runs."""
         if self.process:
             self.process.kill()
             self.process.wait(SECONDS)
 
     def hold(self) -> None:
-        """Stops the server by a signal, until `go_on`."""
+        """Stop the server by SIGSTOP, until `go_on`."""
         assert self.process
         self.process.send_signal(signal.SIGSTOP)
 
     def go_on(self) -> None:
-        """Lets the server go on."""
+        """Continue the server."""
         assert self.process
         self.process.send_signal(signal.SIGCONT)
 
     def answers(self, *lines: str) -> bytes:
-        """What the program answers to a script, once the server is killed."""
+        """Kill the server, and return the program's output for a script."""
         self.kill()
         script = "".join(f"{line}\n" for line in lines).encode()
         return subprocess.run([self.program, "run", self.disk], input=script, capture_output=True,
                               check=True, timeout=SECONDS).stdout
 
     def counts(self) -> tuple[int, ...]:
-        """How many resources it holds, how many changes it keeps, and the number of its publications."""
+        """Return the numbers of resources, kept changes and publications."""
         return tuple(map(int, re.findall(r"(?:resources|changes|publication) (\d+)", self.answers("status").decode())))
 
     def holds(self, folder: Path) -> None:
-        """Looks whether the source holds exactly the files of a folder, whose names stand for themselves."""
+        """Check that the source has exactly the files of a folder. Their names need no encoding."""
         wanted = {str(path.relative_to(folder)): path.read_bytes()
                   for path in sorted(pathlib.Path(folder).rglob("*")) if path.is_file()}
         shown = self.answers("status", *(f"show /resource/{path}" for path in wanted)).partition(b"\n")
-        same("how many are held", b"resources %d" % len(wanted), b" ".join(shown[0].split()[:2]))
+        assert b" ".join(shown[0].split()[:2]) == b"resources %d" % len(wanted)
         if shown[2] != b"".join(b"bytes %d\n%b\n" % (len(body), body) for body in wanted.values()):
             raise Differs("the source holds other bytes than the folder")
 
 
 def written(folder: Path, files: Mapping[str, bytes]) -> pathlib.Path:
-    """Writes files by their names, as they were written some time ago: a young file is waited for."""
+    """Write files by name, with an old time, as fill waits for a young file; return the folder."""
     for name, body in files.items():
         path = pathlib.Path(folder, name)
         path.parent.mkdir(parents=True, exist_ok=True)
@@ -138,40 +137,16 @@ def written(folder: Path, files: Mapping[str, bytes]) -> pathlib.Path:
 
 
 def files_of(folder: Path) -> dict[str, bytes]:
-    """The bytes of all files of a mirror but its own."""
+    """Return the bytes of a mirror's files, without the mirror's own."""
     return {str(path.relative_to(folder)): path.read_bytes()
             for path in pathlib.Path(folder).rglob("*") if path.is_file() and path.name not in OWN}
 
 
 def wait_until(is_so: Callable[[], object], what: str) -> None:
-    """Waits until something is so."""
+    """Wait until a condition is true."""
     end = time.monotonic() + SECONDS
     while not is_so():
         if time.monotonic() > end:
             raise Differs(f"{what}: not within {SECONDS} seconds")
         time.sleep(0.005)
 
-
-def rows(name: str, checks: Sequence[Callable[..., object]]) -> int:
-    """Runs functions, each with the program and a folder, and prints a line for each; gives the exit status."""
-    # (what a shell begins behind its back ignores this signal, and so would the command)
-    signal.signal(signal.SIGINT, signal.default_int_handler)
-    arguments = sys.argv[1:]
-    program = os.path.abspath(arguments.pop(0) if arguments and os.path.isfile(arguments[0]) else str(PROGRAM))
-    checks, failed = [check for check in checks if not arguments or check.__name__ in arguments], 0
-    tried = len(checks)
-    for check in checks:
-        started, why = time.monotonic(), ""
-        with room_in_memory("tools-") as room, contextlib.chdir(room):
-            try:
-                check(program, pathlib.Path(room))
-            except NotTried as missing:
-                tried -= 1
-                not_tried(f"{name}, {check.__name__}", missing)
-                continue
-            except (Differs, OSError, ValueError, LookupError, subprocess.SubprocessError) as fault:
-                why, failed = f": {type(fault).__name__} {fault}", failed + 1
-        print(f"{name}: {'FAILS' if why else 'holds'}, {time.monotonic() - started:.1f} s: {check.__name__}{why}",
-              flush=True)
-    print(f"{name}: {tried - failed} of {len(checks)} rows hold, {len(checks) - tried} are not tried")
-    return 1 if failed or not checks else 0 if tried else SKIPPED

@@ -1,4 +1,4 @@
-"""Shells on a terminal that complete the command `ropepeach`, as a person at the keys has it."""
+"""Complete the command `ropepeach` in shells on a terminal, as a user does."""
 from __future__ import annotations
 
 import contextlib
@@ -13,12 +13,12 @@ from pathlib import Path
 
 from tests.program import ROOT, Differs
 
-# No shell takes longer, in seconds, to begin or to complete.
+# The timeout of a shell's start and of a completion, in seconds.
 SECONDS = 60
 PROMPT = "READY> "
-# Keys: the line is emptied, the last word completed, the line written into a file.
+# Keys that clear the line, complete the last word, and write the line into a file.
 EMPTY, COMPLETE, WRITE = "\x15", "\t", "\x07"
-# How each shell begins. What is asked before a long list is shown would wait for a key.
+# Settings of a shell. A question before a long list would wait for a key.
 SETTINGS = {
     "bash": f"""
 bind 'set completion-query-items 0'
@@ -48,10 +48,10 @@ BEGUN = {"bash": ("bash", "--norc", "--noprofile", "-i"), "zsh": ("zsh", "-f", "
 
 
 class Shell:
-    """A shell that stands at its prompt."""
+    """A shell at its prompt."""
 
     def __init__(self, name: str, room: Path, commands: Path) -> None:
-        """`commands` is a folder with the command `ropepeach`; the room is where files are completed."""
+        """Start a shell; `commands` is a folder with the command `ropepeach`, and files are completed in the room."""
         self.line, settings = room / "line", room / f"settings.{name}"
         settings.write_text(SETTINGS[name])
         self.keys, its = pty.openpty()
@@ -61,16 +61,16 @@ class Shell:
         self.process = subprocess.Popen(BEGUN[name], stdin=its, stdout=its, stderr=its, cwd=room, env=environment,
                                         start_new_session=True)
         os.close(its)
-        self.shown = ""
+        self.shown, self.commands = "", 0
         self.press(f" source {settings}\n")
         self.wait_for(lambda: PROMPT in self.shown, "prompt")
 
     def press(self, keys: str) -> None:
-        """Presses keys."""
+        """Press keys."""
         os.write(self.keys, keys.encode())
 
     def wait_for(self, is_so: Callable[[], bool], what: str) -> None:
-        """Reads what is shown until something is so."""
+        """Read the shell's output until `is_so` is true."""
         end = time.monotonic() + SECONDS
         while not is_so():
             if time.monotonic() > end:
@@ -80,17 +80,24 @@ class Shell:
                     self.shown += os.read(self.keys, 65_536).decode(errors="replace")
 
     def completed(self, text: str) -> tuple[str, str]:
-        """The line after a text and the key that completes it, and what was shown meanwhile."""
+        """Complete a text by a key; return the line, and the output until the next prompt."""
         self.line.unlink(missing_ok=True)
         self.shown = ""
         self.press(f"{EMPTY}{text}{COMPLETE}{WRITE}")
         self.wait_for(self.line.exists, "line")
-        line = self.line.read_text().removesuffix("\n")
-        self.press(EMPTY)
-        return line, self.shown
+        shown = self.shown_before_a_command()
+        return self.line.read_text().removesuffix("\n"), shown
+
+    def shown_before_a_command(self) -> str:
+        """Run a command; return all text before its output, once the next prompt is there."""
+        self.commands += 1
+        self.press(f"{EMPTY} printf 'END%s\\n' {self.commands}\n")
+        end = f"END{self.commands}"
+        self.wait_for(lambda: PROMPT in self.shown.partition(end)[2], "prompt")
+        return self.shown.partition(end)[0]
 
     def close(self) -> None:
-        """Ends the shell."""
+        """End the shell."""
         with contextlib.suppress(OSError):
             os.killpg(self.process.pid, signal.SIGKILL)
         self.process.wait(SECONDS)
@@ -99,7 +106,7 @@ class Shell:
 
 @contextlib.contextmanager
 def shell(name: str, room: Path, commands: Path) -> Iterator[Shell]:
-    """A shell, which ends with the block."""
+    """Yield a shell; end it with the block."""
     found = Shell(name, room, commands)
     try:
         yield found

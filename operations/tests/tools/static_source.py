@@ -1,8 +1,8 @@
-"""Sources of other software, as static files: documents in the styles of five programs, and a server of files
-as nginx serves them.
+"""Make sources of other software as static files, with documents in the styles of five programs, and serve them as
+nginx does.
 
-The styles are written from memory of what these programs make: none of them was run. What matters is what
-they differ in: where lists lie, which moments, digests and lengths they have, and what they leave out.
+The styles are written from memory; none of the programs was run. They differ in the paths of lists, and in the moments,
+digests and lengths of entries.
 """
 import contextlib
 import dataclasses
@@ -24,9 +24,7 @@ FIRST, SECOND, THIRD = "2013-01-03T09:00:00Z", "2013-01-03T10:00:00Z", "2013-01-
 
 @dataclasses.dataclass
 class Style:
-    """How a program writes lists: where they and the resources lie, which digests, and whether lengths, types
-    and `at` are there.
-    """
+    """The form of lists: folders of lists and resources, digests, and whether there are lengths, types and `at`."""
 
     lists: str = "/"
     resources: str = "/"
@@ -52,31 +50,31 @@ STYLES = {
 
 
 def md(**attributes: str) -> str:
-    """An `rs:md` of the attributes that say something."""
+    """Return an `rs:md` of the attributes that have a value."""
     return "<rs:md" + "".join(f' {name}="{escape(text)}"' for name, text in attributes.items() if text) + "/>"
 
 
 def urlset(head: str, entries: list[str], root: str = "urlset") -> bytes:
-    """A document."""
+    """Return a document."""
     front = f'<?xml version="1.0" encoding="UTF-8"?>\n<{root} {SPACES}>\n'
     return f'{front}{head}\n{"".join(entries)}</{root}>\n'.encode()
 
 
 def url(loc: str, lastmod: str = "", inner: str = "", tag: str = "url") -> str:
-    """An entry."""
+    """Return an entry."""
     modified = f"<lastmod>{lastmod}</lastmod>" if lastmod else ""
     return f"<{tag}><loc>{escape(loc)}</loc>{modified}{inner}</{tag}>\n"
 
 
 def facts(style: Style, body: bytes, **more: str) -> str:
-    """What a style says of a body."""
+    """Return the attributes of a body in a style."""
     hashes = " ".join(f"{name}:{hashlib.new(name.replace('-', ''), body).hexdigest()}" for name in style.hashes)
     return md(**more, hash=hashes, length=str(len(body)) if style.has_length else "", type=style.kind)
 
 
 def archive(style: Style, base: str, files: dict[str, bytes], at: str = FIRST, kind: str = "resource",
             changes: dict[str, str] | None = None) -> bytes:
-    """An archive of a dump: a manifest, and the files. Of changes it is what happened to each file."""
+    """Return an archive of a dump: a manifest, and the files. `changes` has the words for changes of the files."""
     packed, entries = io.BytesIO(), []
     with zipfile.ZipFile(packed, "w", zipfile.ZIP_DEFLATED) as file:
         for number, (name, body) in enumerate(files.items()):
@@ -91,7 +89,7 @@ def archive(style: Style, base: str, files: dict[str, bytes], at: str = FIRST, k
 
 def dump(style: Style, base: str, archives: dict[str, bytes], at: str = FIRST, kind: str = "resource",
          ) -> dict[str, bytes]:
-    """The document of a dump, and its archives by name."""
+    """Return the document of a dump, and its archives, by path."""
     entries = [url(f"{base}{style.lists}{name}", at,
                    md(hash=f"md5:{hashlib.md5(data).hexdigest()}", length=str(len(data)), type="application/zip"))
                for name, data in archives.items()]
@@ -102,7 +100,7 @@ def dump(style: Style, base: str, archives: dict[str, bytes], at: str = FIRST, k
 
 def lists_of(style: Style, base: str, files: dict[str, bytes], at: str = FIRST,
              changes: list[str] | None = None) -> dict[str, bytes]:
-    """The documents and the files of a source, by path. The changes are entries that `url` made."""
+    """Return the documents and files of a source, by path. The changes are entries from `url`."""
     where, up = base + style.lists, f'<rs:ln rel="up" href="{base}{style.lists}capabilitylist.xml"/>'
     capabilities = ["resourcelist"] * style.has_list + ["changelist"] * style.has_changes
     capabilities += ["resourcedump"] * style.has_dump
@@ -125,9 +123,7 @@ def lists_of(style: Style, base: str, files: dict[str, bytes], at: str = FIRST,
 
 
 class Static(http.server.ThreadingHTTPServer):
-    """A server of files by path, with `ETag` and `Last-Modified`; documents are packed where that is asked
-    for.
-    """
+    """Serve files by path, with `ETag` and `Last-Modified`, and with gzip of documents for clients that accept it."""
 
     daemon_threads = True
 
@@ -138,33 +134,33 @@ class Static(http.server.ThreadingHTTPServer):
         self.fields: dict[str, list[tuple[str, str]]] = {}
         self.requests: list[tuple[str, int]] = []
         self.has_tags = self.has_dates = True
-        # The status of what has a field `Location`.
+        # Statuses of responses with a field `Location`.
         self.redirect = 302
 
     def hold(self, style: Style, files: dict[str, bytes], at: str = FIRST,
              changes: list[str] | None = None) -> None:
-        """Serves what a style makes of files, and nothing else."""
+        """Serve exactly these files, with lists of a style."""
         self.files = lists_of(style, self.base, files, at, changes)
 
     def statuses(self, front: str = "/") -> dict[str, int]:
-        """The last status of each path that was asked for since this was called before."""
+        """Return the last status of every path requested since the last call."""
         requests, self.requests = self.requests, []
         return {path: status for path, status in requests if path.startswith(front)}
 
     def handle_error(self, request: object, client_address: object) -> None:
-        """Says nothing of a client that leaves early."""
+        """Ignore a client that disconnects early."""
 
 
 class Handler(http.server.BaseHTTPRequestHandler):
-    """Answers GET."""
+    """Answer GET."""
 
     server: Static
     protocol_version = "HTTP/1.1"
-    # (head and body go together: else each answer waits for an acknowledgement)
+    # (send the header and the body together, else the body waits for an acknowledgement)
     wbufsize = 65_536
 
     def do_GET(self) -> None:
-        """Answers with a file, or that it is as it was."""
+        """Answer with a file, or with 304."""
         body = self.server.files.get(self.path)
         tag = '"' + hashlib.md5(body or b"").hexdigest() + '"'
         is_same = self.server.has_tags and self.headers.get("If-None-Match") == tag
@@ -190,12 +186,12 @@ class Handler(http.server.BaseHTTPRequestHandler):
             self.wfile.write(sent)
 
     def log_message(self, *_: object) -> None:
-        """Logs nothing."""
+        """Log nothing."""
 
 
 @contextlib.contextmanager
 def static() -> Iterator[Static]:
-    """A server, which ends with the block."""
+    """Serve; stop with the block."""
     with Static() as server:
         thread = threading.Thread(target=server.serve_forever, args=(0.05,), daemon=True)
         thread.start()

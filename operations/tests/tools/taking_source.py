@@ -1,4 +1,4 @@
-"""A source in Python that holds nothing, and takes what is put to it."""
+"""Serve an empty source in Python that keeps put resources."""
 from __future__ import annotations
 
 import contextlib
@@ -10,7 +10,7 @@ from operations.tests.tools.hostile_source import Liar, answered
 
 
 class Taking(Liar):
-    """A source that holds nothing, takes what is put and published, and keeps the bodies."""
+    """A source that is empty at first, accepts PUT and publications, and keeps the bodies."""
 
     def __init__(self) -> None:
         super().__init__()
@@ -19,7 +19,7 @@ class Taking(Liar):
         self.published = b"published 2 2000-02-29T00:00:00.002Z\n"
 
     def answer(self, connection: socket.socket) -> None:
-        """Takes what is put, and answers one request."""
+        """Answer one request, and keep the body of a PUT."""
         head, rest = b"", b""
         while b"\r\n\r\n" not in head and (piece := connection.recv(65_536)):
             head += piece
@@ -50,7 +50,7 @@ class Taking(Liar):
 
 @contextlib.contextmanager
 def taking() -> Iterator[Taking]:
-    """A source that takes what is put."""
+    """Serve; stop with the block."""
     liar = Taking()
     threading.Thread(target=liar.serve, daemon=True).start()
     try:

@@ -1,0 +1,1 @@
+"""Shared parts of the pytest tests: runs of the command, a fake HTTP server, and a fake source on it."""

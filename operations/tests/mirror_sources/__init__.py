@@ -1,0 +1,1 @@
+"""Tests of `ropepeach mirror` and `ropepeach check` with sources of any software."""
