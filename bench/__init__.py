@@ -1,1 +1,1 @@
-"""What is measured of the built program, each by `python3 -m bench.NAME` (docs/keepers/BENCH.md)."""
+"""Measurements of the built program, run by `python3 -m bench.NAME` (docs/keepers/BENCH.md)."""

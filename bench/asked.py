@@ -1,4 +1,4 @@
-"""The program on a file, asked line by line or served, and how long an answer takes."""
+"""The program on a file, queried line by line or served, and the time of an answer."""
 import re
 import subprocess
 import time
@@ -10,7 +10,7 @@ MIB = 1 << 20
 
 
 class Asked:
-    """A program on a file, which is asked line by line."""
+    """A program on a file, queried line by line."""
 
     def __init__(self, program: str | Path, file: str | Path) -> None:
         began = time.perf_counter()
@@ -19,19 +19,19 @@ class Asked:
         self.opened = time.perf_counter() - began
 
     def ask(self, line: str) -> str:
-        """The answer to a line."""
+        """Return the answer to a line."""
         assert self.process.stdin and self.process.stdout
         self.process.stdin.write(line.encode() + b"\n")
         self.process.stdin.flush()
         return self.process.stdout.readline().decode()
 
     def resident(self) -> int:
-        """The bytes of memory that are its own now."""
+        """Return its current private memory in bytes."""
         status = Path(f"/proc/{self.process.pid}/status").read_text()
         return int(re.findall(r"VmRSS:\s+(\d+)", status)[0]) * 1024
 
     def end(self) -> None:
-        """Ends the program, which has to end well."""
+        """End the program, which must exit with status 0."""
         assert self.process.stdin
         self.process.stdin.close()
         if self.process.wait():
@@ -39,7 +39,7 @@ class Asked:
 
 
 def timed(ours: Asked, line: str, wanted: str | tuple[str, ...]) -> float:
-    """The seconds from a line to its answer, which begins as is wanted."""
+    """Return the seconds from a line to its answer, which must begin with `wanted`."""
     began = time.perf_counter()
     answer = ours.ask(line)
     if not answer.startswith(wanted):
@@ -48,7 +48,7 @@ def timed(ours: Asked, line: str, wanted: str | tuple[str, ...]) -> float:
 
 
 def serve(file: str | Path, count: int) -> tuple[subprocess.Popen[str], int]:
-    """The program as it serves so many connections on a file, and its port."""
+    """Serve `count` connections on a file; return the process and its port."""
     server = subprocess.Popen([str(PROGRAM), "serve", file, "0", str(count)], stdout=subprocess.PIPE, text=True)
     assert server.stdout
     return server, int(server.stdout.readline().rsplit(":", 1)[1])

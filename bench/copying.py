@@ -1,14 +1,14 @@
-"""Groups beside single puts, and a copy beside reading, hashing and writing the same bytes.
+"""Compare groups with single puts, and a copy with reading, hashing and writing the same bytes.
 
-  groups   16 puts of 4 KiB one by one, and a group of 16 such, in turn, on one file, by lines of a script and over
+  groups   16 puts of 4 KiB one by one, and the same 16 as a group, in turn, on one file, by lines of a script and over
            HTTP: medians. A line and a group carry hexadecimal text, a PUT the bytes. bench/grouping.py times the calls
            of a source alone.
   copy     `copy` of 10,000 resources of 4 KiB to a new file, and the floor: the same bodies, pages and directory read
-           from the old file and written to a new one, body by body, with three syncs, and to it the time of their
-           SHA-256 at the kit's rate.
+           from the old file and written to a new one, body by body, with three syncs, plus the time of their SHA-256
+           at the kit's rate.
 
-usage: python3 -m bench.copying [PROGRAM]     the built program, where none is given. ROOM in the environment is the
-folder for the files.
+usage: python3 -m bench.copying [PROGRAM]     default: the built program. ROOM in the environment is the folder for the
+files.
 """
 import os
 import pathlib
@@ -31,23 +31,23 @@ IN_A_GROUP, ROUNDS, COPIED, TIMES = 16, 60, 10_000, 5
 
 
 def puts(rng: random.Random, names: Iterable[str]) -> list[str]:
-    """The lines that put bodies of 4 KiB by these names."""
+    """Return the lines that put bodies of 4 KiB by these names."""
     return [f"put {name} {rng.randbytes(4096).hex()} text/plain" for name in names]
 
 
 def grouped(lines: list[str]) -> str:
-    """The lines of a group of these."""
+    """Return the lines of a group of these puts."""
     return "\n".join([f"group {len(lines)}", *lines])
 
 
 def made(program: str, file: str, size: int) -> Asked:
-    """An open source on a new file."""
+    """Return an open source on a new file."""
     subprocess.run([program, "format", file, str(size), "http://a", "1000"], check=True, capture_output=True)
     return Asked(program, file)
 
 
 def groups(program: str, room: str) -> None:
-    """Times puts one by one and groups of them, by the lines of a script."""
+    """Time single puts and groups of them, by the lines of a script."""
     rng, ours = random.Random(1), made(program, f"{room}/groups.disk", 16 * MIB)
     names, alone, together = [f"n{i:03d}" for i in range(200)], [], []
     for _ in range(ROUNDS):
@@ -61,7 +61,7 @@ def groups(program: str, room: str) -> None:
 
 
 def answer(port: int, head: str, body: bytes) -> float:
-    """The seconds from a request to the end of its response, over a connection of its own."""
+    """Return the seconds from a request to the end of its response, over a connection of its own."""
     began, found = time.perf_counter(), b""
     with socket.create_connection(("127.0.0.1", port)) as connection:
         fields = f"Host: a\r\nContent-Type: text/plain\r\nContent-Length: {len(body)}"
@@ -73,7 +73,7 @@ def answer(port: int, head: str, body: bytes) -> float:
 
 
 def groups_over_http(program: str, room: str) -> None:
-    """Times puts one by one and groups of them, over HTTP."""
+    """Time single puts and groups of them, over HTTP."""
     file, rng = f"{room}/served.disk", random.Random(3)
     made(program, file, 16 * MIB).end()
     server = subprocess.Popen([program, "serve", file, "0", str(ROUNDS * (IN_A_GROUP + 1))], stdout=subprocess.PIPE,
@@ -93,7 +93,7 @@ def groups_over_http(program: str, room: str) -> None:
 
 
 def filled(program: str, file: str) -> None:
-    """Fills a new source, and publishes it."""
+    """Fill a new source, and publish it."""
     rng, ours = random.Random(2), made(program, file, 96 * MIB)
     for first in range(0, COPIED, IN_A_GROUP):
         timed(ours, grouped(puts(rng, [f"n{i:05d}" for i in range(first, first + IN_A_GROUP)])), "grouped")
@@ -102,7 +102,7 @@ def filled(program: str, file: str) -> None:
 
 
 def parts_of(file: str) -> list[tuple[int, int]]:
-    """Where each body, page and directory of a file lies, in bytes."""
+    """Return the places and lengths of all bodies, pages and directories of a file, in bytes."""
     source = source_of(pathlib.Path(file).read_bytes())
     records = [record for page in source.catalogue for record in page.items]
     pages = [page.entry for part in (source.catalogue, source.changes, source.published) for page in part]
@@ -110,7 +110,7 @@ def parts_of(file: str) -> list[tuple[int, int]]:
 
 
 def floor(file: str, to: str, parts: list[tuple[int, int]]) -> float:
-    """The seconds of the calls of a copy."""
+    """Return the seconds of the calls of a copy."""
     pathlib.Path(to).unlink(missing_ok=True)
     began = time.perf_counter()
     old, new = os.open(file, os.O_RDONLY), os.open(to, os.O_RDWR | os.O_CREAT, 0o600)
@@ -127,7 +127,7 @@ def floor(file: str, to: str, parts: list[tuple[int, int]]) -> float:
 
 
 def copied(program: str, file: str, to: str) -> float:
-    """The seconds of a copy."""
+    """Return the seconds of a copy."""
     pathlib.Path(to).unlink(missing_ok=True)
     began = time.perf_counter()
     subprocess.run([program, "copy", file, to, str(96 * MIB)], check=True, capture_output=True)
@@ -135,7 +135,7 @@ def copied(program: str, file: str, to: str) -> float:
 
 
 def copies(program: str, room: str, rate: float) -> None:
-    """Times copies beside the floor."""
+    """Time copies against the floor."""
     file = f"{room}/old.disk"
     filled(program, file)
     parts = parts_of(file)
@@ -148,7 +148,7 @@ def copies(program: str, room: str, rate: float) -> None:
 
 
 def main() -> int:
-    """Measures both, and gives the status."""
+    """Measure both, and return the exit status."""
     program = os.path.abspath(sys.argv[1] if len(sys.argv) > 1 else str(PROGRAM))
     _, _, alone = (seconds / (16 * MIB) for seconds in hashing.seconds())
     with tempfile.TemporaryDirectory(dir=os.environ.get("ROOM")) as room:

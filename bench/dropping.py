@@ -1,10 +1,10 @@
-"""What it costs a publication to drop the whole Change List.
+"""Measure a publication that drops the whole Change List.
 
-A disk of 50,000 changes at an item limit of 2, never published: the first publication drops nothing, as there is none
-before it, and the second drops 25,000 parts. Both are asked of one open source on a file in the folder ROOM, five
-times over, and so is the memory that the source has before them and after.
+A disk has 50,000 changes at an item limit of 2 and no publication: the first publication drops nothing, as no earlier
+one exists, and the second drops 25,000 parts. One open source on a file in the folder ROOM makes both, five times over.
+The memory of the source is measured before and after them.
 
-usage: python3 -m bench.dropping [PROGRAM]     the built program, where none is given
+usage: python3 -m bench.dropping [PROGRAM]     default: the built program
 """
 import os
 import statistics
@@ -22,7 +22,7 @@ TIMES = 5
 
 
 def timed(source: Asked, line: str, answer: str) -> float:
-    """How long the answer to a line took."""
+    """Return the seconds until the answer to a line, which must begin with `answer`."""
     began = time.perf_counter()
     response = source.ask(line)
     seconds = time.perf_counter() - began
@@ -32,7 +32,7 @@ def timed(source: Asked, line: str, answer: str) -> float:
 
 
 def once(program: str, file: str) -> tuple[float, float, int, int]:
-    """The seconds of a publication that drops nothing and of one that drops all, and the memory before and after."""
+    """Return the seconds of publications that drop nothing and everything, and the memory before and after both."""
     disks: dict[str, Any] = made_disks.DISKS
     Path(file).write_bytes(disks["most_changes"]())
     source = Asked(program, file)
@@ -46,7 +46,7 @@ def once(program: str, file: str) -> tuple[float, float, int, int]:
 
 
 def main() -> None:
-    """Prints the medians."""
+    """Print the medians."""
     program = sys.argv[1] if sys.argv[1:] else str(PROGRAM)
     with tempfile.TemporaryDirectory(dir=os.environ.get("ROOM")) as room:
         rows = [once(program, f"{room}/{i}.disk") for i in range(TIMES)]

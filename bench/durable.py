@@ -1,8 +1,8 @@
-"""Durable puts of 4 KiB on a file with 100 resources held: the program, LMDB and SQLite, all in one run on one disk.
+"""Time durable puts of 4 KiB on a file with 100 resources held: the program, LMDB and SQLite, in one run on one disk.
 
-Each replaces one of 100 resources after the other, and is asked for the next only once the put is on the disk. Each
+Every contender replaces the 100 resources in turn, and gets the next put only once the last one is on the disk. It
 keeps the body, its MD5 and SHA-256, its type and its moment, and a log of changes. The program reads its puts from a
-script; a run of none is timed too and taken off. Needs Debian's python3-lmdb; run it by `/usr/bin/python3 -m
+script; the time of a script without puts is subtracted. Needs Debian's python3-lmdb; run it by `/usr/bin/python3 -m
 bench.durable`.
 """
 import hashlib
@@ -20,17 +20,17 @@ HELD, PUTS = 100, 500
 
 
 def body(i: int) -> bytes:
-    """A body of 4 KiB."""
+    """Return a body of 4 KiB."""
     return hashlib.shake_256(i.to_bytes(4, "big")).digest(4096)
 
 
 def script(first: int, count: int) -> str:
-    """The lines that put so many bodies, from a number on."""
+    """Return the lines that put `count` bodies, from the number `first` on."""
     return "".join(f"put r{i % HELD} {body(i).hex()} text/plain\n" for i in range(first, first + count))
 
 
 def run(file: str, text: str) -> float:
-    """The seconds of a script, each of whose puts has to be kept."""
+    """Return the seconds of a script in which every put must succeed."""
     began = time.monotonic()
     finished = subprocess.run([str(PROGRAM), "run", file], input=text, capture_output=True, text=True, check=True)
     seconds = time.monotonic() - began
@@ -40,7 +40,7 @@ def run(file: str, text: str) -> float:
 
 
 def ours(room: str) -> float:
-    """The seconds of the program's puts."""
+    """Return the seconds of the program's puts."""
     file = f"{room}/source"
     subprocess.run([str(PROGRAM), "format", file, str(64 << 20), "http://a", "1000"], check=True, capture_output=True)
     run(file, script(0, HELD))
@@ -48,7 +48,7 @@ def ours(room: str) -> float:
 
 
 def timed(put: Callable[[int], None]) -> float:
-    """The seconds of puts by a function, over the resources that it put before."""
+    """Return the seconds of puts by a function, over resources that it has put before."""
     for i in range(HELD):
         put(i)
     began = time.monotonic()
@@ -58,12 +58,12 @@ def timed(put: Callable[[int], None]) -> float:
 
 
 def digests(data: bytes) -> tuple[bytes, bytes]:
-    """Both digests of a body."""
+    """Return both digests of a body."""
     return hashlib.md5(data).digest(), hashlib.sha256(data).digest()
 
 
 def in_lmdb(room: str) -> float:
-    """The seconds of LMDB's puts."""
+    """Return the seconds of LMDB's puts."""
     import lmdb
 
     env = lmdb.open(f"{room}/lmdb", map_size=64 << 20, max_dbs=2)
@@ -82,7 +82,7 @@ def in_lmdb(room: str) -> float:
 
 
 def in_sqlite(room: str, journal: str, synchronous: str) -> float:
-    """The seconds of SQLite's puts, with these settings."""
+    """Return the seconds of SQLite's puts, with these settings."""
     base = sqlite3.connect(f"{room}/{journal}.db", isolation_level=None)
     base.execute(f"pragma journal_mode={journal}")
     base.execute(f"pragma synchronous={synchronous}")
@@ -103,7 +103,7 @@ def in_sqlite(room: str, journal: str, synchronous: str) -> float:
 
 
 def main() -> int:
-    """Prints the figures of all."""
+    """Print all figures."""
     with tempfile.TemporaryDirectory(dir=os.environ.get("ROOM")) as room:
         own = ours(room)
         rows = [("the program", own)]

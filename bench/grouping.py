@@ -1,9 +1,8 @@
-"""A group of 16 puts of 4 KiB beside 16 such puts, as calls of an open source on a file: no line is read, and no
-hexadecimal text.
+"""Compare a group of 16 puts of 4 KiB with 16 single puts, as calls of an open source on a file.
 
-A small program in a folder of its own, which `rt run` proves and builds, makes a source on a new file, and times both
-in turn, with names and bodies made before. ROOM in the environment is the folder for the file: /dev/shm shows what is
-left without the disk's syncs.
+No line is read, and no hexadecimal text. A small program in a folder of its own, which `rt run` proves and builds,
+makes a source on a new file and times both in turn, with names and bodies made in advance. ROOM in the environment is
+the folder for the file: /dev/shm shows the time without the disk's syncs.
 """
 import os
 import statistics
@@ -95,7 +94,7 @@ fn main(rt: HostRuntime) -> anyhow::Result<()> {
 
 
 def build(root: Path) -> Path:
-    """The program, proved and built, by its path. It does nothing where it is given no file."""
+    """Prove and build the program, and return its path. Without a file as its argument, it does nothing."""
     lines = small.standing_on(root, "rs_store", "rs_file")
     crate = root / "crates" / "grouping"
     (crate / "src").mkdir(parents=True)
@@ -110,7 +109,7 @@ def build(root: Path) -> Path:
 
 
 def main() -> None:
-    """Builds the program, and prints its figures."""
+    """Build the program, and print its figures."""
     with tempfile.TemporaryDirectory() as folder, tempfile.TemporaryDirectory(dir=os.environ.get("ROOM")) as room:
         program = build(Path(folder))
         done = subprocess.run([str(program), f"{room}/disk"], capture_output=True, text=True, check=True)

@@ -1,4 +1,4 @@
-"""A small program that hashes 16 MiB each way that is compared, proved and built by `rt run`, and the time of each."""
+"""Time a small program, proved and built by `rt run`, that hashes 16 MiB in several ways."""
 import pathlib
 import shutil
 import subprocess
@@ -55,14 +55,14 @@ fn main(rt: HostRuntime) -> io::Result<()> {
 
 
 def timed(command: list[str]) -> float:
-    """The seconds of a command."""
+    """Return the seconds of a command."""
     start = time.perf_counter()
     subprocess.run(command, stdout=subprocess.DEVNULL, check=True)
     return time.perf_counter() - start
 
 
 def built(folder: str) -> str:
-    """The program, proved and built in this folder."""
+    """Prove and build the program in this folder, and return its path."""
     root = pathlib.Path(folder)
     shutil.copytree(ROOT / "crates" / "rs_fixity", root / "crates" / "rs_fixity")
     crate = root / "crates" / "hashing"
@@ -75,12 +75,12 @@ def built(folder: str) -> str:
 
 
 def once(program: str, *words: str) -> float:
-    """How long 16 MiB take: both digests in pieces (`pieces`), of the whole (no word), SHA-256 (`sha256`, `alone`)."""
+    """Return the seconds for 16 MiB: digests in pieces (`pieces`), whole (no word), or SHA-256 (`sha256`, `alone`)."""
     return timed([program, *words]) / 8
 
 
 def seconds() -> list[float]:
-    """The least of five times for each of the three."""
+    """Return the least of five times for each of the three."""
     with tempfile.TemporaryDirectory() as folder:
         program = built(folder)
         ways: list[list[str]] = [["pieces"], [], ["sha256", "alone"]]

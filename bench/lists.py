@@ -1,17 +1,17 @@
-"""A Resource List of 1,000 and of 10,000 resources of 4 KiB: its time, and what a kill amid its writing leaves.
+"""Time a Resource List of 1,000 and of 10,000 resources of 4 KiB, and examine the result of a kill while it is written.
 
-  the program    publishes what it holds, and shows each part of the list. Lengths and digests were recorded when the
+  the program    publishes its resources, and shows all parts of the list. Lengths and digests were recorded when the
                  resources were put, so no body is read: the disk has bodies of three bytes (paged_disk.py), and its
                  list has as many entries.
-  the stand-in   is a generator of static files as anybody may write one in Python: it reads each file of a folder,
-                 takes its length, MD5 and SHA-256, and writes the list with xml.etree. It is no program of others; it
-                 shows what such a one has to do at least. It writes in place, or beside its file and renames it.
+  the stand-in   is a simple generator of static files in Python: it reads every file of a folder, takes its length, MD5
+                 and SHA-256, and writes the list with xml.etree. It is no existing program; it shows the least work of
+                 a generator. It writes in place, or to another file that it renames.
 
-Each of them is then killed (kill -9) KILLS times while it makes a new list in the place of an old one, and what is
-there then is looked at: a whole list, old or new, or something else. The program is killed at moments drawn by lot;
-the stand-in, which reads and hashes for most of its time, once its file is seen to have another length.
+Both are then killed (kill -9) KILLS times while they replace an old list by a new one, and the result is examined: a
+whole list, old or new, or something else. The program is killed at random moments; the stand-in, which reads and hashes
+for most of its time, once its file has another length.
 
-usage: python3 -m bench.lists [PROGRAM] [--seed N]     the built program, where none is given
+usage: python3 -m bench.lists [PROGRAM] [--seed N]     default: the built program
 ROOM in the environment is the folder for the files.
 """
 import argparse
@@ -35,43 +35,43 @@ SECONDS = 120
 
 
 def parts(count: int, number: int) -> list[str]:
-    """The paths of the Resource List of a publication: the list, or its index and its parts."""
+    """Return the paths of the Resource List of a publication: the list, or its index and its parts."""
     cut = [f"/resourcelist/{number}/{k}.xml" for k in range(-(-count // LIMIT))]
     return ["/resourcelist.xml", *(cut if count > LIMIT else [])]
 
 
 def output_of(program: str, file: Path, lines: list[str]) -> bytes:
-    """The output of a script of these lines."""
+    """Return the output of a script of these lines."""
     script = "".join(f"{line}\n" for line in lines).encode()
     return subprocess.run([program, "run", file], input=script, capture_output=True, check=True, timeout=SECONDS).stdout
 
 
 def timed(action: Callable[[], object]) -> float:
-    """The seconds of an action."""
+    """Return the seconds of an action."""
     start = time.perf_counter()
     action()
     return time.perf_counter() - start
 
 
 def best(action: Callable[[int], object]) -> float:
-    """The least time of some runs, each with its number."""
+    """Return the least time of some runs; the action gets the number of the run."""
     return min(timed(lambda: action(number)) for number in range(TIMES))
 
 
 def number_of(program: str, file: Path) -> int:
-    """The number of the last publication."""
+    """Return the number of the last publication."""
     return int(output_of(program, file, ["status"]).split()[5])
 
 
 def published(program: str, file: Path, count: int) -> None:
-    """Publishes, and shows the whole list."""
+    """Publish, and show the whole list."""
     number = number_of(program, file) + 1
     output = output_of(program, file, ["publish", *(f"show {path}" for path in parts(count, number))])
     assert output.count(b"<url>") == count, output[:200]
 
 
 def stand_in(folder: str | Path, target: str | Path, is_renamed: bool) -> None:
-    """Writes the Resource List of a folder's files."""
+    """Write the Resource List of a folder's files."""
     ElementTree.register_namespace("", SITEMAP)
     ElementTree.register_namespace("rs", RS)
     root = ElementTree.Element(f"{{{SITEMAP}}}urlset")
@@ -90,14 +90,14 @@ def stand_in(folder: str | Path, target: str | Path, is_renamed: bool) -> None:
 
 
 def fill(folder: Path, count: int) -> None:
-    """Makes a folder of this many files."""
+    """Make a folder of `count` files."""
     folder.mkdir()
     for number in range(count):
         (folder / f"name{number:05d}").write_bytes(f"{number:05d}".encode() * (SIZE // 5 + 1))
 
 
 def killed(words: list[str | Path], data: bytes, span: float, rng: random.Random) -> None:
-    """Starts a program with this input, and kills it within this many seconds."""
+    """Start a program with this input, and kill it within `span` seconds."""
     with subprocess.Popen(words, stdin=subprocess.PIPE, stdout=subprocess.DEVNULL,
                           stderr=subprocess.DEVNULL) as process:
         assert process.stdin
@@ -108,7 +108,7 @@ def killed(words: list[str | Path], data: bytes, span: float, rng: random.Random
 
 
 def kills_of_the_program(program: str, file: Path, count: int, span: float, rng: random.Random) -> str:
-    """What is served after each kill: whole lists of the publication in front, or of a next one."""
+    """Count the results served after kills: whole lists of the publication in front, or of a later one."""
     whole = new = 0
     for _ in range(KILLS):
         before = number_of(program, file)
@@ -122,7 +122,7 @@ def kills_of_the_program(program: str, file: Path, count: int, span: float, rng:
 
 
 def killed_at_its_write(words: list[str], target: Path) -> None:
-    """Starts a program, and kills it once a file has another length than before, or lets it end."""
+    """Start a program, and kill it once a file has another length than before, or let it end."""
     size = os.stat(target).st_size
     with subprocess.Popen(words) as process:
         while process.poll() is None and os.stat(target).st_size == size:
@@ -131,7 +131,7 @@ def killed_at_its_write(words: list[str], target: Path) -> None:
 
 
 def kills_of_the_stand_in(folder: Path, target: Path, count: int, is_renamed: bool) -> str:
-    """What the file is after each kill."""
+    """Count the states of the file after kills."""
     own = ["--stand-in", str(folder), str(target), str(int(is_renamed))]
     words, whole = [sys.executable, "-m", "bench.lists", *own], 0
     stand_in(folder, target, True)
@@ -147,7 +147,7 @@ def kills_of_the_stand_in(folder: Path, target: Path, count: int, is_renamed: bo
 
 
 def measure(program: str, room: Path, count: int, rng: random.Random) -> None:
-    """Measures both, with this many resources or files."""
+    """Measure both, with `count` resources or files."""
     file, folder, target = room / f"{count}.disk", room / f"files{count}", room / f"{count}.xml"
     file.write_bytes(spelled(count, count))
     fill(folder, count)
@@ -161,7 +161,7 @@ def measure(program: str, room: Path, count: int, rng: random.Random) -> None:
 
 
 def main() -> None:
-    """Measures each count, or is the stand-in."""
+    """Measure all counts, or run as the stand-in."""
     if sys.argv[1:2] == ["--stand-in"]:
         return stand_in(sys.argv[2], sys.argv[3], sys.argv[4] == "1")
     words = argparse.ArgumentParser(usage="python3 -m bench.lists [PROGRAM] [--seed N]")

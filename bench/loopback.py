@@ -1,9 +1,9 @@
-"""GETs on loopback, one connection each, beside lighttpd (one thread) on the same machine; and PUTs and GETs of 16 MiB
-to a client on a bare socket, each ten times in turn with the kit's own hashing, of which the medians are told. Beside
-a PUT stand the calls that it cannot do without: the same bytes written to a file in pieces of 4 KiB, and three syncs.
+"""Time GETs on loopback, one per connection, against lighttpd (one thread) on the same machine; and PUTs and GETs of 16
+MiB to a client on a bare socket, ten times in turn with the kit's own hashing, as medians. A PUT is also compared with
+the calls that it cannot avoid: the same bytes written to a file in pieces of 4 KiB, and three syncs.
 
-Needs Debian's wrk and lighttpd. ROOM in the environment is the folder for the source's file: /dev/shm shows what is
-left without the disk's syncs.
+Needs Debian's wrk and lighttpd. ROOM in the environment is the folder for the source's file: /dev/shm shows the time
+without the disk's syncs.
 """
 import http.client
 import os
@@ -26,7 +26,7 @@ LARGE, PIECE, TIMES = 16 << 20, 4_096, 10
 
 
 def ask(port: int, method: str, path: str, body: bytes | None = None) -> tuple[int, bytes]:
-    """The status and the body of a response."""
+    """Return the status and the body of a response."""
     connection = http.client.HTTPConnection("127.0.0.1", port, timeout=60)
     connection.request(method, path, body)
     response = connection.getresponse()
@@ -36,14 +36,14 @@ def ask(port: int, method: str, path: str, body: bytes | None = None) -> tuple[i
 
 
 def load(url: str) -> float:
-    """The requests a second that wrk makes of an address."""
+    """Return the requests per second that wrk makes of an address."""
     words = ["wrk", "-t1", "-c4", f"-d{SECONDS}s", "-H", "Connection: close", url]
     finished = subprocess.run(words, capture_output=True, text=True, check=True)
     return float(re.findall(r"Requests/sec:\s*([\d.]+)", finished.stdout)[0])
 
 
 def beside(room: str) -> subprocess.Popen[bytes]:
-    """lighttpd, with a file of each length."""
+    """Start lighttpd with a file of each length."""
     folder = f"{room}/www"
     os.makedirs(f"{folder}/resource")
     for n in LENGTHS:
@@ -55,7 +55,7 @@ def beside(room: str) -> subprocess.Popen[bytes]:
 
 
 def loads(room: str, file: str) -> None:
-    """Loads the program and lighttpd in turn."""
+    """Load the program and lighttpd in turn."""
     server, port = serve(file, 1_000_000_000)
     other = beside(room)
     time.sleep(0.5)
@@ -72,7 +72,7 @@ def loads(room: str, file: str) -> None:
 
 
 def raw(port: int, *pieces: bytes) -> tuple[float, bytes]:
-    """The seconds from a request, in pieces, to the end of its response, and the response."""
+    """Return the seconds from a request, sent in pieces, to the end of its response, and the response."""
     found = bytearray(LARGE + 4_096)
     with socket.create_connection(("127.0.0.1", port)) as connection:
         began, n = time.perf_counter(), 0
@@ -84,7 +84,7 @@ def raw(port: int, *pieces: bytes) -> tuple[float, bytes]:
 
 
 def calls(file: str, data: bytes) -> float:
-    """The seconds of the writes and syncs of a put of these bytes, over what the file held before."""
+    """Return the seconds of the writes and syncs of a put of these bytes, which overwrite the file's content."""
     with open(file, "r+b", buffering=0) as disk:
         began = time.perf_counter()
         for at in range(0, len(data), PIECE):
@@ -96,7 +96,7 @@ def calls(file: str, data: bytes) -> float:
 
 
 def big(file: str, hasher: str) -> None:
-    """PUTs and GETs in turn with the hashing, so that what else the machine does meets both alike."""
+    """Time PUTs and GETs in turn with the hashing, so that other load on the machine affects both alike."""
     server, port = serve(file, 2 * TIMES)
     data, rows, beside_it = os.urandom(LARGE), [], f"{file}.calls"
     pathlib.Path(beside_it).write_bytes(bytes(LARGE))
@@ -117,7 +117,7 @@ def big(file: str, hasher: str) -> None:
 
 
 def main() -> int:
-    """Measures all, and gives the status."""
+    """Measure all, and return the exit status."""
     with tempfile.TemporaryDirectory(dir=os.environ.get("ROOM")) as room:
         os.chmod(room, 0o755)
         file = f"{room}/source"

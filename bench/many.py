@@ -1,18 +1,18 @@
-"""Many resources on a file: puts of 4 KiB, an opening, and the memory of an open source, each against the least that
-the format asks for.
+"""Measure a source with many resources on a file: puts of 4 KiB, an opening, and the memory of an open source, compared
+with the least that the format requires.
 
-  puts     with 100, 1,000, 10,000 and 50,000 resources held, as many changes kept and as many published, one resource
-           is replaced after the other. Beside each put the floor does the same calls on another file in the same
-           folder: the writes of the body, the page of records and the page of changes that are touched, the directory
-           and the slots, and three syncs. To it comes the time of both digests of the body and of the SHA-256 of both
-           pages and of the directory, at the kit's rate.
-  open     50,000 held, changed and published, where the published pages are the catalogue's and where they are others:
-           from the start of the program to its first answer, without that of an empty source. The floor reads each
+  puts     with 100, 1,000, 10,000 and 50,000 resources held, as many changes kept and as many published, resources are
+           replaced one after the other. After every put the floor does the same calls on another file in the same
+           folder: the writes of the body, the touched page of records, the touched page of changes, the directory and
+           the slots, and three syncs. The time of both digests of the body and of the SHA-256 of both pages and of the
+           directory is added, at the kit's rate.
+  open     50,000 held, changed and published, with the catalogue's pages as the published ones, and with other pages:
+           from the start of the program to its first answer, minus the time of an empty source. The floor reads every
            page once, from the device, and has the SHA-256 of all at the kit's rate.
-  memory   what the open source has resident, without that of an empty one, against the bytes of its pages.
+  memory   the resident memory of the open source, minus that of an empty one, against the bytes of its pages.
 
-usage: python3 -m bench.many [PROGRAM]     the built program, where none is given. ROOM in the environment is the
-folder for the files.
+usage: python3 -m bench.many [PROGRAM]     default: the built program. ROOM in the environment is the folder for the
+files.
 """
 import bisect
 import hashlib
@@ -35,18 +35,20 @@ from tests.reading import page_rule
 from tests.reading.disk_formats import BLOCK
 from tests.reading.disk_reader import source_of
 
-# The seconds of a byte: of both digests, and of SHA-256 alone.
+# The seconds per byte: of both digests, and of SHA-256 alone.
 Rates = tuple[float, float]
 PUTS = 100
 COUNTS = (100, 1_000, 10_000, 50_000)
-# A source keeps 50,000 changes at most.
+# The most changes that a source keeps.
 MOST = 50_000
 CHANGE = len(parts_of.change(2, name(0), 1, BODY))
 
 
 def sizes(source: Any, name: bytes, before: int) -> tuple[int, int, int]:
-    """The lengths of the page of records, the page of changes and the directory that a put of this name writes after
-    this many."""
+    """Return the lengths of the page of records, the page of changes and the directory that a put writes.
+
+    The put of `name` follows `before` other puts.
+    """
     firsts = [page.items[0].name for page in source.catalogue]
     records = source.catalogue[bisect.bisect_right(firsts, name) - 1].entry.length
     pages, inside = divmod(sum(len(page.items) for page in source.changes) + before, page_rule.MOST)
@@ -55,14 +57,14 @@ def sizes(source: Any, name: bytes, before: int) -> tuple[int, int, int]:
 
 
 def lengths_on(file: str, name: bytes) -> tuple[int, int, int]:
-    """The lengths of the page of this name, of the last page of changes and of the directory on a file."""
+    """Return the lengths of the page of `name`, of the last page of changes and of the directory on a file."""
     source = source_of(pathlib.Path(file).read_bytes())
     page = next(page for page in source.catalogue if any(record.name == name for record in page.items))
     return page.entry.length, source.changes[-1].entry.length, source.directory.length
 
 
 class Floor:
-    """The least that puts do, on a file of their own: their calls, and what is hashed."""
+    """The least work of puts, on a file of their own: their calls and their hashing."""
 
     def __init__(self, file: str, disk: bytes) -> None:
         pathlib.Path(file).write_bytes(disk)
@@ -71,9 +73,9 @@ class Floor:
         os.fsync(self.file)
 
     def put(self, name: bytes, body: bytes) -> float:
-        """The calls of one put, and how long they took."""
+        """Do the calls of one put, and return their seconds."""
         parts = sizes(self.source, name, self.puts)
-        # Each put lies where the one before it does not.
+        # No put overwrites the one before it.
         at = (self.end - (2000 if self.puts % 2 else 1000)) * BLOCK
         self.puts, self.hashed = self.puts + 1, self.hashed + sum(parts)
         data = [body, *map(bytes, parts)]
@@ -88,7 +90,7 @@ class Floor:
 
 
 def puts(program: str, room: str, count: int, rates: Rates) -> None:
-    """Replaces resources one by one, and does the floor's calls beside each."""
+    """Replace resources one by one, and do the floor's calls after every put."""
     file, body = f"{room}/{count}.disk", hashlib.shake_256(b"4 KiB").digest(4096)
     disk = spelled(count, min(count, MOST - PUTS))
     pathlib.Path(file).write_bytes(disk)
@@ -108,7 +110,7 @@ def puts(program: str, room: str, count: int, rates: Rates) -> None:
 
 
 def tell_puts(count: int, put: float, calls: float, hashed: float, rates: Rates) -> None:
-    """Prints the figures of puts beside the floor's."""
+    """Print the figures of puts and of the floor."""
     both, alone = rates
     digests = 4096 * both + hashed * alone
     times = put / (calls + digests)
@@ -118,7 +120,7 @@ def tell_puts(count: int, put: float, calls: float, hashed: float, rates: Rates)
 
 
 def read_pages(file: str, pages: list[Any]) -> float:
-    """How long it takes to read these pages from the device."""
+    """Return the seconds of reading these pages from the device."""
     descriptor = os.open(file, os.O_RDONLY)
     os.fsync(descriptor)
     os.posix_fadvise(descriptor, 0, 0, os.POSIX_FADV_DONTNEED)
@@ -131,7 +133,7 @@ def read_pages(file: str, pages: list[Any]) -> float:
 
 
 def empty(program: str, room: str) -> tuple[float, int]:
-    """How long an empty source takes to open, and its memory."""
+    """Return the seconds of opening an empty source, and its memory."""
     file = f"{room}/empty.disk"
     subprocess.run([program, "format", file, str(MIB), "http://a", "4000"], check=True, capture_output=True)
     ours = Asked(program, file)
@@ -142,7 +144,7 @@ def empty(program: str, room: str) -> tuple[float, int]:
 
 
 def opening(program: str, room: str, shared: bool, rates: Rates) -> None:
-    """Opens 50,000 of each."""
+    """Open a source with 50,000 resources, changes and published resources."""
     file, disk = f"{room}/open.disk", spelled(MOST, MOST, shared)
     pathlib.Path(file).write_bytes(disk)
     source = source_of(disk)
@@ -163,7 +165,7 @@ def opening(program: str, room: str, shared: bool, rates: Rates) -> None:
 
 
 def read_and_opened(program: str, file: str, pages: list[Any]) -> tuple[float, float, int]:
-    """How long the program takes to open a file, how long the pages take to be read, and the program's memory."""
+    """Return the seconds of opening a file by the program and of reading the pages, and the program's memory."""
     read = read_pages(file, pages)
     ours = Asked(program, file)
     if not ours.first.startswith(f"resources {MOST} changes {MOST} publication 1 "):
@@ -174,7 +176,7 @@ def read_and_opened(program: str, file: str, pages: list[Any]) -> tuple[float, f
 
 
 def main() -> int:
-    """Measures all, and gives the status."""
+    """Measure all, and return the exit status."""
     program = os.path.abspath(sys.argv[1] if len(sys.argv) > 1 else str(PROGRAM))
     _, both, alone = (rate / (16 * MIB) for rate in hashing.seconds())
     with tempfile.TemporaryDirectory(dir=os.environ.get("ROOM")) as room:

@@ -1,26 +1,26 @@
-"""What each part of a function's proof took, in seconds on the clock, by the moments when the prover kept its modules.
+"""Measure the seconds of each part of a function's proof, by the moments when the prover kept its modules.
 
 usage: python3 -m bench.proofs CRATE..     at the top, once a crate's library was built from nothing (make edits)
 
-The prover keeps each module of a proof in a file of its own, one after the other. The borrow checker's part is what an
-edit of the function pays as well, whatever goals are left out of its trial; the goals are what the search and the
-answers by hand take. A function's first lines also hold what was read before it for the first time.
+The prover keeps every module of a proof in a file of its own, one after the other. The borrow checker's part is also
+the cost of an edit of the function, whichever goals its trial leaves out; the goals are the time of the search and of
+the answers by hand. The first lines of a function also include everything that was read before it for the first time.
 """
 
 import re
 import sys
 from pathlib import Path
 
-# The modules of a function's proof: those with its goals, and those of the borrow checker's part.
+# The modules with goals in a function's proof; the other modules are the borrow checker's part.
 GOALS = {"Proof": "search", "Answers": "by hand"}
 PART = re.compile(r"(.+?)\.(Code|Given|Goals|Kinds|Layout|Lts|Named|Reads|Statement|Symbol|TheLink|Tie|Carried|Met"
                   r"|Proof|Answers|Invariants)\b.*")
-# A longer pause is one between two builds.
+# A pause longer than this, in seconds, lies between two builds.
 PAUSE = 60
 
 
 def parts(crate: str) -> dict[str, dict[str, float]]:
-    """The seconds of each part by the functions of a crate."""
+    """Return the seconds of each part by the functions of a crate."""
     files = Path("crates", crate, "out", "incremental").glob("*/*.oantt")
     modules = sorted((file.stat().st_mtime, file.name) for file in files)
     seconds: dict[str, dict[str, float]] = {}
@@ -34,7 +34,7 @@ def parts(crate: str) -> dict[str, dict[str, float]]:
 
 
 def main() -> None:
-    """Prints the parts of each crate, and of its 20 longest functions."""
+    """Print the parts of each crate, and of its 20 longest functions."""
     for crate in sys.argv[1:]:
         functions = parts(crate)
         columns = ["borrow checker", *GOALS.values()]

@@ -1,9 +1,9 @@
-"""Puts of 4 KiB on a disk in memory, with 100, 1,000 and 10,000 resources held and as many changes kept.
+"""Time puts of 4 KiB on a disk in memory, with 100, 1,000 and 10,000 resources held and as many changes kept.
 
 The disk is made here from the tables of docs/DISK.md, and opened: no command is run to fill it. A small program in a
 folder of its own, which `rt run` proves and builds, replaces one resource ten times and times itself: the whole put,
-and apart from it the parts that every put has, on the same lists: the used set, the hashing of the body, the two pages
-and the directory, and the making of the directory. The rest is copying, spelling, placing and writing the pages.
+and separately the parts of every put, on the same lists: the used set, the hashing of the body, the two pages and the
+directory, and the making of the directory. The rest is copying, spelling, placing and writing the pages.
 """
 import hashlib
 import struct
@@ -128,17 +128,17 @@ fn main(rt: HostRuntime) -> anyhow::Result<()> {
 
 
 def blocks(length: int) -> int:
-    """The blocks of so many bytes."""
+    """Return the number of blocks for this many bytes."""
     return (length + 511) // 512
 
 
 def text(value: bytes) -> bytes:
-    """A text behind its length."""
+    """Return a text with its length in front."""
     return bytes([len(value)]) + value
 
 
 def disk(count: int) -> bytes:
-    """The bytes of a disk with this many resources of three bytes, put one after the other, and room for puts."""
+    """Return the bytes of a disk with `count` resources of three bytes, put one after the other, and room for puts."""
     body = b"abc"
     md5, sha256 = hashlib.md5(body).digest(), hashlib.sha256(body).digest()
     records, changes = [], []
@@ -168,7 +168,7 @@ def disk(count: int) -> bytes:
 
 
 def build(root: Path) -> Path:
-    """The program, proved and built, by its path."""
+    """Prove and build the program, and return its path."""
     lines = small.standing_on(root, "rs_store")
     crate = root / "crates" / "puts"
     (crate / "src").mkdir(parents=True)
@@ -183,7 +183,7 @@ def build(root: Path) -> Path:
 
 
 def main() -> None:
-    """Builds the program, and prints its figures."""
+    """Build the program, and print its figures."""
     with tempfile.TemporaryDirectory() as folder:
         program = build(Path(folder))
         for count in (100, 1_000, 10_000):

@@ -1,8 +1,8 @@
-"""Measures the proved program: `make bench` builds it first. Prints one line a figure; docs/keepers/BENCH.md keeps
-them.
+"""Measure the proved program, which `make bench` builds first, and print one line per figure; docs/keepers/BENCH.md
+keeps the figures.
 
-  skip    a line of 40,000,000 bytes without an end, beside `wc -c` on the same pipe
-  lists   a Resource List and a Change List of 1,000 entries, beside Python's xml.etree making the same text
+  skip    a line of 40,000,000 bytes without an end, compared with `wc -c` on the same pipe
+  lists   a Resource List and a Change List of 1,000 entries, compared with Python's xml.etree making the same text
 """
 import resource
 import subprocess
@@ -19,29 +19,29 @@ SIZE = 2_097_152
 
 
 def program(limit: int) -> list[str]:
-    """The program on a source in memory, with this item limit."""
+    """Return the command of the program on a source in memory, with this item limit."""
     return [str(PROGRAM), "mem", str(SIZE), BASE, str(limit)]
 
 
 def best(times: int, action: Callable[[], object]) -> float:
-    """The least time of so many runs."""
+    """Return the least time of `times` runs."""
     return min(timed(action) for _ in range(times))
 
 
 def timed(action: Callable[[], object]) -> float:
-    """The seconds of an action."""
+    """Return the seconds of an action."""
     start = time.perf_counter()
     action()
     return time.perf_counter() - start
 
 
 def feed(command: list[str], data: bytes) -> None:
-    """Runs a command with this input."""
+    """Run a command with this input."""
     subprocess.run(command, input=data, stdout=subprocess.DEVNULL, check=True)
 
 
 def skip() -> None:
-    """Times a line that is too long, beside `wc -c`."""
+    """Time an overlong line against `wc -c`."""
     data = b"x" * 40_000_000
     ours = best(7, lambda: feed(program(2), data))
     theirs = best(7, lambda: feed(["wc", "-c"], data))
@@ -51,12 +51,12 @@ def skip() -> None:
 
 
 def puts(count: int) -> bytes:
-    """The lines that put so many small resources."""
+    """Return the lines that put `count` small resources."""
     return "".join(f"put name{i:05d} {i % 256:02x} text/plain\n" for i in range(count)).encode()
 
 
 def shown(limit: int, front: bytes, paths: list[str], times: int) -> tuple[float, int]:
-    """Seconds and bytes of showing these paths once, from the difference between many times and none."""
+    """Return the seconds and bytes of showing these paths once, from the difference between many times and none."""
     show = b"".join(f"show {path}\n".encode() for path in paths)
     size = len(subprocess.run(program(limit), input=front + show, capture_output=True, check=True).stdout)
     size -= len(subprocess.run(program(limit), input=front, capture_output=True, check=True).stdout)
@@ -66,12 +66,12 @@ def shown(limit: int, front: bytes, paths: list[str], times: int) -> tuple[float
 
 
 def rate(seconds: float, size: int) -> float:
-    """Megabytes a second."""
+    """Return megabytes per second."""
     return size / seconds / 1e6
 
 
 def by_etree(text: bytes) -> float:
-    """Seconds that xml.etree takes to make and write the tree of this document again, entry by entry."""
+    """Return the seconds in which xml.etree builds and writes the tree of this document again, entry by entry."""
     rows = ElementTree.fromstring(text)
 
     def make() -> None:
@@ -86,7 +86,7 @@ def by_etree(text: bytes) -> float:
 
 
 def lists() -> None:
-    """Times the lists of 1,000 resources, beside xml.etree."""
+    """Time the lists of 1,000 resources against xml.etree."""
     front = puts(1000) + b"publish\n"
     for path in ["/resourcelist.xml", "/changelist.xml"]:
         seconds, size = shown(4000, front, [path], 2000)
@@ -99,7 +99,7 @@ def lists() -> None:
 
 
 def main() -> None:
-    """Runs the measures that are named, or all."""
+    """Run the named measures, or all."""
     if not PROGRAM.exists():
         sys.exit("build the program first: make build")
     chosen = sys.argv[1:] or ["skip", "lists"]

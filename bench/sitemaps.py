@@ -1,15 +1,16 @@
-"""A sitemap generator in use, beside the program: jekyll-sitemap, and what a kill amid its run leaves.
+"""Time an existing sitemap generator, jekyll-sitemap, for comparison with the program, and examine the result of a kill
+during its run.
 
-A site of COUNTS pages of 4 KiB is built by jekyll with the plugin jekyll-sitemap (Debian: jekyll, ruby-jekyll-sitemap),
-as files for a web server. Told are the time of a run, and what is served after KILLS runs that are killed (kill -9) at
-moments drawn by lot, each after half of the files went and as many others came:
+jekyll with the plugin jekyll-sitemap (Debian: jekyll, ruby-jekyll-sitemap) builds a site of COUNTS pages of 4 KiB, as
+files for a web server. The output is the time of a run, and the state after KILLS runs that are killed (kill -9) at
+random moments, each after half of the files were replaced by as many others:
 
-  lists what is served   the sitemap names exactly the files that are there
-  lists what is gone     it names a file that is not there: a mirror asks for it in vain
-  leaves out             a file is there that it does not name: a mirror never asks for it
-  no sitemap             there is none, or one that no reader takes
+  lists what is served   the sitemap names exactly the existing files
+  lists what is gone     it names a missing file: a mirror requests it in vain
+  leaves out             it omits an existing file: a mirror never requests it
+  no sitemap             there is none, or none that a reader accepts
 
-Digests are not in it, so that what a file holds is not looked at.
+A sitemap has no digests, so the content of files is not checked.
 
 usage: python3 -m bench.sitemaps [--seed N]
 ROOM in the environment is the folder for the files.
@@ -30,7 +31,7 @@ BASE = "http://127.0.0.1:8080/"
 
 
 def fill(site: Path, first: int, count: int) -> None:
-    """Makes the site hold the files of these numbers, and no other."""
+    """Make the site hold exactly the files of these numbers."""
     for old in site.glob("*.html"):
         old.unlink()
     for number in range(first, first + count):
@@ -38,26 +39,26 @@ def fill(site: Path, first: int, count: int) -> None:
 
 
 def words(site: Path, out: Path) -> list[str]:
-    """The words that build a site."""
+    """Return the command that builds a site."""
     return ["jekyll", "build", "--quiet", "-s", str(site), "-d", str(out)]
 
 
 def built(site: Path, out: Path) -> float:
-    """The seconds of a run."""
+    """Return the seconds of a run."""
     start = time.perf_counter()
     subprocess.run(words(site, out), check=True)
     return time.perf_counter() - start
 
 
 def killed(site: Path, out: Path, seconds: float) -> None:
-    """Begins a run, and kills it after so many seconds."""
+    """Start a run, and kill it after `seconds` seconds."""
     with subprocess.Popen(words(site, out), stdout=subprocess.DEVNULL, stderr=subprocess.DEVNULL) as process:
         time.sleep(seconds)
         process.kill()
 
 
 def judged(out: Path) -> str:
-    """What a mirror finds."""
+    """Return the state that a mirror finds."""
     try:
         places = [place.text or "" for place in ElementTree.parse(out / "sitemap.xml").iter(LOC)]
         listed = {place.removeprefix(BASE) for place in places}
@@ -70,7 +71,7 @@ def judged(out: Path) -> str:
 
 
 def measure(room: Path, count: int, rng: random.Random) -> None:
-    """Times runs with so many pages, and counts what runs that are killed leave."""
+    """Time runs with `count` pages, and count the states after killed runs."""
     site, out, old = room / f"site{count}", room / f"out{count}", room / f"old{count}"
     site.mkdir()
     (site / "_config.yml").write_text(f"url: {BASE[:-1]}\nplugins: [jekyll-sitemap]\n")
@@ -91,7 +92,7 @@ def measure(room: Path, count: int, rng: random.Random) -> None:
 
 
 def main() -> None:
-    """Measures each count."""
+    """Measure each count."""
     parser = argparse.ArgumentParser(usage="python3 -m bench.sitemaps [--seed N]")
     parser.add_argument("--seed", type=int, default=20261125)
     seed = parser.parse_args().seed

@@ -1,4 +1,4 @@
-"""Crates of a small program of its own, beside copies of the repository's crates that it stands on."""
+"""Crates of a small program of its own, next to copies of the repository's crates that it needs."""
 import re
 import shutil
 from pathlib import Path
@@ -8,7 +8,7 @@ from tests.program import ROOT
 
 
 def standing_on(root: Path, *names: str) -> list[str]:
-    """Copies these crates and all below them into `root`, and gives their lines of crates.txt."""
+    """Copy these crates and all crates below them into `root`, and return their lines of crates.txt."""
     rows = dict(re.findall(r"(?m)^(\w+):([^\n]*)$", (ROOT / "crates.txt").read_text()))
     wanted, waiting = set(), [*names]
     while waiting:

@@ -1,15 +1,15 @@
-"""The proved program and the plain one (rust/README.md) side by side, in one run on one disk: `make bench-two`.
+"""Compare the proved program with the plain one (rust/README.md), in one run on one disk: `make bench-two`.
 
-  puts     one of 100, 1,000, 10,000 and 48,000 resources is replaced by 4 KiB, each time on the disk before the next;
-           beside them LMDB and SQLite (WAL, synchronous=FULL), which keep the body, both digests, the type, the moment
+  puts     one of 100, 1,000, 10,000 and 48,000 resources is replaced by 4 KiB, on the disk before the next begins; for
+           comparison LMDB and SQLite (WAL, synchronous=FULL), which keep the body, both digests, the type, the moment
            and a log
-  gets     one GET after another, of 100 bytes to 16 MiB, a connection each; beside them lighttpd, which sends a file
+  gets     one GET after another, of 100 bytes to 16 MiB, a connection each; for comparison lighttpd, which sends a file
   verify   four bodies of 16 MiB, and 2,000 of 4 KiB
   opening  48,000 held, changed and published: from the start to the first answer
   publish  48,000 held, one of them replaced before each publication
 
-The contenders take turns, put by put, so that what else the machine does meets all alike. A figure is the median of the
-clock; behind it is the processor's time of the program or the server without its client, of LMDB and SQLite with it.
+The contenders take turns, put by put, so that other load on the machine affects all alike. The figures are the median
+on the clock, and the processor time of the program or the server without its client, of LMDB and SQLite with it.
 
 usage: /usr/bin/python3 -m bench.two [PROVED PLAIN] [--short]
 It needs Debian's lighttpd and python3-lmdb; ROOM in the environment is the folder for the files.
@@ -34,7 +34,7 @@ from tests.program import PROGRAM, ROOT
 
 PLAIN = ROOT / f"out/rust/ropepeach-plain-{(ROOT / 'VERSION').read_text().strip()}/target/release/rs_source"
 HELD, PUTS = (100, 1_000, 10_000, 48_000), 200
-# The lengths of bodies, and how many GETs there are of each.
+# The lengths of bodies, and the number of GETs of each.
 GETS = {100: 400, 4_096: 400, 65_536: 400, 1 << 20: 60, 16 << 20: 15}
 TURNS, MIB, PORT = 7, 1 << 20, 8098
 
@@ -44,42 +44,42 @@ Store = Callable[[int, bytes], None]
 
 @dataclass
 class Times:
-    """What one contender took: seconds on the clock for each turn, and seconds of a processor in all."""
+    """The times of one contender: clock seconds by turn, and processor seconds in total."""
     clock: list[float] = field(default_factory=list)
     processor: float = 0.0
 
     def text(self) -> str:
-        """Milliseconds for a turn: on the clock, and of a processor."""
+        """Return the milliseconds per turn: on the clock, and of the processor."""
         return f"{1000 * statistics.median(self.clock):.2f} ({1000 * self.processor / len(self.clock):.2f})"
 
 
 def used(process: int) -> float:
-    """The seconds of a processor that a process took so far."""
+    """Return the processor seconds of a process so far."""
     return int(Path(f"/proc/{process}/schedstat").read_text().split()[0]) / 1e9
 
 
 def body(number: int) -> bytes:
-    """The bytes of a put."""
+    """Return the bytes of a put."""
     return hashlib.shake_256(number.to_bytes(4, "big")).digest(4096)
 
 
 class Program(Asked):
-    """A program on a file, which is asked line by line, and whose processor's time is noted."""
+    """A program on a file, queried line by line, with its processor time recorded."""
 
     def note(self, line: str, wanted: str, times: Times) -> None:
-        """Asks a line, which has to be answered well."""
+        """Ask a line, check its answer, and record the times."""
         before = used(self.process.pid)
         times.clock.append(timed(self, line, wanted))
         times.processor += used(self.process.pid) - before
 
 
 def facts(data: bytes) -> bytes:
-    """The type and both digests of a body."""
+    """Return the type and both digests of a body."""
     return b"text/plain" + hashlib.md5(data).digest() + hashlib.sha256(data).digest()
 
 
 def in_lmdb(room: Path, count: int) -> Store:
-    """A store of LMDB with this many resources, and its put."""
+    """Fill an LMDB store with `count` resources, and return its put."""
     import lmdb
 
     environment = lmdb.open(str(room / f"lmdb{count}"), map_size=1 << 30, max_dbs=2)
@@ -98,7 +98,7 @@ def in_lmdb(room: Path, count: int) -> Store:
 
 
 def in_sqlite(room: Path, count: int) -> Store:
-    """A store of SQLite with this many resources, and its put."""
+    """Fill an SQLite store with `count` resources, and return its put."""
     base = sqlite3.connect(room / f"{count}.sqlite", isolation_level=None)
     base.execute("pragma journal_mode=wal")
     base.execute("pragma synchronous=full")
@@ -120,7 +120,7 @@ def in_sqlite(room: Path, count: int) -> Store:
 
 
 def timed_here(put: Store, number: int, data: bytes, times: Times) -> None:
-    """Times a put by this process."""
+    """Time a put by this process."""
     before, began = time.process_time(), time.perf_counter()
     put(number, data)
     times.clock.append(time.perf_counter() - began)
@@ -128,7 +128,7 @@ def timed_here(put: Store, number: int, data: bytes, times: Times) -> None:
 
 
 def puts(programs: dict[str, Path], room: Path, resources: int, count: int) -> None:
-    """Puts at a number of resources held."""
+    """Time puts at a number of held resources."""
     opened, stores = {}, {"LMDB": in_lmdb(room, resources), "SQLite": in_sqlite(room, resources)}
     disk = spelled(resources, min(resources, 49_000))
     for key, program in programs.items():
@@ -150,7 +150,7 @@ def puts(programs: dict[str, Path], room: Path, resources: int, count: int) -> N
 
 
 def got(port: int, length: int) -> None:
-    """One GET over a connection of its own, read to its end."""
+    """Make one GET over a connection of its own, and read it to its end."""
     with socket.create_connection(("127.0.0.1", port), timeout=60) as connection:
         connection.sendall(f"GET /resource/r{length} HTTP/1.1\r\nHost: a\r\nConnection: close\r\n\r\n".encode())
         found, room = 0, bytearray(1 << 20)
@@ -161,7 +161,7 @@ def got(port: int, length: int) -> None:
 
 
 def filled(program: Path, file: Path, size: int, bodies: list[tuple[str, int]]) -> None:
-    """A source on a new file with these bodies."""
+    """Make a source on a new file with these bodies."""
     subprocess.run([program, "format", file, str(size), "http://a", "1000"], check=True, capture_output=True)
     with served(program, file, len(bodies)) as (_, port):
         for key, length in bodies:
@@ -175,7 +175,7 @@ def filled(program: Path, file: Path, size: int, bodies: list[tuple[str, int]]) 
 
 @contextlib.contextmanager
 def served(program: Path, file: Path, count: int) -> Iterator[tuple[int, int]]:
-    """A source that is served: its process and its port."""
+    """Serve a source; yield its process and its port."""
     server = subprocess.Popen([program, "serve", file, "0", str(count)], stdout=subprocess.PIPE, text=True)
     try:
         assert server.stdout
@@ -187,7 +187,7 @@ def served(program: Path, file: Path, count: int) -> Iterator[tuple[int, int]]:
 
 @contextlib.contextmanager
 def lighttpd(room: Path) -> Iterator[tuple[int, int]]:
-    """lighttpd over files of the same lengths: its process and its port."""
+    """Serve files of the same lengths with lighttpd; yield its process and its port."""
     (room / "www/resource").mkdir(parents=True)
     for length in GETS:
         (room / f"www/resource/r{length}").write_bytes(os.urandom(length))
@@ -207,7 +207,7 @@ def lighttpd(room: Path) -> Iterator[tuple[int, int]]:
 
 
 def gets(programs: dict[str, Path], room: Path, is_short: bool) -> None:
-    """GETs of each length."""
+    """Time GETs of each length."""
     with contextlib.ExitStack() as stack:
         servers = {}
         for key, program in programs.items():
@@ -227,7 +227,7 @@ def gets(programs: dict[str, Path], room: Path, is_short: bool) -> None:
 
 
 def verifications(programs: dict[str, Path], room: Path, is_short: bool) -> None:
-    """`verify` of few large bodies, and of many small ones."""
+    """Time `verify` of few large bodies, and of many small ones."""
     for count, length in ((4, 16 * MIB), (200 if is_short else 2_000, 4_096)):
         times = {key: Times() for key in programs}
         for key, program in programs.items():
@@ -245,7 +245,7 @@ def verifications(programs: dict[str, Path], room: Path, is_short: bool) -> None
 
 
 def opened_and_published(programs: dict[str, Path], room: Path, resources: int) -> None:
-    """Openings, and publications after one put each."""
+    """Time openings, and publications after one put each."""
     opening, publishing = ({key: Times() for key in programs} for _ in range(2))
     disk = spelled(resources, min(resources, 49_000))
     for turn in range(TURNS):
@@ -264,7 +264,7 @@ def opened_and_published(programs: dict[str, Path], room: Path, resources: int) 
 
 
 def main() -> None:
-    """Measures all, and prints a table."""
+    """Measure all, and print a table."""
     words = argparse.ArgumentParser(usage="/usr/bin/python3 -m bench.two [PROVED PLAIN] [--short]")
     words.add_argument("proved", nargs="?", type=Path, default=PROGRAM)
     words.add_argument("plain", nargs="?", type=Path, default=PLAIN)

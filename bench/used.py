@@ -1,10 +1,10 @@
-"""What the set of used blocks costs a command, on a disk of 8,388,608 blocks.
+"""Measure the cost of the set of used blocks for a command, on a disk of 8,388,608 blocks.
 
 A small program in a folder of its own, which `rt run` proves and builds, fills the front of the set with bodies of 4
-KiB and the pages and directories beside them, for this many resources held, changed and published, and then does with
-it what a put does: it finds and takes the lowest runs for the body, a page of records, a page of changes and the
-directory, and gives them back; and, as after the commit, takes them again and gives others back. It tells the time of
-one such command.
+KiB and their pages and directories, for this many resources held, changed and published. It then repeats the operations
+of a put: it finds and takes the lowest runs for the body, a page of records, a page of changes and the directory, and
+gives them back; and, as after the commit, takes them again and gives others back. It prints the time of one such
+command.
 """
 import shutil
 import subprocess
@@ -90,7 +90,7 @@ fn main(rt: HostRuntime) -> anyhow::Result<()> {
 
 
 def build(root: Path) -> Path:
-    """The program, proved and built, by its path."""
+    """Prove and build the program, and return its path."""
     crate = root / "crates" / "used"
     shutil.copytree(ROOT / "crates" / "rs_extent", root / "crates" / "rs_extent", ignore=shutil.ignore_patterns("out"))
     (crate / "src").mkdir(parents=True)
@@ -104,7 +104,7 @@ def build(root: Path) -> Path:
 
 
 def main() -> None:
-    """Builds the program, and prints its figures."""
+    """Build the program, and print its figures."""
     with tempfile.TemporaryDirectory() as folder:
         done = subprocess.run([str(build(Path(folder)))], capture_output=True, text=True, check=True)
     least: dict[int, int] = {}

@@ -1,7 +1,7 @@
-"""`verify` beside the kit's SHA-256 over the same bytes: four bodies of 16 MiB, and 2,000 of 4 KiB, each on a file of
-its own.
+"""Compare `verify` with the kit's SHA-256 over the same bytes: four bodies of 16 MiB, and 2,000 of 4 KiB, each on a
+file of its own.
 
-The time of `verify` is that of a script with it, less that of a script with `status` alone; the least of five.
+The time of `verify` is that of a script with it, minus that of a script with `status` alone; the least of five.
 """
 import http.client
 import os
@@ -15,7 +15,7 @@ from tests.program import PROGRAM
 
 
 def filled(file: str, size: int, count: int, length: int) -> None:
-    """A source on a new file with this many bodies of this length."""
+    """Make a source on a new file with `count` bodies of `length` bytes."""
     subprocess.run([str(PROGRAM), "format", file, str(size), "http://127.0.0.1:8080", "1000"],
                    stdout=subprocess.DEVNULL, check=True)
     server, port = serve(file, count)
@@ -28,7 +28,7 @@ def filled(file: str, size: int, count: int, length: int) -> None:
 
 
 def seconds_of(file: str, line: str, wanted: str) -> float:
-    """The least time of a script of one line in five runs."""
+    """Return the least time of a script of one line in five runs."""
     times = []
     for _ in range(5):
         began = time.perf_counter()
@@ -40,7 +40,7 @@ def seconds_of(file: str, line: str, wanted: str) -> float:
 
 
 def main() -> None:
-    """Prints the figures."""
+    """Print the figures."""
     with tempfile.TemporaryDirectory() as room:
         sha256 = hashing.seconds()[2] / 16
         for count, length in ((4, 16 << 20), (2_000, 4_096)):

@@ -1,7 +1,7 @@
-"""The writing of lists alone, from one view of a state: a list of 4,000 resources in one document, and all parts of
-50,000 resources one after another at an item limit of 4,000; each measured too (`document_length`).
+"""Time the writing of lists alone, from one view of a state: a list of 4,000 resources in one document, and all parts
+of 50,000 resources one after another at an item limit of 4,000; each measured too (`document_length`).
 
-Writes a small program in a folder of its own, proves and builds it with `rt run`, and lets it time itself.
+The module writes a small program in a folder of its own, proves and builds it with `rt run`, and lets it time itself.
 """
 import pathlib
 import subprocess
@@ -109,7 +109,7 @@ USES = "rs_caps rs_io rs_lists rs_model rs_record rs_time"
 
 
 def main() -> None:
-    """Builds the program, and prints its figures."""
+    """Build the program, and print its figures."""
     with tempfile.TemporaryDirectory() as folder:
         root = pathlib.Path(folder)
         lines = small.standing_on(root, *USES.split())

@@ -1,4 +1,4 @@
 """The image for containers (OCI): a small Debian with the two packages, in one layer.
 
-`make image` makes it by Debian's own tools.
+`make image` makes it with Debian's own tools.
 """

@@ -1,7 +1,7 @@
-"""Makes the image for containers of the Debian packages: `make image`, as root.
+"""Make the image for containers from the Debian packages: `make image`, as root.
 
 usage: python3 -m operations.image PACKAGE.deb PACKAGE.deb [--to FOLDER] [--base ARCHIVE.tar.gz]
-The layout is FOLDER/layout. Exit status 1 if it can't be made: it says why.
+The layout is FOLDER/layout. Exit status 1, with an error message, on failure.
 """
 from __future__ import annotations
 
@@ -21,7 +21,7 @@ NEEDED = {"debootstrap": "debootstrap", "umoci": "umoci", "dpkg": "dpkg"}
 
 
 def made(packages: list[Path], to: Path, base: Path | None = None) -> Path:
-    """Makes the layout of an image. `base` is an archive of the Debian, if one is kept."""
+    """Make the layout of an image. `base` is an archive of the Debian, or None."""
     version, when = (ROOT / "VERSION").read_text().strip(), moment()
     to.mkdir(parents=True, exist_ok=True)
     with tempfile.TemporaryDirectory(prefix="image-") as room:
@@ -38,7 +38,7 @@ def made(packages: list[Path], to: Path, base: Path | None = None) -> Path:
 
 
 def main() -> str | int:
-    """Makes it, or says why not."""
+    """Make the image, or return an error text."""
     words = argparse.ArgumentParser(prog="image", description="Makes the image for containers of the Debian packages.",
                                     allow_abbrev=False)
     words.add_argument("packages", nargs=2, type=Path, metavar="PACKAGE.deb")

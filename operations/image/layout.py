@@ -1,4 +1,4 @@
-"""The image itself: an OCI layout of one layer, by umoci, and an archive of it that podman loads."""
+"""The image: an OCI layout of one layer, made by umoci, and an archive of it for podman."""
 from __future__ import annotations
 
 import datetime
@@ -12,7 +12,7 @@ COMMAND = ("serve", "/data/source.disk", "8080", "1000000000")
 
 
 def settings(version: str, user: str) -> list[str]:
-    """How a container of the image runs: its user, its program, its one volume."""
+    """Return the settings of the image's containers: the user, the program and the single volume."""
     labels = {"title": "Ropepeach", "version": version, "licenses": "MIT OR Apache-2.0",
               "description": "a proved source for the ResourceSync Framework"}
     words = ["--config.user", user, "--config.volume", "/data", "--config.workingdir", "/data", "--config.exposedports",
@@ -26,7 +26,7 @@ def settings(version: str, user: str) -> list[str]:
 
 
 def layout(root: Path, to: Path, version: str, user: str, moment: int) -> Path:
-    """Makes the layout of the files of an image."""
+    """Make the layout from the files of an image."""
     shutil.rmtree(to, ignore_errors=True)
     when, image = datetime.datetime.fromtimestamp(
         moment, datetime.timezone.utc).strftime("%Y-%m-%dT%H:%M:%SZ"), f"{to}:{version}"
@@ -39,7 +39,7 @@ def layout(root: Path, to: Path, version: str, user: str, moment: int) -> Path:
 
 
 def archive(made: Path, to: Path, moment: int) -> Path:
-    """Makes one file of a layout, as `podman load` takes it."""
+    """Make one file from a layout, as `podman load` takes it."""
     done("tar", "--create", "--sort=name", f"--mtime=@{moment}", "--owner=0", "--group=0", "--numeric-owner",
          "--mode=u=rwX,go=rX",
          "--format=ustar", "--file", to, "--directory", made, ".")

@@ -1,4 +1,4 @@
-"""The files of the image: a small Debian with this repository's two packages, without what a container doesn't use."""
+"""The files of the image: a small Debian with this repository's two packages, without files unused in containers."""
 from __future__ import annotations
 
 import os
@@ -11,10 +11,10 @@ from pathlib import Path
 from operations.package.program_facts import Unfit
 
 SUITE, REGISTRY = "bookworm", "http://deb.debian.org/debian"
-# What the packages depend on (a user is made without systemd), and the first process of a container.
-INCLUDED = ("tini", "python3", "python3-defusedxml", "python3-tqdm", "python3-urllib3", "curl", "ca-certificates",
+# The dependencies of the packages (the user is made without systemd), and the first process of a container.
+INCLUDED = ("tini", "python3", "python3-defusedxml", "python3-tqdm", "python3-pycurl", "curl", "ca-certificates",
             "systemd-standalone-sysusers")
-# What nobody reads in a container, and what differs from one making to the next.
+# Files that nobody reads in a container, or that differ from build to build.
 DROPPED = ("var/lib/apt/lists", "var/cache/apt", "var/cache/debconf", "var/cache/ldconfig", "var/log", "usr/share/doc",
            "usr/share/man",
            "usr/share/info", "usr/share/locale", "usr/share/lintian", "run", "tmp", "root", "var/lib/systemd",
@@ -22,14 +22,14 @@ DROPPED = ("var/lib/apt/lists", "var/cache/apt", "var/cache/debconf", "var/cache
 DROPPED_FILES = ("etc/machine-id", "etc/passwd-", "etc/group-", "etc/shadow-", "etc/gshadow-",
                  "var/lib/dpkg/status-old",
                  "var/lib/dpkg/diversions-old", "etc/hostname", "etc/resolv.conf", ".dockerenv")
-# The user of the image, and its number in every release.
+# The user of the image, with the same number in every release.
 USER, NUMBER = "ropepeach", 10_001
-# No step is waited for longer than this, in seconds.
+# The timeout of every step, in seconds.
 SECONDS = 600
 
 
 def done(*words: str | Path) -> None:
-    """Runs a program, which has to end well."""
+    """Run a program, which must succeed."""
     ended = subprocess.run([str(word) for word in words], stdin=subprocess.DEVNULL, capture_output=True, text=True,
                            errors="replace",
                            timeout=SECONDS,
@@ -40,19 +40,19 @@ def done(*words: str | Path) -> None:
 
 
 def debian(root: Path, registry: str = REGISTRY) -> None:
-    """Makes a small Debian in a folder."""
+    """Make a small Debian in a folder."""
     done("debootstrap", "--variant=minbase", f"--include={','.join(INCLUDED)}", SUITE, root, registry)
 
 
 def add_user(root: Path) -> None:
-    """Makes the source's user before the package does: its number stays the same, as the files of volumes have it."""
+    """Make the source's user before the package does, so that it keeps the number recorded in the files of volumes."""
     done("chroot", root, "groupadd", "--gid", str(NUMBER), USER)
     done("chroot", root, "useradd", "--uid", str(NUMBER), "--gid", str(NUMBER), "--home-dir", "/data",
          "--no-create-home", "--shell", "/usr/sbin/nologin", USER)
 
 
 def install(root: Path, packages: Sequence[Path]) -> None:
-    """Installs the packages, without a network."""
+    """Install the packages, without a network."""
     for package in packages:
         shutil.copy(package, root / package.name)
     done("chroot", root, "dpkg", "--install", *(f"/{package.name}" for package in packages))
@@ -61,9 +61,9 @@ def install(root: Path, packages: Sequence[Path]) -> None:
 
 
 def trim(root: Path, moment: int) -> None:
-    """Takes away what a container doesn't use, and dates the rest alike.
+    """Remove files that a container doesn't use, and give all others the same date.
 
-    So two images of one set of packages have the same bytes.
+    Two images of the same packages then have the same bytes.
     """
     for name in DROPPED:
         folder = root / name
@@ -75,10 +75,10 @@ def trim(root: Path, moment: int) -> None:
     for path in root.rglob("__pycache__"):
         shutil.rmtree(path, ignore_errors=True)
     shadow = root / "etc/shadow"
-    # (the third field is the day on which a password was changed; no user has one)
+    # The third field is the day of the last password change; no user has a password.
     shadow.write_text(re.sub(r"(?m)^([^:]*:[^:]*):\d*:", rf"\1:{moment // 86_400}:", shadow.read_text()))
     (root / "data").mkdir(exist_ok=True)
-    # (a named volume begins with its owner and its mode; the builder's mask is no matter)
+    # A named volume takes its owner and its mode from here, whatever the builder's umask.
     os.chown(root / "data", NUMBER, NUMBER)
     (root / "data").chmod(0o755)
     for path in [*root.rglob("*"), root]:
