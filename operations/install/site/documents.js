@@ -6,8 +6,9 @@ import { NoDocument, attributesOf, read, resolved } from "./xml.js";
 const SITEMAP = "http://www.sitemaps.org/schemas/sitemap/0.9";
 const TERMS = "http://www.openarchives.org/rs/terms/";
 const MOMENT = /^\d{4}-(?:0[1-9]|1[0-2])-(?:0[1-9]|[12]\d|3[01])T(?:[01]\d|2[0-3]):[0-5]\d:[0-5]\d\.\d{3}Z$/;
-// No answer is waited for longer than this, and Sitemap 0.9 allows no more entries in a document.
-const MILLISECONDS = 60_000;
+// Milliseconds until an answer begins, and until it ends. Sitemap 0.9 allows no more entries in a document.
+const BEGINS = 10_000;
+const ENDS = 60_000;
 const MOST_ENTRIES = 50_000;
 // What the `rs:md` of an entry says of a resource, in the order in which sources write it.
 const SAID = ["change", "datetime", "hash", "length", "type"];
@@ -58,12 +59,17 @@ export const limit = (milliseconds) => /** @type {any} */ (AbortSignal).timeout(
  */
 export async function asked(address, cache = "no-cache") {
   let answer;
+  const stop = new AbortController();
+  const late = setTimeout(() => stop.abort(), BEGINS);
   try {
-    answer = await fetch(address, { cache, redirect: "error", signal: limit(MILLISECONDS) });
-  } catch (fault) {
-    const isLate = fault instanceof DOMException && fault.name === "TimeoutError";
-    throw new Trouble("unreachable", isLate ? "It did not answer within a minute." : "It does not answer this browser.");
+    answer = await fetch(address, { cache, redirect: "error", signal: stop.signal });
+  } catch {
+    const why = stop.signal.aborted ? `No response for ${BEGINS / 1_000} s.` : "It does not answer this browser.";
+    throw new Trouble("unreachable", why);
+  } finally {
+    clearTimeout(late);
   }
+  setTimeout(() => stop.abort(), ENDS);
   if (answer.ok) return answer;
   throw await refusal(address, answer);
 }

@@ -13,12 +13,12 @@ import { Tabs } from "./tabs.js";
 
 // How often the lists are asked for while the page is looked at, in milliseconds.
 const EVERY = 30_000;
-const LEAD = "Its lists name each resource that it holds, and each change.";
 const LEADS = "Their lists name each resource that they hold, and each change.";
 const place = (/** @type {string} */ id) => /** @type {HTMLElement} */ (document.getElementById(id));
 const here = new URL(".", location.href).href.slice(0, -1);
 const hostOf = (/** @type {string} */ base) => base.replace(/^https?:\/\//, "");
 const about = aboutAt(here);
+const head = { what: "source", host: hostOf(here), title: "" };
 
 /**
  * Says something to those who hear the page.
@@ -26,6 +26,17 @@ const about = aboutAt(here);
  */
 function say(text) {
   place("live").textContent = text;
+}
+
+/**
+ * Shows more of the page's head: whether it is a source or a collection, its host, its operator's title.
+ * @param {Partial<typeof head>} more
+ */
+function showHead(more) {
+  const { what, host, title } = Object.assign(head, more);
+  tell(place("kind"), `ResourceSync ${what}${title && ` at ${host}`}`);
+  tell(place("title"), title || host);
+  document.title = title ? `${title} – ${host}` : `${host} – a ${what} to mirror`;
 }
 
 /** The page of one source, or of many in tabs. */
@@ -41,7 +52,9 @@ class Page {
     this.sums = this.isCollection ? this.sumsOf() : null;
     if (this.sums) this.showTabs(this.sums);
     else place("main").append(this.panels[0].root);
-    this.showHead(bases);
+    if (this.isCollection) tell(place("lead"), `A collection of ${bases.length} sources. ${LEADS}`);
+    showHead(this.isCollection ? { what: "collection" } : { host: hostOf(bases[0]) });
+    about.then((it) => this.panels.forEach((panel) => panel.showTools(it.tools_address)));
     this.navigation.follow(true);
   }
 
@@ -80,28 +93,6 @@ class Page {
     const all = this.tabs.add("All", sums.root);
     place("main").append(all, ...this.panels.map((it) => this.tabs.add(it.label, it.root)));
     place("tabs").hidden = false;
-  }
-
-  /**
-   * Shows the source, or the collection, in the page's head, and who runs it.
-   * @param {string[]} bases
-   */
-  showHead(bases) {
-    const { isCollection } = this;
-    const [host, number] = [hostOf(isCollection ? here : bases[0]), bases.length];
-    const kind = isCollection ? "ResourceSync collection" : "ResourceSync source";
-    tell(place("kind"), kind);
-    tell(place("title"), host);
-    tell(place("lead"), isCollection ? `A collection of ${number} sources. ${LEADS}` : LEAD);
-    document.title = `${host} – ${isCollection ? "a collection" : "a source"} to mirror`;
-    about.then((it) => {
-      showAbout(place("about"), it);
-      for (const panel of this.panels) panel.showTools(it.tools_address);
-      if (!it.title) return;
-      tell(place("kind"), `${kind} at ${host}`);
-      tell(place("title"), it.title);
-      document.title = `${it.title} – ${host}`;
-    });
   }
 
   /**
@@ -163,7 +154,6 @@ async function find() {
     } catch (fault) {
       const trouble = fault instanceof Trouble ? fault : { kind: "wrong", message: `This page failed: ${fault}` };
       const text = `${troubleWord(trouble)}. ${troubleText(trouble)}`;
-      tell(place("title"), hostOf(here));
       Object.assign(place("notice"), { hidden: false, textContent: text });
       place("notice").dataset.tone = "bad";
       say(text);
@@ -178,6 +168,11 @@ async function pause() {
   while (document.hidden) await new Promise((go) => document.addEventListener("visibilitychange", go, { once: true }));
 }
 
+showHead({});
+about.then((it) => {
+  showAbout(place("about"), it);
+  showHead({ title: it.title ?? "" });
+});
 const page = new Page(await find());
 for (;;) {
   await page.read();

@@ -1,7 +1,7 @@
 // The state of a source in words, each told apart from the others, and what a reader should know of it.
 
 import { linked } from "./elements.js";
-import { clock, count, counted } from "./formats.js";
+import { age, clock, count, counted } from "./formats.js";
 import { readable } from "./names.js";
 
 // For each state its word, and whether it is good (nothing needs to be said), a thing to wait for, or bad.
@@ -10,6 +10,8 @@ const STATES = {
   reading: ["Reading", "wait"],
   unread: ["Not read yet", "wait"],
   open: ["Open", "good"],
+  full: ["Full", "wait"],
+  nearly: ["Nearly full", "wait"],
   empty: ["Empty", "wait"],
   closed: ["Closed", "bad"],
   unreachable: ["Unreachable", "bad"],
@@ -23,6 +25,9 @@ const CLOSED = "A call on its disk failed, and it answers nothing until its keep
 const AGAIN = "This page asks again every half minute.";
 // This many of the names that no mirror takes are shown.
 const NAMED = 3;
+// A source takes no more resources and changes than this, and is nearly full above this share.
+const MOST = 50_000;
+const NEARLY = 0.9;
 
 /** @typedef {{kind: string, message: string}} Told  a trouble */
 /** @typedef {import("./model.js").Holding} Holding */
@@ -53,6 +58,8 @@ function kindOf(trouble, holding, differing, isUnread) {
   if (!holding) return isUnread ? "unread" : "reading";
   if (holding.contradictions || differing.length) return "disagrees";
   if (holding.unlawful.length) return "refused";
+  const most = Math.max(holding.resources.length, holding.changes.length);
+  if (most > NEARLY * MOST) return most < MOST ? "nearly" : "full";
   return holding.resources.length ? "open" : "empty";
 }
 
@@ -90,7 +97,19 @@ function holdingWhy(kind, holding, differing) {
   if (!holding) return "";
   if (kind === "disagrees") return [contradictionText(holding), bodiesText(differing)].filter(Boolean).join(" ");
   if (kind === "refused") return unlawfulText(holding.unlawful);
+  if (kind === "full" || kind === "nearly") return roomText(holding);
   return kind === "empty" ? "It holds nothing now." : "";
+}
+
+/**
+ * The lists that have little room left, and what the operator can do.
+ * @param {Holding} holding
+ */
+function roomText({ resources, changes }) {
+  const text = (/** @type {number} */ number, /** @type {string} */ noun, /** @type {string} */ remedy) =>
+    (number > NEARLY * MOST ? [`${count(number)} of ${count(MOST)} ${noun}. The operator can ${remedy}.`] : []);
+  return [...text(resources.length, "resources", "delete some, or add a source"),
+    ...text(changes.length, "changes kept", "publish, which drops old changes")].join(" ");
 }
 
 /** @param {Holding} holding */
@@ -128,11 +147,21 @@ export function showState(root, parts, state, readAt, isOld) {
   root.dataset.isOld = String(isOld);
   parts.state.dataset.tone = state.tone;
   parts["state-word"].textContent = state.word;
-  parts["state-more"].textContent = readAt ? `, ${isOld ? "last " : ""}read at ${clock(readAt)} UTC` : "";
+  parts["state-more"].textContent = readAt ? readText(readAt, isOld) : "";
   parts.banner.hidden = !state.why;
   parts.banner.dataset.tone = state.tone;
   parts.word.textContent = `${state.word}.`;
   if (parts.why.textContent !== state.why) parts.why.textContent = state.why;
+}
+
+/**
+ * When the figures were read, and their age if a later reading failed.
+ * @param {number} readAt
+ * @param {boolean} isOld
+ */
+function readText(readAt, isOld) {
+  const at = `read at ${clock(readAt)} UTC`;
+  return isOld ? `, last ${at}, ${age(new Date(readAt).toISOString())}` : `, ${at}`;
 }
 
 /**

@@ -1,13 +1,17 @@
 """Test the page with hostile, lying, closed, missing and multiple fake sources."""
 import dataclasses
+import json
+import re
+import threading
 from collections.abc import Callable
+from pathlib import Path
 
 import pytest
 
 from operations.tests.page import fake as fakes, scripts
 from operations.tests.page.browser import Asking
 from operations.tests.page.fake import current
-from operations.tests.page.looked import IN_BROWSER, SOON, Looked, Shown, exchanged
+from operations.tests.page.looked import IN_BROWSER, SECONDS, SOON, Looked, Shown, exchanged
 from operations.tests.system import install_shared
 from operations.tests.tools.lists_server import always, serving
 from tests.served_source import free_port
@@ -200,6 +204,66 @@ def test_a_closed_or_missing_source_is_reported_and_the_figures_stay(look: Looke
         browser.state("Elsewhere")
         assert browser.run("return document.querySelector('.banner a').href") == "http://elsewhere.example/"
         look.is_well()
+
+
+def holding(base: str, number: int) -> fakes.Fake:
+    """Return a source with a number of resources and changes."""
+    changes = [fakes.entry_of(f"{at:03}", b"", fakes.BEGUN + at, "created") for at in range(number)]
+    return fakes.published(fakes.Fake(base, changes=changes), fakes.BEGUN + number)
+
+
+@pytest.mark.parametrize(("number", "word", "why"), [
+    (90, "Open", ""), (91, "Nearly full", "91 of 100 resources."),
+    (100, "Full", "100 of 100 changes kept. The operator can publish")])
+def test_a_source_with_little_room_is_not_called_open(look: Looked, number: int, word: str, why: str) -> None:
+    """Above 90% of the limit the state is amber, with the figure and the remedy."""
+    limit = "state.js", "MOST = 50_000", "MOST = 100"
+    with look.hurried(*limit), look.fake(lambda base: holding(base, number)) as shown:
+        look.chromium.open(f"{shown.base}/")
+        look.chromium.state(word)
+        assert why in look.chromium.text("why")
+        colours = """const of = (it, name) => getComputedStyle(it)[name];
+            const [dot, banner] = [document.querySelector(".dot"), document.querySelector(".source .banner")];
+            return [of(dot, "backgroundColor") === of(banner, "borderLeftColor"), banner.checkVisibility()];"""
+        assert look.chromium.run(colours) == [bool(why), bool(why)]
+
+
+def test_a_source_that_hangs_is_reported(look: Looked) -> None:
+    """Without a response for some seconds the page dims the last figures, and shows their age."""
+    browser, answers = look.chromium, threading.Event()
+    with look.hurried("documents.js", "BEGINS = 10_000", "BEGINS = 300"), look.fake(
+            lambda base: fakes.archive(base, 30)) as shown:
+        browser.open(f"{shown.base}/")
+        browser.state("Open")
+        right = shown.server.answer
+        shown.server.answer = lambda path: right(path) if answers.wait(SECONDS) else right(path)
+        try:
+            browser.click("again")
+            browser.state("Unreachable")
+            assert "No response for 0.3 s." in browser.text("why")
+            assert re.search(r", last read at [\d:]+ UTC, (\d+ seconds? ago|just now)$", browser.text("state-more"))
+            assert browser.run("return document.querySelector('.source').dataset.isOld") == "true"
+            assert browser.text("resources") == "30"
+        finally:
+            answers.set()
+        browser.click("again")
+        browser.state("Open")
+
+
+def test_the_operator_is_shown_before_the_source_answers(look: Looked) -> None:
+    """A source with a status of 502 at the first visit has a title, an operator and a contact."""
+    def operated(page: Path) -> None:
+        texts = {"title": "Papers", "keeper": "A library", "contact": "a@b.example"}
+        (page.parent / "settings/source.json").write_text(json.dumps(texts))
+
+    look.edit = operated
+    with look.fake(lambda base: dataclasses.replace(fakes.archive(base, 30), refusal=(502, "text/html", b"x"))) as shown:
+        look.chromium.open(f"{shown.base}/")
+        look.chromium.until("return document.getElementById('notice').textContent.includes('502')", "the notice")
+        found = look.chromium.run("""
+            const parts = ["keeper", "contact"].map((it) => document.querySelector(`[data-part="${it}"]`).innerText);
+            return [document.getElementById("title").textContent, ...parts];""")
+        assert found == ["Papers", "A library", "a@b.example"]
 
 
 @pytest.mark.needs("openssl")
