@@ -1,4 +1,4 @@
-// The panel of one source: its state, its figures, how to mirror it, its time line, its lists and its checks.
+// The panel of one source: its state, its figures, its lists, its time line, how to mirror it and its checks.
 
 import { fragmentOf } from "./address.js";
 import { Checks } from "./checks.js";
@@ -13,7 +13,6 @@ import { showElsewhere, showState, stateOf } from "./state.js";
 import { Timeline } from "./timeline.js";
 
 const ELSEWHERE = "This source calls itself by another address, at which it can be looked at:";
-const HINT = "Choose a resource to see its facts and its history, and to check it.";
 
 /** @typedef {import("./address.js").Place} Place */
 /** @typedef {import("./source.js").Resource} Resource */
@@ -75,7 +74,7 @@ export class Panel {
     this.hear();
     this.parts.again.addEventListener("click", () => this.read());
     this.showMirror();
-    this.showEmptyCard();
+    this.hideCard();
     this.state = stateOf(null, null, [], true);
     showState(this.root, this.parts, this.state, 0, false);
   }
@@ -109,10 +108,12 @@ export class Panel {
 
   /** Shows how the source is mirrored, and how it is filled. */
   showMirror() {
-    const { command, copy, description, capabilities, filling } = this.parts;
+    const { command, copy, copyfilling, description, capabilities, filling } = this.parts;
     command.textContent = `ropepeach mirror ${this.base} mirror`;
     filling.textContent = `ropepeach fill FOLDER ${this.base}`;
-    copy.addEventListener("click", () => this.copy(command.textContent, copy, "The command is copied."));
+    for (const [button, code] of [[copy, command], [copyfilling, filling]]) {
+      button.addEventListener("click", () => this.copy(code.textContent, button, "The command is copied."));
+    }
     description.href = `${this.here}${DESCRIPTION}`;
     capabilities.href = `${this.base}/capabilitylist.xml`;
   }
@@ -220,7 +221,7 @@ export class Panel {
     const { parts } = this;
     tell(parts.resources, count(holding.resources.length));
     const since = `${count(holding.listed.length)} listed, ${counted(holding.since, "change")} since`;
-    tell(parts.since, holding.since ? since : "all are listed");
+    tell(parts.since, holding.since ? since : holding.listed.length ? "all are listed" : "");
     tell(parts.size, size(holding.bytes));
     tell(parts.bytes, holding.bytes >= 1_000 ? `${count(holding.bytes)} bytes` : "");
     tell(parts.changes, count(holding.changes.length));
@@ -305,7 +306,7 @@ export class Panel {
   close() {
     if (this.chosen === null) return;
     this.chosen = null;
-    this.showEmptyCard();
+    this.hideCard();
     this.listed.rows.redraw();
     this.moved();
   }
@@ -348,10 +349,10 @@ export class Panel {
     rows.goTo(rows.active);
   }
 
-  /** Shows that no resource is chosen. */
-  showEmptyCard() {
+  /** Gives the card's room back where no resource is chosen. */
+  hideCard() {
     this.parts.card.dataset.isOpen = false;
-    this.parts.card.replaceChildren(made("p", "hint", HINT));
+    this.parts.card.replaceChildren();
   }
 
   /**

@@ -98,7 +98,7 @@ function holdingWhy(kind, holding, differing) {
   if (kind === "disagrees") return [contradictionText(holding), bodiesText(differing)].filter(Boolean).join(" ");
   if (kind === "refused") return unlawfulText(holding.unlawful);
   if (kind === "full" || kind === "nearly") return roomText(holding);
-  return kind === "empty" ? "It holds nothing now." : "";
+  return "";
 }
 
 /**

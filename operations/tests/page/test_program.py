@@ -76,6 +76,8 @@ def test_an_empty_source_is_shown(look: Looked) -> None:
         found = [browser.text(part) for part in ("resources", "size", "changes", "changed", "published")]
         assert found == ["0", "0 bytes", "0", "never", "never"]
         assert browser.text("filling") == f"ropepeach fill FOLDER {base}"
+        assert not browser.run("return document.querySelector('.source .banner').checkVisibility()")
+        assert browser.run("return document.querySelector('[data-part=copyfilling]').checkVisibility()")
         for kind, is_shown in (("filling", True), ("checking", False), ("timeline", False),
                                ("holdings", False)):
             is_seen = browser.run("return document.querySelector(`.${arguments[0]}`).checkVisibility()", kind)

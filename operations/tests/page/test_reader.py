@@ -42,14 +42,34 @@ def test_keys_reach_every_control(look: Looked) -> None:
                 break
             width = browser.run("return parseFloat(getComputedStyle(document.activeElement).outlineWidth)")
             assert width >= 2, f"the mark of {found[-1]}"
-        wanted = ["a Skip to the content", "button again", "button copy", "a description", "a changelist",
-                  "button check-some", "button Zoom in",
-                  "group Time line", "summary The time line", "row ", "input search", "button Name",
-                  "row annals"]
+        wanted = ["a Skip to the content", "button again", "input search", "button Name", "row annals",
+                  "button Zoom in", "group Time line", "summary The time line", "row 20", "button copy",
+                  "a description", "a changelist", "button check-some"]
         order = [next((at for at, node in enumerate(found) if node.startswith(word)), -1) for word in wanted]
         assert -1 not in order and order == sorted(order), f"{dict(zip(wanted, order))} of {found}"
         moved(browser, shown)
         look.is_well()
+
+
+TOPS = """
+const wanted = [".state", ".search", ".resources .row", ".timeline", ".pair"];
+return wanted.map((it) => document.querySelector(it).getBoundingClientRect()).map((it) => [it.top, it.bottom]);
+"""
+
+
+def test_the_first_rows_are_shown_without_scrolling(look: Looked) -> None:
+    """State, search, list and changes follow one another; in a wide window Mirror and Check are next to the list."""
+    browser = look.chromium
+    with look.fake(lambda base: fakes.archive(base, 300)) as shown:
+        for size in ((1_440, 900), (768, 1_024), (360, 740)):
+            browser.open("about:blank")
+            browser.open(f"{shown.base}/", size)
+            browser.state("Open")
+            tops = browser.run(TOPS)
+            state, search, row, changes, pair = (top for top, _ in tops)
+            assert state < search < row < changes, f"the order at {size[0]} pixels"
+            assert (pair < row) == (size[0] > 1_200) and (pair > changes) == (size[0] <= 1_200)
+            assert tops[2][1] < size[1], f"the first row at {size[0]} pixels"
 
 
 def moved(browser: Asking, shown: Shown) -> None:

@@ -181,8 +181,10 @@ OF_READERS = [
         "measured::search_addresses_and_checks_work"),
     bug("a text has little contrast", "style.css", "--soft: #a8aeb6;", "--soft: #686e76;",
         "measured::text_has_a_contrast_of_4_5"),
-    bug("two columns are wider than a telephone", "style.css", "repeat(auto-fit, minmax(min(100%, 22rem), 1fr))",
+    bug("two columns are wider than a telephone", "style.css", "repeat(auto-fit, minmax(min(100%, 18rem), 1fr))",
         "repeat(2, 22rem)", "measured::no_element_is_wider_than_the_window"),
+    bug("the list comes after the changes", "style.css", "  .source > .timeline { grid-row: 6; }",
+        "  .source > .timeline { grid-row: 4; }", "reader::the_first_rows_are_shown_without_scrolling"),
     bug("printed rows cover one another", "style.css", ".room .row { position: static;",
         ".room .row { position: absolute;", "reader::the_printed_page_has_all_rows"),
 ]
