@@ -34,7 +34,7 @@ export function given(text, kind = "") {
 }
 
 /**
- * Shows a name in an element, as people read it; `whole` has the mark of one that stays encoded.
+ * Shows a whole name in an element, as people read it; `whole` has the mark of one that stays encoded.
  * @param {Element} element
  * @param {string} name
  */

@@ -1,9 +1,9 @@
 // The two lists of a panel: the resources, searched and sorted, and the changes in view of the time line.
 
-import { given, made, part, showName, tell } from "./elements.js";
+import { given, made, part, tell } from "./elements.js";
 import { count, counted, moment } from "./formats.js";
 import { chosen, search } from "./model.js";
-import { plain } from "./names.js";
+import { kindOf, pieces, plain, readable } from "./names.js";
 import { Rows } from "./rows.js";
 
 const MARKS = { agrees: "✓ agrees", differs: "✗ differs", unasked: "not checked" };
@@ -37,21 +37,34 @@ export function row(...cells) {
 
 /** A cell for a name, which is a link. The keys reach its row, so the link is not in the order of the tab key. */
 export function nameCell() {
-  const link = made("a", "", given(""));
+  const link = made("a", "", made("bdi", "", ...["folders", "segment", "end"].map((it) => made("span", it))));
   link.tabIndex = -1;
   return cell("name", link);
 }
 
 /**
- * Shows a name in its cell, with the address of its resource.
+ * Shows a name in its cell, cut before its end where it lacks room, with the address of its resource.
  * @param {any} cellOfName
  * @param {string} name
  * @param {string} address
  */
 export function fillName(cellOfName, name, address) {
   const link = cellOfName.firstChild;
-  showName(link.firstChild, name, cellOfName);
+  const { text, isMarked } = readable(name);
+  pieces(text).forEach((it, at) => tell(link.firstChild.children[at], it));
+  cellOfName.title = text;
+  cellOfName.classList.toggle("is-encoded", isMarked);
   link.setAttribute("href", address);
+}
+
+/**
+ * Shows a type in its cell by a short word.
+ * @param {any} cellOfType
+ * @param {string} type
+ */
+export function fillType(cellOfType, type) {
+  tell(cellOfType.firstChild, kindOf(type));
+  cellOfType.title = plain(type);
 }
 
 /** The resources of a panel, searched and sorted. */
@@ -101,10 +114,11 @@ export class Listed {
   fill(element, resource) {
     const [name, type, length, put, mark] = /** @type {any} */ (element.children);
     fillName(name, resource.name, this.address(resource.name));
-    tell(type.firstChild, plain(resource.type));
+    fillType(type, resource.type);
     tell(length, count(resource.length));
     tell(put, moment(resource.moment).slice(0, 10));
     const outcome = this.outcome(resource);
+    if (outcome) this.grid.dataset.hasChecks = true;
     tell(mark, outcome ? MARKS[outcome.kind] : "");
     mark.dataset.kind = outcome?.kind ?? "";
   }

@@ -13,6 +13,13 @@ const STAYS = /[A-Za-z0-9._~!$&'()*+,;=:@/%-]/;
 const SEGMENT = "(?!\\.{1,2}(?:/|$))(?:[A-Za-z0-9._~!$&'()*+,;=:@-]|%[0-9A-Fa-f]{2})+";
 const LAWFUL = new RegExp(`^${SEGMENT}(?:/${SEGMENT})*$`);
 const LONGEST = 240;
+// The characters at the end of a name that a line always shows.
+const KEPT = 14;
+const MEDIA_TYPE = /^(([\w!#$&^.+-]+)\/([\w!#$&^.+-]+))\s*(?:;|$)/;
+// Words for the second part of a type.
+/** @type {Record<string, string>} */
+const KINDS = { pdf: "PDF", csv: "CSV", xml: "XML", json: "JSON", html: "HTML", plain: "text", zip: "ZIP", gzip: "gzip",
+  "octet-stream": "binary", markdown: "Markdown", msword: "Word", epub: "EPUB", tar: "tar", "tab-separated-values": "TSV" };
 const utf8 = new TextDecoder("utf-8", { fatal: true, ignoreBOM: true });
 const bytes = new TextEncoder();
 
@@ -34,6 +41,31 @@ export function readable(name) {
  */
 export function plain(text) {
   return UNSAFE.test(text) ? text.replace(EACH_UNSAFE, escapesOf) : text;
+}
+
+/**
+ * The pieces of a name's text for one line: its folders, the beginning and the end of its last segment. Where it lacks
+ * room, the folders are cut first, then the beginning of the segment; its end stays.
+ * @param {string} text
+ */
+export function pieces(text) {
+  const last = text.lastIndexOf("/") + 1;
+  const end = Math.max(last, text.length - KEPT);
+  // (no character of two units is cut)
+  const at = /[\uDC00-\uDFFF]/.test(text[end] ?? "") ? end + 1 : end;
+  return [text.slice(0, last), text.slice(last, at), text.slice(at)];
+}
+
+/**
+ * A type in a word, or the type without parameters where it has none. What is no media type stays as it is.
+ * @param {string} type
+ */
+export function kindOf(type) {
+  const [, all, top, sub] = MEDIA_TYPE.exec(type.toLowerCase()) ?? [];
+  if (!all) return plain(type);
+  if (["image", "audio", "video", "font"].includes(top)) return top;
+  const ending = /\+(json|xml|zip)$/.exec(sub)?.[1] ?? sub.replace(/^x-/, "");
+  return Object.hasOwn(KINDS, ending) ? KINDS[ending] : all;
 }
 
 /**

@@ -3,9 +3,8 @@
 import { fragmentOf } from "./address.js";
 import { copied, given, made, part, tell } from "./elements.js";
 import { age, count, counted, moment, size } from "./formats.js";
-import { cell, fillName, nameCell, row } from "./listed.js";
+import { cell, fillName, fillType, nameCell, row } from "./listed.js";
 import { search, sums } from "./model.js";
-import { plain } from "./names.js";
 import { showMoment } from "./panel.js";
 import { Rows } from "./rows.js";
 
@@ -150,7 +149,7 @@ function fill(element, { panel, resource }) {
   const [name, source, type, length, put] = /** @type {any} */ (element.children);
   fillName(name, resource.name, fragmentOf({ source: panel.key, resource: resource.name }));
   tell(source.firstChild, panel.label);
-  tell(type.firstChild, plain(resource.type));
+  fillType(type, resource.type);
   tell(length, count(resource.length));
   tell(put, moment(resource.moment).slice(0, 10));
 }

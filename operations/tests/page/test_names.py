@@ -68,6 +68,48 @@ def test_names_are_shown_decoded(look: Looked) -> None:
         look.is_well()
 
 
+# Names with more folders, or a longer last segment, than a row has room for; the last characters stay.
+LONG = [f"{'folder/' * 22}report-2026-07.pdf", f"{'f' * 120}/{'s' * 100}-the-end-of-it.csv", "%C3%BC" * 38 + ".txt",
+        "a/%F0%9F%93%9C"]
+TYPES = {"application/pdf": "PDF", "text/csv;charset=utf-8": "CSV", "image/png": "image", "application/ld+json": "JSON",
+         "text/plain": "text", "application/x-odd": "application/x-odd", "toString/constructor": "tostring/constructor"}
+ENDS = """
+return [...document.querySelectorAll(".resources .row .name")].map((it) => {
+  const [cell, end] = [it, it.querySelector(".end")].map((one) => one.getBoundingClientRect());
+  return [it.textContent, it.title === it.textContent, end.left >= cell.left && end.right <= cell.right + 1];
+});
+"""
+
+
+def test_long_names_are_cut_before_their_end(look: Looked) -> None:
+    """A row shows the end of a name's last segment, and has the full name and type as titles."""
+    browser = look.browser
+
+    def long(base: str) -> fakes.Fake:
+        changes = [fakes.entry_of(name, b"", fakes.BEGUN + at, "created", kind)
+                   for at, (name, kind) in enumerate([*((name, "a/b") for name in LONG),
+                                                      *((f"type-{at}", kind) for at, kind in enumerate(TYPES))])]
+        return fakes.published(fakes.Fake(base, changes=changes), fakes.BEGUN + 100)
+
+    with look.fake(long) as shown:
+        for size in ((1_440, 900), (768, 1_024), (360, 1_200)):
+            browser.open("about:blank")
+            browser.open(f"{shown.base}/", size)
+            browser.state("Open")
+            found = browser.run(ENDS)
+            assert len(found) == len(LONG) + len(TYPES)
+            assert [text for text, has_title, is_seen in found if not (has_title and is_seen)] == []
+            folders = "[...document.querySelectorAll('.resources .folders')]"
+            assert browser.run(f"return {folders}.some((it) => it.scrollWidth > it.clientWidth)")
+        titles = "return [...document.querySelectorAll('.row .type')].map((it) => [it.title, it.textContent])"
+        assert dict(browser.run(titles)) == {"a/b": "a/b", **TYPES}
+        assert not browser.run("return document.querySelector('.resources .mark').checkVisibility()")
+        browser.run("document.querySelectorAll('.resources .row')[2].click()")
+        browser.click("check")
+        browser.until("return document.querySelector('.resources .mark[data-kind]').checkVisibility()", "the checks")
+        look.is_well()
+
+
 def archive(base: str) -> fakes.Fake:
     """Return an archive with two names that need escapes in an address."""
     fake = fakes.archive(base, 60)

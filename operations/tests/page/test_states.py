@@ -32,6 +32,8 @@ HOSTILE = [
     ("\U0001f600\u00e9", "a/\u00e9"), ("__proto__", "__proto__"), ("constructor", "toString"),
     ("hasOwnProperty", "valueOf"),
 ]
+# The list shows a media type without its parameters.
+LABELS = {"text/x;a=\"'&amp;\"": "text/x"}
 # Characters that reverse text are shown as escaped bytes of UTF-8.
 TURNING = {"\u202egpj.exe": "%E2%80%AEgpj.exe", "text/\u202eplain": "text/%E2%80%AEplain",
            "text/\u200fplain": "text/%E2%80%8Fplain"}
@@ -53,11 +55,12 @@ def test_markup_in_names_and_types_is_shown_as_text(look: Looked) -> None:
         browser.open(f"{shown.base}/", (1280, 2_000))
         browser.state("Not mirrorable")
         assert "../../up" in browser.text("why")
-        assert sorted(tuple(row[:2]) for row in browser.run(scripts.ROWS, "resources")) == sorted(wanted)
+        labels = sorted((name, LABELS.get(kind, kind)) for name, kind in wanted)
+        assert sorted(tuple(row[:2]) for row in browser.run(scripts.ROWS, "resources")) == labels
         for number, name in enumerate(browser.run(scripts.ROWS, "resources")):
             browser.run("document.querySelectorAll('.resources .row')[arguments[0]].click()", number)
             assert browser.text("name") == name[0]
-            assert browser.text("type") == name[1]
+            assert browser.text("type") == dict(wanted)[name[0]]
         browser.click("check-some")
         browser.until("return /; .* in/.test(document.querySelector(`[data-part='checked']`).textContent)",
                       "the end of the checks")

@@ -192,6 +192,10 @@ OF_READERS = [
 OF_VIEWS = [
     bug("invisible characters are shown as they are", "names.js", "[\\p{C}\\p{Z}\\p{Default_Ignorable_Code_Point}]",
         "[\\p{Cc}]", "names::names_are_shown_decoded"),
+    bug("a long name is cut at its end", "style.css", ".row .name .end { flex: none; }", "",
+        "names::long_names_are_cut_before_their_end"),
+    bug("a row has no title", "listed.js", "  cellOfName.title = text;\n", "",
+        "names::long_names_are_cut_before_their_end"),
     bug("a name that is no UTF-8 is shown decoded", "names.js", "fatal: true", "fatal: false",
         "names::names_are_shown_decoded"),
     bug("a name is shown without its escapes", "names.js", "STAYS.test(character) ?", "character === \"/\" ?",
@@ -265,6 +269,6 @@ OF_TYPES = [
     bug("types of the page: a value may be undefined", "tabs.js",
         "    const to = keys[event.key];\n    if (to === undefined) return;\n", "    const to = keys[event.key];\n",
         "typed::the_scripts_have_no_type_errors"),
-    bug("types of the page: an import is unused", "sums.js", "import { plain } from", "import { plain, readable } from",
+    bug("types of the page: an import is unused", "sums.js", "import { Rows } from", "import { Row, Rows } from",
         "typed::the_scripts_have_no_type_errors"),
 ]
