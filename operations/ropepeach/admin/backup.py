@@ -19,7 +19,7 @@ from pathlib import Path
 from ropepeach.admin import machine
 from ropepeach.admin.programs import run_to_end
 from ropepeach.cli import output
-from ropepeach.cli.files import sync_folder
+from ropepeach.cli.files import file_at
 from ropepeach.cli.statuses import Status
 from ropepeach.faults import Fault, Unusable, printable
 
@@ -86,21 +86,25 @@ def held_still(process: int | None) -> Iterator[None]:
         guard.wait()
 
 
-def copy_at_one_moment(source: Path, to: Path, unit: str) -> None:
-    """Copy the file of a unit's program: a clone if the file system can make one."""
-    to.unlink(missing_ok=True)
-    if not run_to_end("cp", "--reflink=always", "--", str(source), str(to)).returncode:
+def copy_at_one_moment(source: Path, copy: int, unit: str) -> None:
+    """Copy the file of a unit's program into an open file: a clone if the file system can make one."""
+    words = ("--", str(source), f"/proc/self/fd/{copy}")
+    if not run_to_end("cp", "--reflink=always", *words, open_files=[copy]).returncode:
         return
-    to.unlink(missing_ok=True)
     with held_still(main_process(unit)):
-        ended = run_to_end("cp", "--sparse=always", "--", str(source), str(to))
+        ended = run_to_end("cp", "--sparse=always", *words, open_files=[copy])
     if ended.returncode:
-        raise Fault(f"{to}: {printable(ended.stderr.strip())}")
+        raise Fault(f"{source}: can't be copied: {printable(ended.stderr.strip())}")
 
 
-def tested(file: Path, prefix: tuple[str, ...] = ()) -> str:
-    """Open a copy and compare each body with its digest; return the program's summary."""
-    ended = run_to_end(*prefix, "rs_source", "run", str(file), lines="status\nverify\n", seconds=VERIFY_SECONDS)
+def tested(file: Path, prefix: tuple[str, ...] = (), copy: int | None = None) -> str:
+    """Open a copy and compare each body with its digest; return the program's summary.
+
+    The copy is at the path of a file, or it is an open file that is going to be there.
+    """
+    path, open_files = (str(file), []) if copy is None else (f"/proc/self/fd/{copy}", [copy])
+    ended = run_to_end(*prefix, "rs_source", "run", path, lines="status\nverify\n", seconds=VERIFY_SECONDS,
+                       open_files=open_files)
     if ended.returncode:
         raise Fault(f"{file}: the copy does not open: {printable(ended.stderr.strip())}")
     status, *bodies = ended.stdout.splitlines() or [""]
@@ -125,18 +129,14 @@ def run(arguments: argparse.Namespace) -> int:
     if arguments.dry_run:
         output.result(f"copy {file} to {to}, {os.stat(file).st_size:,} bytes, and compare each body with its digest")
         return Status.DONE
-    fresh = to.with_name(f"{to.name}.new")
     try:
-        copy_at_one_moment(file, fresh, place.unit())
-        output.message(f"{fresh}: copied; now each body is compared with its digest")
-        summary = tested(fresh)
-        with open(fresh, "rb") as copy:
-            os.fsync(copy.fileno())
-        os.link(fresh, to)
-        sync_folder(to.parent)
+        with file_at(to, is_new=True, mode=0o600) as copy:
+            copy_at_one_moment(file, copy.fileno(), place.unit())
+            output.message(f"{to}: copied; now each body is compared with its digest")
+            summary = tested(to, copy=copy.fileno())
     except FileExistsError:
         raise Unusable(f"{to} is there already: name another file") from None
-    finally:
-        fresh.unlink(missing_ok=True)
+    except FileNotFoundError:
+        raise Unusable(f"{to}: another program changes the folder: take a folder of root") from None
     output.result(f"{to}: {summary}")
     return Status.DONE

@@ -1,37 +1,76 @@
-"""Files that are written at once: a reader sees the old file or the new one, never a part."""
+"""The files that a command writes. Each begins as a new file of an open folder, so that no link is followed and no
+other file is opened; it is synced before it gets its name, so that readers see the old file or the new one.
+"""
 from __future__ import annotations
 
+import contextlib
 import os
+from collections.abc import Iterator
+from typing import IO
 
 from ropepeach.faults import Unusable
 
+NEW_FILE = os.O_WRONLY | os.O_CREAT | os.O_EXCL | os.O_NOFOLLOW | os.O_CLOEXEC
 
-def sync_folder(path: str | os.PathLike[str]) -> None:
-    """Sync the names of a folder to the disk."""
+
+def make_file(folder: int, name: str, mode: int = 0o666) -> int:
+    """Make a file in an open folder; return its descriptor. Raise FileExistsError for a file or a link of the name."""
+    return os.open(name, NEW_FILE, mode, dir_fd=folder)
+
+
+@contextlib.contextmanager
+def opened_folder(path: str | os.PathLike[str]) -> Iterator[int]:
+    """Open a folder during a `with` block."""
     number = os.open(path, os.O_RDONLY | os.O_DIRECTORY | os.O_CLOEXEC)
     try:
-        os.fsync(number)
+        yield number
     finally:
         os.close(number)
 
 
-def write_file(path: str | os.PathLike[str], text: str) -> None:
-    """Write a file, sync it, and let it replace the file at the path."""
-    import tempfile
+@contextlib.contextmanager
+def replaced(folder: int, name: str, fresh: str, within: int | None = None, is_new: bool = False,
+             mode: int = 0o666) -> Iterator[IO[bytes]]:
+    """Yield a new file, which gets the name in the open folder at the end of the `with` block.
 
-    folder, name = os.path.split(os.path.abspath(path))
+    Before, it is the file `fresh` of the open folder `within`, by default the same one; a failure removes it. With
+    `is_new` it replaces no file: FileExistsError is raised.
+    """
+    above = folder if within is None else within
+    number = make_file(above, fresh, mode)
     try:
-        number, fresh = tempfile.mkstemp(prefix=f".{name}.", dir=folder)
-        try:
-            with open(number, "w", encoding="utf-8") as file:
-                file.write(text)
-                file.flush()
-                os.fchmod(number, 0o644)
-                os.fsync(number)
-            os.replace(fresh, path)
-        except BaseException:
-            os.unlink(fresh)
-            raise
-        sync_folder(folder)
+        with open(number, "wb") as file:
+            yield file
+            file.flush()
+            os.fsync(number)
+            if is_new:
+                # (another user of the folder may have put another file at `fresh`)
+                os.link(f"/proc/self/fd/{number}", name, dst_dir_fd=folder)
+                with contextlib.suppress(FileNotFoundError):
+                    os.unlink(fresh, dir_fd=above)
+            else:
+                os.replace(fresh, name, src_dir_fd=above, dst_dir_fd=folder)
+    except BaseException:
+        with contextlib.suppress(OSError):
+            os.unlink(fresh, dir_fd=above)
+        raise
+    os.fsync(folder)
+
+
+@contextlib.contextmanager
+def file_at(path: str | os.PathLike[str], is_new: bool = False, mode: int = 0o666) -> Iterator[IO[bytes]]:
+    """Yield a new file, which gets the path at the end of the `with` block, in place of an older file or link."""
+    above, name = os.path.split(os.path.abspath(path))
+    with opened_folder(above) as folder:
+        with replaced(folder, name, f"{name}.{os.urandom(8).hex()}.new", is_new=is_new, mode=mode) as file:
+            yield file
+
+
+def write_file(path: str | os.PathLike[str], text: str) -> None:
+    """Write a file that all users may read. Raise `Unusable` if it cannot be written."""
+    try:
+        with file_at(path, mode=0o644) as file:
+            os.fchmod(file.fileno(), 0o644)
+            file.write(text.encode())
     except OSError as fault:
         raise Unusable(f"{path}: can't be written: {fault.strerror}") from None

@@ -21,6 +21,7 @@ from collections.abc import Callable, Iterator, Sequence
 from typing import Any
 
 from ropepeach.cli import output
+from ropepeach.cli.files import make_file, opened_folder
 from ropepeach.faults import printable
 from ropepeach.fill.files import Stamp
 
@@ -89,8 +90,8 @@ def prepare(path: str) -> None:
         with contextlib.suppress(FileExistsError):
             os.mkdir(own, 0o700)
         check_own(own, stat.S_ISDIR, "folder")
-    with contextlib.suppress(FileExistsError):
-        os.close(os.open(path, os.O_WRONLY | os.O_CREAT | os.O_EXCL | os.O_NOFOLLOW, 0o600))
+    with contextlib.suppress(FileExistsError), opened_folder(folder) as opened:
+        os.close(make_file(opened, os.path.basename(path), 0o600))
     if check_own(path, stat.S_ISREG, "regular file").st_nlink != 1:
         raise Untrusted("it has a second name")
 

@@ -21,11 +21,12 @@ from collections.abc import Callable, Iterable
 from typing import IO, TYPE_CHECKING
 
 from ropepeach.cli import output
+from ropepeach.cli.files import make_file, replaced
 from ropepeach.faults import Unusable
 from ropepeach.mirror.contents import ASIDE, Contents
 from ropepeach.mirror.folding import check_names
 from ropepeach.mirror.state import FRONTS, LONGEST_FRONT, LONGEST_STATE, STATE, State
-from ropepeach.mirror.tree import FOLDER, MAKING, Tree, lock_folder
+from ropepeach.mirror.tree import FOLDER, Tree, lock_folder
 from ropepeach.resync.filters import Filters
 
 if TYPE_CHECKING:
@@ -200,7 +201,7 @@ class Folder(Contents):
         """Make a file in `#incoming`, and return its name there and its descriptor."""
         path = str(self.number)
         self.number += 1
-        return path, os.open(path, MAKING, 0o666, dir_fd=self.enter_incoming())
+        return path, make_file(self.enter_incoming(), path)
 
     def drop(self, path: str) -> None:
         """Remove a file of `#incoming`."""
@@ -309,18 +310,13 @@ class Folder(Contents):
         """Write a file of the mirror's own under another name, sync it, and put it in its place."""
         if self.incoming is None:
             self.drop_incoming()
-            number, folder, path = self.tree.made(INCOMING), self.lock, INCOMING
+            within, fresh = self.lock, INCOMING
         else:
             # (bodies are being written there)
-            folder, path = self.incoming, OWN
-            self.drop(path)
-            number = os.open(path, MAKING, 0o666, dir_fd=folder)
-        with open(number, "wb") as file:
+            within, fresh = self.incoming, OWN
+            self.drop(fresh)
+        with replaced(self.lock, name, fresh, within) as file:
             write(file)
-            file.flush()
-            os.fsync(file.fileno())
-        os.replace(path, name, src_dir_fd=folder, dst_dir_fd=self.lock)
-        os.fsync(self.lock)
 
     def write_state(self, state: State) -> None:
         """Write a state."""

@@ -4,8 +4,8 @@ from __future__ import annotations
 import errno
 import os
 
+from ropepeach.cli.files import make_file
 from ropepeach.faults import Unusable
-from ropepeach.mirror.tree import MAKING
 
 # Two names of all characters that a name may have, which a file system that folds case has as one.
 PROBE, FOLDED = "aB0-._~!$&'()*+,;=:@%C3.", "Ab0-._~!$&'()*+,;=:@%c3."
@@ -14,7 +14,7 @@ PROBE, FOLDED = "aB0-._~!$&'()*+,;=:@%C3.", "Ab0-._~!$&'()*+,;=:@%c3."
 def check_names(path: str, folder: int) -> None:
     """Refuse the file system of an empty folder, if it folds names or takes not all of them."""
     try:
-        os.close(os.open(PROBE, MAKING, 0o666, dir_fd=folder))
+        os.close(make_file(folder, PROBE))
         found = [*os.listdir(folder), *(name for name in (FOLDED, PROBE.rstrip(".")) if is_at(folder, name))]
     except OSError as fault:
         if fault.errno not in (errno.EINVAL, errno.EILSEQ):

@@ -19,7 +19,6 @@ DEEPEST = LONGEST_NAME // 2
 PIECE = 1 << 20
 FOLDER = os.O_RDONLY | os.O_DIRECTORY | os.O_NOFOLLOW
 READING = os.O_RDONLY | os.O_NOFOLLOW | os.O_NONBLOCK | os.O_NOCTTY
-MAKING = os.O_WRONLY | os.O_CREAT | os.O_EXCL | os.O_NOFOLLOW
 
 
 class Linked(Unusable):
@@ -121,11 +120,6 @@ class Tree:
         """Return the first bytes of a regular file. Raise Unusable for another file."""
         with open(self.regular(path), "rb") as file:
             return file.read(longest)
-
-    def made(self, path: str) -> int:
-        """Make a new file, and open it for writing."""
-        above, last = self.parted(path)
-        return os.open(last, MAKING, 0o666, dir_fd=above)
 
     def make_folder(self, path: str) -> None:
         """Make a folder."""

@@ -6,6 +6,7 @@ import os
 import re
 import urllib.parse
 
+from ropepeach.cli.files import replaced
 from ropepeach.faults import Fault, Unusable
 from ropepeach.mirror.folder import INCOMING
 from ropepeach.mirror.state import LONGEST_FRONT
@@ -57,12 +58,8 @@ class Whole:
             raise Unusable(f"{self.path}: is not empty, and no mirror")
         if self.tree.is_there(INCOMING):
             self.tree.remove(INCOMING)
-        with open(self.tree.made(INCOMING), "wb") as file:
+        with replaced(self.lock, COLLECTION_FILE, INCOMING) as file:
             file.write(json.dumps({"collection": address}).encode())
-            file.flush()
-            os.fsync(file.fileno())
-        self.tree.move(INCOMING, COLLECTION_FILE)
-        os.fsync(self.lock)
 
     def others(self, parts: dict[str, str]) -> list[str]:
         """Return the entries of the folder that are no part of the collection now."""

@@ -5,12 +5,13 @@ from tests.planted.plants import Bug
 
 POWER = "operations/tests/tools/test_power.py"
 RULES = f"{POWER}::test_files_are_synced_before_they_are_renamed_and_the_state_comes_last"
+FILES = "cli/files"
 FAILING = f"{POWER}::test_a_call_that_fails_ends_the_run_by_status_3_and_the_next_run_continues"
 
 
 def bug(what: str, file: str, old: str, new: str, tests: str = RULES) -> Bug:
-    """Return a bug in a file of the mirror."""
-    return Bug(what, f"operations/ropepeach/mirror/{file}.py", old, new, tests)
+    """Return a bug in a file of the mirror, or in another one of the command."""
+    return Bug(what, f"operations/ropepeach/{file if '/' in file else f'mirror/{file}'}.py", old, new, tests)
 
 
 POWER_CUTS = [
@@ -35,13 +36,13 @@ POWER_CUTS = [
         "        sync_all(self.lock)\n        self.write_state(",
         "        self.write_state(",
     ),
-    bug("the state is not synced", "folder", "            os.fsync(file.fileno())\n", "            pass\n"),
-    bug("the state's name is not synced", "folder", "        os.fsync(self.lock)\n", ""),
+    bug("the state is not synced", FILES, "            os.fsync(number)\n", "            pass\n"),
+    bug("the state's name is not synced", FILES, "    os.fsync(folder)\n", ""),
     bug(
-        "the state is written in its place", "folder",
-        "            number, folder, path = self.tree.made(INCOMING), self.lock, INCOMING\n",
-        "            flags, folder, path = os.O_WRONLY | os.O_CREAT | os.O_TRUNC, self.lock, name\n"
-        "            number = os.open(name, flags, 0o666, dir_fd=self.lock)\n",
+        "the state is written in its place", FILES,
+        "    number = make_file(above, fresh, mode)\n",
+        "    fresh, above = name, folder\n"
+        "    number = os.open(name, os.O_WRONLY | os.O_CREAT | os.O_TRUNC, mode, dir_fd=folder)\n",
     ),
     bug(
         "a moment is remembered before files are in their places", "engine",

@@ -205,8 +205,8 @@ OF_REPORTS = [
         "on_change::changes_that_a_failing_command_left_come_again_before_newer_ones",
     ),
     bug(
-        "lines are not synced", "mirror/folder",
-        "            os.fsync(file.fileno())\n",
+        "lines are not synced", "cli/files",
+        "            os.fsync(number)\n",
         "",
         "kills::reports_are_synced_before_they_get_their_name",
     ),

@@ -106,6 +106,19 @@ OF_NEW = [
         ("a restored backup may have any base", "restore", "if old_base not in (None, base)", "if False", RESTORE),
     ]
 ]
+OF_WRITES = [
+    bug(what, file, old, new, f"writes::{test}") for what, file, old, new, test in [
+        ("a file is opened through a link", "cli/files.py", " | os.O_NOFOLLOW", "",
+         "every_file_that_a_command_writes_is_a_new_file_of_an_open_folder"),
+        ("a new file may be there", "cli/files.py", "os.O_CREAT | os.O_EXCL", "os.O_CREAT",
+         "root_writes_only_new_files_of_open_folders"),
+        ("a copy is made by its name", "admin/backup.py", 'str(source), f"/proc/self/fd/{copy}")',
+         'str(source), os.readlink(f"/proc/self/fd/{copy}"))',
+         "a_backup_in_the_folder_of_another_user_writes_through_no_link"),
+        ("a file of a failed write stays", "cli/files.py", "            os.unlink(fresh, dir_fd=above)\n        raise",
+         "            pass\n        raise", "a_failed_write_leaves_the_old_file_and_no_other"),
+    ]
+]
 ABBREVIATED, VERSION = "options_are_not_abbreviated", "the_version_is_that_of_the_version_file"
 LOUD, COMPLETION = "verbose_adds_requests_and_quiet_keeps_errors", "a_shell_completes_at_the_terminal"
 OF_LINE = [
