@@ -1,11 +1,12 @@
 """Resource Dumps and Change Dumps of any source: ZIPs with a manifest.xml that names the resources of the files
 (ANSI/NISO Z39.99-2017, sections 11 and 13).
 
-A dump supplies bodies that fit the lists. A path of an archive is never a path of the folder. An archive is kept in a
-file without a name, with limits on its bytes, its files, and its unpacked bytes.
+A dump supplies bodies that fit the lists. A path of an archive is never a path of the folder. One archive is open at a
+time, in a file of TMPDIR without a name, with limits on its bytes, its files, and its unpacked bytes.
 """
 from __future__ import annotations
 
+import contextlib
 import struct
 import tempfile
 import zipfile
@@ -13,11 +14,11 @@ import zlib
 from collections.abc import Container, Iterator
 from typing import IO
 
-from ropepeach.faults import Fault, Long
-from ropepeach.resync.addresses import address_in, joined, source_at
+from ropepeach.faults import Fault, Long, Unusable
+from ropepeach.resync.addresses import Address, address_in, joined, source_at
 from ropepeach.resync.asking import LONGEST_RESOURCE, Asking, DamagedDump
 from ropepeach.resync.discovery import CHANGE_DUMP, DUMP
-from ropepeach.resync.facts import algorithms_of, any_facts, has_length, kind_of, length_of
+from ropepeach.resync.facts import Facts, algorithms_of, any_facts, has_length, kind_of, length_of
 from ropepeach.resync.lenient import Reading, document_moment, earliest, is_over
 from ropepeach.resync.lists import Entry
 from ropepeach.resync.moments import Moment
@@ -27,6 +28,8 @@ from ropepeach.resync.sitemaps import LONGEST_UNPACKED, Document, Listed, docume
 MANIFEST = "manifest.xml"
 # The longest archive, the longest directory of one, and the most unpacked bytes.
 LONGEST_ARCHIVE, LONGEST_DIRECTORY, MOST_UNPACKED = LONGEST_RESOURCE, 8 << 20, 8 << 30
+# The most bytes of archives that are kept for their second reading; others are fetched again.
+MOST_KEPT = 64 << 20
 # The end of an archive: its mark, its bytes, and the mark of a longer form before it.
 END, END_SIZE, LONG_END, LONG_END_SIZE = b"PK\5\6", 22, b"PK\6\7", 20
 # The bytes of a file that are unpacked at once.
@@ -102,13 +105,18 @@ def opened(address: str, file: IO[bytes]) -> Archive:
 
 
 class Dumps:
-    """The dumps of a source; a run fetches an archive once."""
+    """The dumps of a source, one archive at a time."""
 
     def __init__(self, asking: Asking) -> None:
-        self.asking, self.archives = asking, dict[str, Archive]()
+        self.asking = asking
+        # The kept archives by their addresses, and their bytes.
+        self.files, self.kept = dict[str, IO[bytes]](), 0
 
     def of(self, address: str, since: Moment | None) -> Iterator[Archive]:
-        """Yield the archives of a dump; of a Change Dump those that may have changes since a moment, or at it."""
+        """Yield the archives of a dump; of a Change Dump those that may have changes since a moment, or at it.
+
+        The next step closes an archive.
+        """
         head = self.asking.document(address)
         if head.capability not in (DUMP, CHANGE_DUMP):
             raise Unread(f"{address}: refused, as it is a {head.capability or 'sitemap'}, and no dump")
@@ -119,26 +127,43 @@ class Dumps:
         for document in parts:
             for listed in document.entries:
                 if is_wanted(address, listed, since):
-                    yield self.archive(document, listed)
+                    with self.archive(document, listed) as archive:
+                        yield archive
 
-    def archive(self, document: Document, listed: Listed) -> Archive:
-        """Return the archive that an entry of a dump names, if it is as the entry says."""
+    @contextlib.contextmanager
+    def archive(self, document: Document, listed: Listed) -> Iterator[Archive]:
+        """Open the archive that an entry of a dump names, if it is as the entry says."""
         address = joined(source_at(document.address), listed.loc)
         if address is None or not self.asking.hosts.allow(address):
             raise Unread(f"{listed.loc[:300]}: refused, as it is no address of an allowed host")
         name = str(address)
-        if name not in self.archives:
-            facts = any_facts(listed.attributes)
-            limit = min(LONGEST_ARCHIVE, length_of(facts)) if has_length(facts) else LONGEST_ARCHIVE
+        file = self.files.get(name) or self.fetched(address, any_facts(listed.attributes))
+        try:
+            archive = opened(name, file)
+            with archive.file:
+                yield archive
+        finally:
+            size = file.seek(0, 2)
+            if name not in self.files and self.kept + size <= MOST_KEPT:
+                self.files[name], self.kept = file, self.kept + size
+            elif name not in self.files:
+                file.close()
+
+    def fetched(self, address: Address, facts: Facts) -> IO[bytes]:
+        """Fetch an archive to a file."""
+        limit = min(LONGEST_ARCHIVE, length_of(facts)) if has_length(facts) else LONGEST_ARCHIVE
+        try:
             file = tempfile.TemporaryFile()
-            try:
-                measure = self.asking.download(address, limit, file, algorithms_of(facts))
-            except Long as why:
-                raise Unread(str(why)) from None
-            if not measure.fits(facts):
-                raise Unread(f"{name}: has other bytes than listed")
-            self.archives[name] = opened(name, file)
-        return self.archives[name]
+            measure = self.asking.download(address, limit, file, algorithms_of(facts))
+            file.flush()
+        except Long as why:
+            raise Unread(str(why)) from None
+        except OSError as fault:
+            raise Unusable(f"{tempfile.gettempdir()}: cannot hold the archive {address}: {fault.strerror} (set TMPDIR "
+                           "to another folder)") from None
+        if not measure.fits(facts):
+            raise Unread(f"{address}: has other bytes than listed")
+        return file
 
     def resources(self, address: str, reading: Reading) -> tuple[Moment | None, dict[str, Entry]]:
         """Return the earliest `at` of a Resource Dump and its manifests, and the entries by name."""

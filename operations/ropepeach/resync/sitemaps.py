@@ -26,6 +26,8 @@ MOST_ELEMENTS, MOST_ELEMENTS_OF_OTHERS = 4 * MOST_ENTRIES + 100, 12 * MOST_ENTRI
 # The longest document after unpacking, in bytes.
 LONGEST_UNPACKED = 52_428_800
 GZIP = b"\x1f\x8b"
+# The most members of gzip, and the packed bytes that are taken at once.
+MOST_MEMBERS, PACKED_PIECE = 10_000, 65_536
 
 
 class Listed(NamedTuple):
@@ -194,22 +196,24 @@ def unpacked(address: str, body: bytes) -> bytes:
 
 
 def gunzipped(address: str, body: bytes) -> bytes:
-    """Return the unpacked members of gzip, up to a limit."""
-    pieces, size = [], 0
-    while body.startswith(GZIP):
+    """Return the unpacked members of gzip. Raise Fault for too many bytes or members."""
+    pieces, size, at, packed = list[bytes](), 0, 0, memoryview(body)
+    for _ in range(MOST_MEMBERS):
+        if packed[at:at + len(GZIP)] != GZIP:
+            return b"".join(pieces)
         member = zlib.decompressobj(zlib.MAX_WBITS | 16)
-        try:
-            piece = member.decompress(body, LONGEST_UNPACKED + 1 - size)
-        except zlib.error as fault:
-            raise Fault(f"{address}: refused, as it can't be unpacked: {fault}") from None
-        size += len(piece)
-        if size > LONGEST_UNPACKED:
-            raise Fault(f"{address}: refused, as it unpacks to more than {LONGEST_UNPACKED:,} bytes")
-        if not member.eof:
-            raise Fault(f"{address}: refused, as it is cut: its packed bytes have no end")
-        pieces.append(piece)
-        body = member.unused_data
-    return b"".join(pieces)
+        while not member.eof:
+            part = packed[at:at + PACKED_PIECE]
+            if not part:
+                raise Fault(f"{address}: refused, as it is cut: its packed bytes have no end")
+            try:
+                pieces.append(member.decompress(part, LONGEST_UNPACKED + 1 - size))
+            except zlib.error as fault:
+                raise Fault(f"{address}: refused, as it can't be unpacked: {fault}") from None
+            at, size = at + len(part) - len(member.unused_data), size + len(pieces[-1])
+            if size > LONGEST_UNPACKED:
+                raise Fault(f"{address}: refused, as it unpacks to more than {LONGEST_UNPACKED:,} bytes")
+    raise Fault(f"{address}: refused, as it has more than {MOST_MEMBERS:,} members of gzip")
 
 
 def is_markup(body: bytes) -> bool:

@@ -1,10 +1,12 @@
 """Test `ropepeach mirror --dumps` with good and lying archives."""
 import dataclasses
+import errno
 import io
 import os
 import pathlib
 import zipfile
-from collections.abc import Callable
+from collections.abc import Callable, Iterable
+from typing import IO, cast
 
 import pytest
 
@@ -12,7 +14,12 @@ from operations.tests.tools.any_mirrored import BARE, FILES, WHOLE, holds, liste
 from operations.tests.tools.static_source import (
     FIRST, SECOND, STYLES, Static, archive, dump, facts, md, url, urlset)
 from ropepeach.changes import changes
+from ropepeach.faults import Unusable
 from ropepeach.resync import dumps
+from ropepeach.resync.addresses import Address
+from ropepeach.resync.asking import Asking
+from ropepeach.resync.facts import Algorithm, Measure
+from ropepeach.resync.sitemaps import Document, document_in
 
 pytestmark = pytest.mark.usefixtures("room")
 
@@ -201,3 +208,59 @@ def test_the_limit_of_an_archive_counts_the_bytes_of_all_its_files(monkeypatch: 
     assert (sum(map(len, found.pieces("a", 999))), found.unpacked) == (1_000, 1_000)
     with pytest.raises(dumps.Unread, match="more than 1,999 bytes come out of it"):
         list(found.pieces("b", 1_000))
+
+
+class Sent:
+    """Serve a dump of archives of one file to `Dumps`, and count how often an archive is asked for."""
+
+    def __init__(self, sizes: list[int]) -> None:
+        self.hosts, self.count, self.archives = self, 0, [packed({"a": os.urandom(size)}) for size in sizes]
+
+    def allow(self, _: Address) -> bool:
+        """Allow each host."""
+        return True
+
+    def document(self, address: str) -> Document:
+        """Return the dump."""
+        entries = [url(f"http://a.example/{number}.zip") for number in range(len(self.archives))]
+        return document_in(address, urlset(md(capability="resourcedump", at=FIRST), entries))
+
+    def download(self, address: Address, limit: int, file: IO[bytes], algorithms: Iterable[Algorithm]) -> Measure:
+        """Write an archive."""
+        self.count += 1
+        measure, body = Measure(algorithms), self.archives[int(address.target[1:-4])]
+        measure.take(body)
+        file.write(body)
+        return measure
+
+
+def temporary_bytes() -> int:
+    """Return the bytes of this process's open files without a name."""
+    files = [path for path in pathlib.Path("/proc/self/fd").iterdir()
+             if os.path.lexists(path) and os.readlink(path).endswith("(deleted)")]
+    return sum(path.stat().st_size for path in files)
+
+
+def test_one_archive_of_a_dump_is_held_at_a_time(monkeypatch: pytest.MonkeyPatch) -> None:
+    """Archives that fit together are kept for the second reading; others are fetched again."""
+    monkeypatch.setattr(dumps, "MOST_KEPT", 3_000_000)
+    sent, before = Sent([1_000_000] * 9), temporary_bytes()
+    read = dumps.Dumps(cast(Asking, sent))
+    for count in (9, 9 + 7):
+        files, held = [], 0
+        for archive_of in read.of("http://a.example/dump.xml", None):
+            files.append(archive_of.file)
+            held = max(held, temporary_bytes() - before)
+        assert (sent.count, len(files), [file.fp for file in files]) == (count, 9, [None] * 9)
+        assert held < 3_100_000
+
+
+def test_a_full_folder_of_archives_is_named(monkeypatch: pytest.MonkeyPatch) -> None:
+    sent = Sent([1])
+
+    def full(*_: object) -> None:
+        raise OSError(errno.ENOSPC, os.strerror(errno.ENOSPC))
+
+    monkeypatch.setattr(sent, "download", full)
+    with pytest.raises(Unusable, match="cannot hold the archive http://a.example/0.zip: No space left on device"):
+        next(dumps.Dumps(cast(Asking, sent)).of("http://a.example/dump.xml", None))

@@ -292,8 +292,10 @@ def test_a_document_is_decompressed(body: bytes) -> None:
     (lambda: gzip.compress(bytes(LONGEST_UNPACKED + 1)), "unpacks to more than 52,428,800 bytes"),
     (lambda: gzip.compress(gzip.compress(bytes(LONGEST_UNPACKED + 1))), "unpacks to more than"),
     (lambda: gzip.compress(bytes(LONGEST_UNPACKED // 2 + 1)) * 2, "unpacks to more than"),
+    (lambda: gzip.compress(b"") * 500_000, "more than 10,000 members of gzip"),
     (lambda: gzip.compress(TEXT)[:-9], "it is cut"), (lambda: b"\x1f\x8b" + bytes(50), "can't be unpacked")],
-    ids=["long", "long, gzip twice", "long in two members", "cut", "no gzip"])
+    ids=["long", "long, gzip twice", "long in two members", "many members", "cut", "no gzip"])
+@pytest.mark.timeout(60)
 def test_a_document_that_unpacks_to_too_much_or_not_at_all_is_refused(make: Callable[[], bytes], says: str) -> None:
     with refused(says):
         unpacked(f"{SITE}/a", make())

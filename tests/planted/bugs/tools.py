@@ -119,6 +119,14 @@ OF_WRITES = [
          "            pass\n        raise", "a_failed_write_leaves_the_old_file_and_no_other"),
     ]
 ]
+OF_BOUNDS = [
+    bug(what, file, old, new, test) for what, file, old, new, test in [
+        ("all archives of a dump are kept", "resync/dumps.py", "self.kept + size <= MOST_KEPT", "True",
+         "any_dumps::one_archive_of_a_dump_is_held_at_a_time"),
+        ("a document may have any number of members", "resync/sitemaps.py", "in range(MOST_MEMBERS)",
+         "in range(10 ** 9)", "any_reading::a_document_that_unpacks_to_too_much_or_not_at_all_is_refused"),
+    ]
+]
 ABBREVIATED, VERSION = "options_are_not_abbreviated", "the_version_is_that_of_the_version_file"
 LOUD, COMPLETION = "verbose_adds_requests_and_quiet_keeps_errors", "a_shell_completes_at_the_terminal"
 OF_LINE = [
