@@ -2,13 +2,25 @@
 from __future__ import annotations
 
 import gc
+import os
 import sys
+
+
+def open_standard_files() -> None:
+    """Open /dev/null in place of closed standard files: another file would get the descriptor, and their lines."""
+    while (number := os.open(os.devnull, os.O_RDWR)) <= 2:
+        os.set_inheritable(number, True)
+    os.close(number)
+    sys.stdin = sys.stdin or open(0, closefd=False)
+    sys.stdout = sys.stdout or open(1, "w", closefd=False)
+    sys.stderr = sys.stderr or open(2, "w", closefd=False)
 
 
 def main() -> int:
     """Run the command; return the exit status."""
     # (modules stay loaded, so a garbage collection during imports would free no memory; `command.run` enables it again)
     gc.disable()
+    open_standard_files()
     try:
         from ropepeach.cli import command
         from ropepeach.cli.stops import STOPS

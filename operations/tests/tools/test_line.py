@@ -312,3 +312,14 @@ def test_ctrl_c_has_status_130_and_one_line(room: Path) -> None:
                       status_and(subprocess.CompletedProcess(words, run.returncode, output, messages), 130))
     assert messages == "ropepeach mirror: stopped; the next run goes on\n", messages
     assert [message["level"] for message in found["messages"]] == ["error"], found
+
+
+@pytest.mark.parametrize("closed", [">&-", "2>&-", "<&-", "<&- >&- 2>&-"])
+def test_a_run_with_closed_standard_files_does_its_work(program: str, room: Path, closed: str) -> None:
+    """A run ends with its usual status, and no file of it gets the lines of a closed one."""
+    with Server(program, room / "a.disk") as server:
+        for words, status in ((f"health {server.url}", 0), (f"mirror {server.url} m", 0), ("look --json a.disk", 0),
+                              ("look none", 3), ("--version", 0)):
+            ended = subprocess.run(["sh", "-c", f"{' '.join(COMMAND)} {words} {closed}"], capture_output=True, text=True)
+            assert (ended.returncode, "Traceback" in ended.stderr) == (status, False), f"{words} {closed}: {ended}"
+        assert sorted(os.listdir("m")) == ["#known", "#state"]
