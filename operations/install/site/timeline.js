@@ -361,8 +361,9 @@ export class Timeline {
     const isOff = {
       earlier: from <= this.whole[0], later: until >= this.whole[1], out: this.isWhole(), in: until - from <= SHORTEST,
     };
+    const isRecent = isSame(this.span, this.recent);
     /** @type {Record<string, boolean>} */
-    const isPressed = { recent: isSame(this.span, this.recent), whole: this.isWhole() };
+    const isPressed = { recent: isRecent, whole: this.isWhole() && !isRecent };
     for (const button of this.buttons()) {
       const { zoom = "" } = button.dataset;
       if (zoom in isOff) button.setAttribute("aria-disabled", String(isOff[zoom]));

@@ -65,6 +65,21 @@ class Asking:
         """Press a key."""
         raise NotImplementedError
 
+    def hover(self, x: int, y: int) -> None:
+        """Move the mouse to a place of the view, in CSS pixels."""
+        raise NotImplementedError
+
+    def point(self, selector: str) -> None:
+        """Move the mouse onto the first element of a selector, and wait until its colours have changed."""
+        script = """
+            const it = document.querySelector(arguments[0]);
+            it.scrollIntoView({ block: "center" });
+            const box = it.getBoundingClientRect();
+            return [Math.round(box.left + 20), Math.round(box.top + box.height / 2)];"""
+        self.hover(*self.run(script, selector))
+        self.until("return document.querySelector(arguments[0]).matches(':hover') && !document.getAnimations().length",
+                   f"the mouse on {selector}", selector)
+
     def still(self, is_still: bool) -> None:
         """Set whether the reader wants reduced motion."""
         raise NotImplementedError
@@ -183,6 +198,10 @@ class Browser(Asking):
         words = {"key": key, "code": key, "windowsVirtualKeyCode": code, "modifiers": 8 if shift else 0}
         self.tell("Input.dispatchKeyEvent", type="keyDown", **words, **({"text": text} if text else {}))
         self.tell("Input.dispatchKeyEvent", type="keyUp", **words)
+
+    def hover(self, x: int, y: int) -> None:
+        """Move the mouse to a place of the view, in CSS pixels."""
+        self.tell("Input.dispatchMouseEvent", type="mouseMoved", x=x, y=y)
 
     def still(self, is_still: bool) -> None:
         """Set whether the reader wants reduced motion."""

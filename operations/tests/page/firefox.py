@@ -147,6 +147,11 @@ class Firefox(Asking):
         actions = [{"type": "keyDown", "value": value}, {"type": "keyUp", "value": value}]
         self.tell("WebDriver:PerformActions", actions=[{"type": "key", "id": "keys", "actions": actions}])
 
+    def hover(self, x: int, y: int) -> None:
+        """Move the mouse to a place of the view, in CSS pixels."""
+        move = {"type": "pointerMove", "x": x, "y": y}
+        self.tell("WebDriver:PerformActions", actions=[{"type": "pointer", "id": "mouse", "actions": [move]}])
+
     def labels(self, selector: str) -> list[tuple[str, str, str]]:
         """Return the tags of all visible elements of a selector, with the roles and names that the browser computes."""
         found = []

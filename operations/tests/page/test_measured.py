@@ -70,6 +70,15 @@ def test_text_has_a_contrast_of_4_5(look: Looked) -> None:
             browser.click("check")
             browser.state("Disagrees")
             found = browser.run(scripts.CONTRAST)
+            # Marks of hovered and chosen rows: a body that agrees, and changes of every kind.
+            browser.run("document.querySelectorAll('.resources .row')[2].click()")
+            browser.click("check")
+            browser.until("return document.querySelector('[aria-selected=true] .mark[data-kind=agrees]')", "a mark")
+            for kind in ("created", "updated", "deleted"):
+                browser.point(f".changes .row:has(.{kind})")
+                found += browser.run(scripts.CONTRAST)
+            browser.point(".resources .row:has([data-kind=differs])")
+            found += browser.run(scripts.CONTRAST)
             assert [text for text in found if text["ratio"] < text["least"]] == [], f"too little contrast in {scheme}"
             assert len(found) > 15, f"pairs of colours in {scheme}"
             lowest = min(lowest, *(text["ratio"] for text in found if text["kind"] == "text"))

@@ -53,6 +53,20 @@ def test_the_time_line_begins_with_30_days(look: Looked) -> None:
         look.is_well()
 
 
+def test_one_range_is_pressed_if_all_changes_are_recent(look: Looked) -> None:
+    """Where the last 30 days have every change, only their button is pressed."""
+    look.browser.open("about:blank")
+    now = look.browser.run("return Date.now()")
+
+    def recent(base: str) -> fakes.Fake:
+        return fakes.published(fakes.Fake(base, changes=[fakes.entry_of("a", b"", now - DAY, "created")]), now - DAY + 1)
+
+    with look.fake(recent) as shown:
+        look.browser.open(f"{shown.base}/")
+        look.browser.state("Open")
+        assert look.browser.run(RANGE)[1] == "recent"
+
+
 SHEET = """
 const card = document.querySelector(".card"), box = card.getBoundingClientRect();
 const below = Math.round(innerHeight - box.bottom);

@@ -129,6 +129,26 @@ def test_the_time_line_counts_the_changes_in_view(look: Looked) -> None:
                 assert (number, kinds, [sum(row) for row in zip(*table)]) == (len(shown.fake.changes), every, every)
 
 
+LOOKS = """
+const look = (it) => ["backgroundColor", "color", "borderLeftWidth"].map((name) => getComputedStyle(it)[name]).join();
+const pair = (selector, other) => [selector, other].map((it) => look(document.querySelector(it)));
+return [pair("[aria-pressed=true]", "[aria-pressed=false]"),
+  pair(".resources [aria-selected=true]", ".resources .row[aria-selected=false]")];
+"""
+
+
+def test_forced_colours_show_what_is_chosen_and_pressed(look: Looked) -> None:
+    """With the reader's own colours a chosen row and a pressed button look unlike the others."""
+    browser = look.chromium
+    with look.fake(lambda base: fakes.archive(base, 60)) as shown:
+        opened(look, shown)
+        browser.tell("Emulation.setEmulatedMedia", media="", features=[{"name": "forced-colors", "value": "active"}])
+        assert browser.run("return matchMedia('(forced-colors: active)').matches")
+        browser.until("return !document.getAnimations().length", "the colours")
+        assert [this != other for this, other in browser.run(LOOKS)] == [True, True]
+        browser.size(1_280, 900)
+
+
 def role(node: dict[str, Any]) -> str:
     """Return the role of a node of the browser's accessibility tree."""
     return str(node.get("role", {}).get("value", ""))

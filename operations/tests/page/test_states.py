@@ -260,7 +260,8 @@ def test_the_operator_is_shown_before_the_source_answers(look: Looked) -> None:
         (page.parent / "settings/source.json").write_text(json.dumps(texts))
 
     look.edit = operated
-    with look.fake(lambda base: dataclasses.replace(fakes.archive(base, 30), refusal=(502, "text/html", b"x"))) as shown:
+    down = 502, "text/html", b"x"
+    with look.fake(lambda base: dataclasses.replace(fakes.archive(base, 30), refusal=down)) as shown:
         look.chromium.open(f"{shown.base}/")
         look.chromium.until("return document.getElementById('notice').textContent.includes('502')", "the notice")
         found = look.chromium.run("""
