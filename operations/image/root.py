@@ -41,7 +41,8 @@ def done(*words: str | Path) -> None:
 
 def debian(root: Path, registry: str = REGISTRY) -> None:
     """Make a small Debian in a folder."""
-    done("debootstrap", "--variant=minbase", f"--include={','.join(INCLUDED)}", SUITE, root, registry)
+    done("debootstrap", "--variant=minbase", "--force-check-gpg", f"--include={','.join(INCLUDED)}", SUITE, root,
+         registry)
 
 
 def add_user(root: Path) -> None:

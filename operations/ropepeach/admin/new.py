@@ -13,7 +13,7 @@ from urllib.parse import urlsplit
 
 from ropepeach.admin import USER, machine, site
 from ropepeach.admin.site_text import Tls
-from ropepeach.admin.steps import Action, Program, Write, add_dry_run, as_user, carry_out
+from ropepeach.admin.steps import Action, Program, Write, add_dry_run, as_user, cache_steps, carry_out
 from ropepeach.cli import numbers, output
 from ropepeach.cli.statuses import Status
 from ropepeach.disk import formula
@@ -33,7 +33,8 @@ def add_arguments(parser: argparse.ArgumentParser) -> None:
                         help="its address for mirrors, as https://source.example.org; it cannot change later")
     sizes = parser.add_mutually_exclusive_group()
     sizes.add_argument("--for", dest="folder", metavar="FOLDER", help="make room for the files of this folder")
-    sizes.add_argument("--size", type=numbers.size, metavar="BYTES", help="its size, as 512MiB (128MiB)")
+    sizes.add_argument("--size", type=numbers.size, default=DEFAULT_SIZE, metavar="BYTES",
+                       help="its size, as 512MiB (128MiB)")
     parser.add_argument("--items", type=numbers.count, default=1000, metavar="N",
                         help="entries in one part of a list (1,000)")
     parser.add_argument("--port", type=numbers.port, metavar="PORT",
@@ -157,14 +158,15 @@ def plan_of(place: machine.Place, arguments: argparse.Namespace) -> tuple[machin
     base = machine.base_of(settings.file)
     if base not in (None, arguments.base):
         raise Unusable(f"{settings.file}: the source there has the base {base}, which can't change: take another name")
-    size = bytes_for(arguments.folder, arguments.base) if arguments.folder else arguments.size or DEFAULT_SIZE
+    size = bytes_for(arguments.folder, arguments.base) if arguments.folder else arguments.size
     if not SMALLEST <= size <= formula.MOST_BYTES:
         raise Misused(f"the file has {size:,} bytes: a source uses {SMALLEST:,} to {formula.MOST_BYTES:,}")
     steps: list[Action] = []
     if base is None:
         folder = next(parent for parent in settings.file.parents if parent.is_dir())
         machine.check_room(folder, size + SPARE, "make room, or take a smaller --size")
-        steps += file_steps(settings.file, size, arguments.base, arguments.items)
+        # (a source of this name that was removed may have left parts)
+        steps += [*cache_steps(place.cache), *file_steps(settings.file, size, arguments.base, arguments.items)]
     if settings != place.known():
         steps.append(Write("the settings of its units", place.settings, settings.text()))
     # (this does not affect running units)

@@ -13,7 +13,7 @@ from pathlib import Path
 
 from ropepeach.admin import USER, machine
 from ropepeach.admin.backup import tested
-from ropepeach.admin.steps import Action, Program, add_dry_run, as_user, carry_out
+from ropepeach.admin.steps import Action, Program, add_dry_run, as_user, cache_steps, carry_out
 from ropepeach.cli import output
 from ropepeach.cli.statuses import Status
 from ropepeach.faults import Fault, Unusable
@@ -46,9 +46,7 @@ def place_steps(place: machine.Place, fresh: str, file: Path, old_file: str) -> 
         steps.append(Program("the old file, kept", as_user(USER, "ln", "-T", str(file), old_file)))
     steps += [Program("the backup in its place", as_user(USER, "mv", "-T", fresh, str(file))),
               Program("the names on the disk", as_user(USER, "sync", str(file.parent)))]
-    if place.cache.is_dir():
-        steps.append(Program("nginx keeps no parts of it", ("find", str(place.cache), "-mindepth", "1", "-delete")))
-    return [*steps, Program("the source, started", ("systemctl", "start", place.unit()))]
+    return [*steps, *cache_steps(place.cache), Program("the source, started", ("systemctl", "start", place.unit()))]
 
 
 def check_base(place: machine.Place, backup: Path, file: Path) -> None:

@@ -17,6 +17,7 @@ WHOLE_ADDRESS = re.compile(r"https?://[A-Za-z0-9.-]+(?::\d{1,5})?")
 WHOLE_PATH = re.compile(r"/[A-Za-z0-9._~+@/-]+")
 # The subject and the prefix of a rule, which nginx and its patterns take unchanged once they are escaped.
 SUBJECT, PREFIX = re.compile(r"[A-Za-z0-9 =,.@_/:+()'#&~*-]{1,256}"), re.compile(r"[A-Za-z0-9._~!&'()*+,=:@%/-]{0,240}")
+NO_DOTS = r"(?![^ ]*/(\.|%2[Ee]){1,2}[/ ])"
 # Addresses of this machine.
 LOOPBACK = ("127.0.0.0/8", "::1")
 # The number of bodies of one source that a visitor gets at a time.
@@ -39,8 +40,11 @@ def entry(key: str, value: str) -> str:
 def network(value: object) -> str:
     """Return an address or a network as nginx takes it. Raise ValueError if the value is neither."""
     try:
-        # (an address may be a number for this module)
-        return str(ipaddress.ip_network(str(value)))
+        # (an address may be a number for this module, or have any text as its zone)
+        found = ipaddress.ip_network(str(value))
+        if "%" in str(found):
+            raise ValueError
+        return str(found)
     except ValueError:
         raise ValueError(f"{value!r} is no address, and no network as 192.0.2.0/24 is") from None
 
@@ -96,7 +100,8 @@ class Permission:
 
     def line(self) -> str:
         """Return the entry of this rule."""
-        path = rf"/resource/{re.escape(self.prefix)}[^ ]+" if self.prefix else "/[^ ]*"
+        # (a browser joins segments of dots to the path, also encoded ones, so that the name is another one to it)
+        path = rf"{NO_DOTS}/resource/{re.escape(self.prefix)}[^ ]+" if self.prefix else "/[^ ]*"
         return entry(f'"~^[^/ ]+{path} {re.escape(self.subject)}$"', "1")
 
 

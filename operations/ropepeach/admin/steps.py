@@ -79,6 +79,12 @@ def as_user(user: str, *words: str) -> tuple[str, ...]:
     return ("runuser", "-u", user, "--", *words)
 
 
+def cache_steps(cache: Path) -> list[Action]:
+    """Return the steps that empty the cache of a site, because another file takes the place of a source's."""
+    return [Program("nginx keeps no parts of it", ("find", str(cache), "-mindepth", "1", "-delete"))
+            ] if cache.is_dir() else []
+
+
 def add_dry_run(parser: argparse.ArgumentParser) -> None:
     """Add the option --dry-run of a command that has steps."""
     parser.add_argument("--dry-run", action="store_true", help="print each step as shell, and do nothing")

@@ -15,7 +15,9 @@ import os
 from typing import NamedTuple
 from urllib.parse import urlsplit
 
-from ropepeach.admin.site_text import Served, Site, tls_of
+from ropepeach.admin.machine import CACHES
+from ropepeach.admin.site_text import WHOLE_PATH, Served, Site, tls_of
+from ropepeach.admin.steps import cache_steps, carry_out
 from ropepeach.cli import output
 from ropepeach.cli.files import write_file
 from ropepeach.cli.statuses import Status
@@ -142,6 +144,8 @@ def write_files(collection: CollectionSettings, folder: str, is_dry: bool) -> No
     texts = {f"{member.name}.env": unit_settings(member) for member in collection.members.values()}
     texts |= {DESCRIPTION_FILE: description_of(collection),
               SITE_FILE: collection_site(collection, os.path.abspath(folder))}
+    # (the file of a source may be another one, with parts of the same paths)
+    emptying = cache_steps(CACHES / f"ropepeach-{collection.name}")
     if is_dry:
         for name in texts:
             output.result(f"write {os.path.join(folder, name)}")
@@ -149,6 +153,10 @@ def write_files(collection: CollectionSettings, folder: str, is_dry: bool) -> No
     os.makedirs(folder, exist_ok=True)
     for name, text in texts.items():
         write_file(os.path.join(folder, name), text)
+    if emptying and os.geteuid():
+        output.message(f"empty {CACHES}/ropepeach-{collection.name} as root if a source has another file than before")
+    else:
+        carry_out(emptying)
     output.result(f"{len(collection.members):,} sources: their settings, {SITE_FILE} and {DESCRIPTION_FILE} "
                   f"are in {folder}")
 
@@ -179,6 +187,8 @@ def run(arguments: argparse.Namespace) -> int:
         for name in text_lines("/dev/stdin" if arguments.names == "-" else arguments.names):
             output.result(f"{collection.homes.of(name)} {name}")
     elif arguments.into:
+        if not WHOLE_PATH.fullmatch(os.path.abspath(arguments.into)):
+            raise Misused(f"--into: {arguments.into!r}: the path of a folder has letters, digits and ._~+@/-")
         write_files(collection, arguments.into, arguments.dry_run)
     else:
         show(collection, arguments)

@@ -7,7 +7,9 @@ import xml.etree.ElementTree as ElementTree
 import pytest
 
 from operations.tests.tools.command_runs import page_of
+from operations.tests.tools.line_runs import here
 from operations.tests.tools.running import SECONDS, ropepeach
+from ropepeach.collection import show
 from ropepeach.collection.settings import CollectionSettings
 from ropepeach.faults import Misused
 from tests.program import ROOT
@@ -55,6 +57,7 @@ WRONG = [
     ("http://127.0.0.1:8082", "http://127.0.0.1:0", "a port is 1 to 65535"),
     ("/var/lib/ropepeach/s2.disk", "s2.disk", "a file is a whole path"),
     ("/var/lib/ropepeach/s2.disk", "/var/lib/a b", "a file is a whole path"),
+    (HEAD, HEAD + 'near = ["::1%x;"]\n', "near: '::1%x;' is no address"),
     ("[source.s2]", '[source."../s2"]', "a name is 1 to 32 of"),
     ("[source.s2]", "[source.S2]", "a name is 1 to 32 of"),
     ("[source.s2]", "[[source.s2]]", "source.s2: is no table"),
@@ -255,3 +258,24 @@ def test_names_live_where_the_table_says(room: pathlib.Path) -> None:
 @pytest.mark.parametrize("name", ["site", "collection", "grow"])
 def test_the_manual_page_has_the_options_and_statuses_of_its_command(name: str) -> None:
     page_of(name)
+
+
+def test_a_folder_that_nginx_would_not_take_is_refused(room: pathlib.Path) -> None:
+    """Its path is in the site."""
+    pathlib.Path("c.toml").write_text(settings(1))
+    for folder in ("my archive", "x; } location = /pwn {", "a\nb", "$uri", "#x"):
+        status, _, messages = ropepeach("collection", "c.toml", "--into", folder)
+        assert (status, messages.count("\n"), "the path of a folder has letters" in messages) == (2, 1, True), messages
+        assert not pathlib.Path(folder).exists()
+
+
+def test_writing_a_collection_empties_the_cache_of_its_site(
+        room: pathlib.Path, monkeypatch: pytest.MonkeyPatch) -> None:
+    """A source of the collection may have another file now. A dry run keeps the cache."""
+    monkeypatch.setattr(show, "CACHES", room)
+    pathlib.Path("c.toml").write_text(settings(1))
+    part = room / "ropepeach-collection/0/part"
+    part.parent.mkdir(parents=True)
+    part.write_bytes(b"an old part")
+    assert (here("collection", "c.toml", "--into", "a", "--dry-run").returncode, part.exists()) == (0, True)
+    assert (here("collection", "c.toml", "--into", "a").returncode, part.exists()) == (0, False)

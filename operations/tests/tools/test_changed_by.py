@@ -169,7 +169,9 @@ RULES = ["--may", "CN=alice,O=A Library", "papers/", "--may", "CN=alice,O=A Libr
 # The names that Alice may put; None means a status of another kind.
 ALLOWED = {"papers/1": True, "papers/a/b": True, "data.csv": True, "data": False, "dataX": False, "paper": False,
            "papers": False, "papers/": False, "Papers/1": False, "%70apers/1": False, "x/papers/1": False,
-           "other": False, "papers/../other": None, "papers%2F1": False}
+           "other": False, "papers/../other": False, "papers%2F1": False,
+           "papers/%2e%2e/q": False, "papers/.%2E/q": False, "papers/%2e": False,
+           "papers/a%2Eb": True, "papers/%2e%2e%2e": True}
 REFUSED = [("POST", "/publish"), ("POST", "/group"), ("PUT", "/group?/resource/papers/1"),
            ("DELETE", "/resource/other"), ("PUT", "//resource/papers/1"), ("PUT", "/x/resource/papers/1"),
            ("PUT", "/resource/../resource/papers/1")]

@@ -57,6 +57,21 @@ def test_new_makes_a_source(program: str, room: Path) -> None:
         status_of(made.command(*TRY), 0, "is served")
         assert made.tree() == before, "the second run changed something"
 
+
+def test_a_source_with_the_name_of_a_removed_one_has_an_empty_cache(program: str, room: Path) -> None:
+    """nginx would serve the parts of the Resource List of the removed source. A source that stays keeps its cache."""
+    with machine(room / "m", program) as made:
+        part = made.room / "cache/ropepeach-one/0/ab/part"
+        for is_new in (True, False, True):
+            part.parent.mkdir(parents=True, exist_ok=True)
+            part.write_bytes(b"an old part")
+            status_of(made.command(*TRY), 0, "is served")
+            assert part.exists() is not is_new
+            if not is_new:
+                status_of(made.command("remove", "one"), 0)
+                (made.room / "lib/ropepeach/one.disk").unlink()
+
+
 def test_new_for_a_folder_makes_the_size_that_size_prints(program: str, room: Path) -> None:
     """The option is `--for FOLDER`."""
     folder = room / "folder"
@@ -128,6 +143,8 @@ def test_wrong_arguments_are_refused_before_any_change(program: str, room: Path)
                 "--key", "/etc/ssl/here/b.key")
         refused(made, 2, "come together", *new, BASE, "--certificate", "/etc/ssl/here/a.pem")
         refused(made, 2, "a source uses", *TRY[:5], "--size", "5GiB")
+        refused(made, 2, "a source uses", *TRY[:5], "--size", "0")
+        refused(made, 2, "is no address", *TRY, "--near", "::1%x; } location = /pwn {")
         refused(made, 3, "bytes free", *TRY[:5], "--size", "4GiB") if room_of(made) < 4 << 30 else None
         refused(made, 2, "is no address", *TRY, "--near", "here")
         (made.room / "bin/only").mkdir()

@@ -93,6 +93,10 @@ OF_NEW = [
         ("a file has its name at once", "new", 'fresh, folder = f"{file}.new"', 'fresh, folder = f"{file}"', KILLED),
         ("the room of a file is not reserved", "new", 'as_user(user, "fallocate", "--length", str(size), fresh)',
          'as_user(user, "true")', "new_makes_a_source"),
+        ("nginx keeps the parts of a removed source", "new", "*cache_steps(place.cache), ", "",
+         "a_source_with_the_name_of_a_removed_one_has_an_empty_cache"),
+        ("a size of 0 is the usual one", "new", "else arguments.size\n", "else arguments.size or DEFAULT_SIZE\n",
+         "wrong_arguments_are_refused_before_any_change"),
         ("a file of a killed run stays", "new", 'as_user(user, "rm", "-f", fresh)', 'as_user(user, "true")', KILLED),
         ("a refused site stays", "new", 'undo=("rm", link, file)', 'undo=("rm", file)',
          "a_site_that_nginx_refuses_is_removed"),
@@ -121,6 +125,8 @@ OF_WRITES = [
 ]
 OF_BOUNDS = [
     bug(what, file, old, new, test) for what, file, old, new, test in [
+        ("a certificate may put a name of encoded dots", "admin/site_text.py", '{NO_DOTS}/resource', "/resource",
+         "changed_by::a_certificate_changes_only_its_names"),
         ("all archives of a dump are kept", "resync/dumps.py", "self.kept + size <= MOST_KEPT", "True",
          "any_dumps::one_archive_of_a_dump_is_held_at_a_time"),
         ("a document may have any number of members", "resync/sitemaps.py", "in range(MOST_MEMBERS)",
