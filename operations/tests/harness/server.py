@@ -1,21 +1,192 @@
-"""A fake HTTP server on loopback: scripted responses by path, and a log of the requests."""
+"""Fake HTTP servers on loopback: raw answers of a function, or scripted responses by path, and a log of the requests."""
 from __future__ import annotations
 
 import contextlib
 import dataclasses
+import functools
 import hashlib
-import http.server
 import socket
+import ssl
 import struct
 import threading
 import time
-from collections.abc import Callable, Iterator, Mapping
-from typing import Any, NamedTuple
+from collections.abc import Callable, Iterable, Mapping
+from typing import TypeVar
 
 # The time in every `Last-Modified`.
 MODIFIED = "Thu, 03 Jan 2013 09:00:00 GMT"
 # Seconds to wait for the end of connections, at most.
 IDLE = 5
+LONGEST_HEAD = 65_536
+
+
+@dataclasses.dataclass
+class Request:
+    """A request as received: its head and body, the number of its connection (from 0), the moment, and the status of
+    its response, if a server by path sent one.
+    """
+
+    head: bytes
+    body: bytes
+    connection: int
+    moment: float
+    status: int = 0
+
+    @property
+    def method(self) -> str:
+        """Return the method."""
+        return self.head.split(b" ", 1)[0].decode()
+
+    @property
+    def path(self) -> str:
+        """Return the target of the request line."""
+        return self.head.split(b" ", 2)[1].decode("latin-1")
+
+    @functools.cached_property
+    def fields(self) -> dict[str, str]:
+        """Return the header fields, with names in lower case."""
+        lines = self.head.decode("latin-1").split("\r\n")[1:]
+        return {name.lower(): value.strip() for name, _, value in (line.partition(":") for line in lines if line)}
+
+
+@dataclasses.dataclass(frozen=True)
+class Answer:
+    """Bytes to send piece by piece, and whether the connection stays open, is closed, or is reset after them."""
+
+    pieces: Iterable[bytes] = ()
+    then: str = "keep"
+
+
+def answer(body: bytes = b"", status: str = "200 OK", *fields: str, then: str = "keep") -> Answer:
+    """Return a whole response with its length."""
+    lines = [f"HTTP/1.1 {status}", *fields, f"Content-Length: {len(body)}"]
+    return Answer([("\r\n".join(lines) + "\r\n\r\n").encode("latin-1") + body], then)
+
+
+CLOSE, RESET = Answer(then="close"), Answer(then="reset")
+Answering = Callable[[Request], Answer]
+Self = TypeVar("Self", bound="RawServer")
+
+
+class RawServer:
+    """A server that runs in `with`, every connection in its own thread. `handle` is called for every request; `fault`
+    is its last exception, which ends the connection.
+    """
+
+    def __init__(self, handle: Answering, context: ssl.SSLContext | None = None, port: int = 0) -> None:
+        self.handle, self.context = handle, context
+        self.socket = socket.create_server(("127.0.0.1", port), backlog=128)
+        self.port = self.socket.getsockname()[1]
+        self.base = f"{'https' if context else 'http'}://127.0.0.1:{self.port}"
+        self.requests: list[Request] = []
+        self.fault: Exception | None = None
+        # The certificates of clients, in the order of connections; the connections so far and now; the requests that
+        # wait for their answer, now and at most; the sent bytes.
+        self.certificates: list[object] = []
+        self.connections = self.open = self.waiting = self.most_waiting = self.sent = 0
+        self.lock = threading.RLock()
+        self.thread = threading.Thread(target=self.accept, daemon=True)
+
+    def __enter__(self: Self) -> Self:
+        self.thread.start()
+        return self
+
+    def __exit__(self, *_: object) -> None:
+        # (closing alone does not end `accept`)
+        self.socket.shutdown(socket.SHUT_RDWR)
+        self.socket.close()
+        self.thread.join(10)
+
+    def paths(self, prefix: str = "") -> list[str]:
+        """Return the targets of all requests so far that begin with a prefix."""
+        with self.lock:
+            return [request.path for request in self.requests if request.path.startswith(prefix)]
+
+    def wait_until_idle(self) -> None:
+        """Wait until the connections of clients that have ended are closed."""
+        end = time.monotonic() + IDLE
+        time.sleep(0.02)
+        while self.open and time.monotonic() < end:
+            time.sleep(0.005)
+
+    def accept(self) -> None:
+        """Serve connections until the socket is closed."""
+        with contextlib.suppress(OSError):
+            while True:
+                connection, _ = self.socket.accept()
+                self.connections += 1
+                threading.Thread(target=self.serve, args=(connection, self.connections - 1), daemon=True).start()
+
+    def serve(self, connection: socket.socket, number: int) -> None:
+        """Serve one connection."""
+        with self.lock:
+            self.open += 1
+        try:
+            with contextlib.suppress(OSError), connection:
+                connection.settimeout(30)
+                if self.context:
+                    connection = secured = self.context.wrap_socket(connection, server_side=True)
+                    self.certificates.append(secured.getpeercert())
+                while self.exchange(connection, number):
+                    pass
+        except Exception as fault:
+            self.fault = fault
+        finally:
+            with self.lock:
+                self.open -= 1
+
+    def exchange(self, connection: socket.socket, number: int) -> bool:
+        """Answer one request. Return whether the connection stays open."""
+        request = received(connection, number)
+        if request is None:
+            return False
+        with self.lock:
+            self.requests.append(request)
+            self.waiting += 1
+            self.most_waiting = max(self.waiting, self.most_waiting)
+        found = self.handle(request)
+        with self.lock:
+            self.waiting -= 1
+        for piece in found.pieces:
+            connection.sendall(piece)
+            with self.lock:
+                self.sent += len(piece)
+        if found.then == "reset":
+            connection.setsockopt(socket.SOL_SOCKET, socket.SO_LINGER, struct.pack("ii", 1, 0))
+        return found.then == "keep"
+
+
+def received(connection: socket.socket, number: int) -> Request | None:
+    """Return the next request of a connection, or None if the client has closed it."""
+    head = b""
+    while b"\r\n\r\n" not in head and len(head) < LONGEST_HEAD:
+        piece = connection.recv(LONGEST_HEAD)
+        if not piece:
+            return None
+        head += piece
+    head, _, body = head.partition(b"\r\n\r\n")
+    request = Request(head + b"\r\n", b"", number, time.monotonic())
+    parts, missing = [body], int(request.fields.get("content-length", "0")) - len(body)
+    while missing > 0:
+        piece = connection.recv(min(missing, 1 << 20))
+        if not piece:
+            return None
+        parts.append(piece)
+        missing -= len(piece)
+    request.body = b"".join(parts)
+    return request
+
+
+def in_turn(*answers: Answer) -> Answering:
+    """Return a function that gives these answers in turn, and repeats the last one."""
+    left = list(answers)
+    return lambda _: left.pop(0) if len(left) > 1 else left[0]
+
+
+def closed_port() -> int:
+    """Return a port without a listener."""
+    with socket.create_server(("127.0.0.1", 0)) as listening:
+        return int(listening.getsockname()[1])
 
 
 @dataclasses.dataclass(frozen=True)
@@ -39,33 +210,17 @@ def redirect(location: str, status: int = 302) -> Response:
     return Response(b"", status, {"Location": location})
 
 
-class Request(NamedTuple):
-    """A request: its method, path and header fields (names in lower case), and the status of its response."""
-
-    method: str
-    path: str
-    fields: Mapping[str, str]
-    status: int
-
-
-class Server(http.server.ThreadingHTTPServer):
+class Server(RawServer):
     """Answer from `responses` by path; a list gives its responses in order, then repeats the last.
 
     `has_tags` and `has_dates` add `ETag` and `Last-Modified` to responses 200, and answer conditional requests with
     304.
     """
 
-    daemon_threads = True
-
     def __init__(self) -> None:
-        super().__init__(("127.0.0.1", 0), Handler)
-        self.base = f"http://127.0.0.1:{self.server_address[1]}"
+        super().__init__(self.scripted)
         self.responses: dict[str, Response | list[Response]] = {}
-        self.requests: list[Request] = []
         self.has_tags = self.has_dates = True
-        self.lock = threading.RLock()
-        # The number of open connections.
-        self.open = 0
         # Actions before a response: a condition on the path, and the call.
         self.actions: list[tuple[Callable[[str], bool], Callable[[], object]]] = []
 
@@ -102,95 +257,32 @@ class Server(http.server.ThreadingHTTPServer):
                 return found.pop(0) if len(found) > 1 else found[0]
             return found or Response(b"not found\n", 404, {"Content-Type": "text/plain"})
 
-    def paths(self, prefix: str = "/") -> list[str]:
-        """Return the requested paths below a prefix."""
-        with self.lock:
-            return [request.path for request in self.requests if request.path.startswith(prefix)]
-
-    def process_request_thread(self, request: Any, client_address: Any) -> None:
-        """Serve a connection, and count it while it is open."""
-        with self.lock:
-            self.open += 1
-        try:
-            super().process_request_thread(request, client_address)
-        finally:
-            with self.lock:
-                self.open -= 1
-
-    def wait_until_idle(self) -> None:
-        """Wait until the connections of clients that have ended are closed."""
-        end = time.monotonic() + IDLE
-        time.sleep(0.02)
-        while self.open and time.monotonic() < end:
-            time.sleep(0.005)
-
-    def handle_error(self, *_: object) -> None:
-        """Ignore a client that disconnects early."""
-
-
-class Handler(http.server.BaseHTTPRequestHandler):
-    """Serve one connection."""
-
-    server: Server
-    protocol_version = "HTTP/1.1"
-    # (send the header and the body together, else the body waits for an acknowledgement)
-    wbufsize = 65_536
-
-    def do_GET(self) -> None:
-        """Send the scripted response."""
-        response = self.server.response_to(self.path)
+    def scripted(self, request: Request) -> Answer:
+        """Return the response to a request in bytes."""
+        response = self.response_to(request.path)
         time.sleep(response.delay)
-        tag = '"' + hashlib.md5(response.body).hexdigest() + '"'
-        status = 304 if self.is_current(response, tag) else response.status
-        with self.server.lock:
-            fields = {name.lower(): value for name, value in self.headers.items()}
-            self.server.requests.append(Request(self.command, self.path, fields, 0 if response.is_reset else status))
         if response.is_reset:
-            self.reset()
-            return
-        with contextlib.suppress(OSError):
-            self.send(response, status, tag)
+            return RESET
+        tag = '"' + hashlib.md5(response.body).hexdigest() + '"'
+        request.status = 304 if self.is_current(request, response, tag) else response.status
+        body = b"" if request.status == 304 else response.body
+        fields = {"Content-Length": str(len(body))}
+        if response.status == 200:
+            fields |= {"ETag": tag} if self.has_tags else {}
+            fields |= {"Last-Modified": MODIFIED} if self.has_dates else {}
+        lines = [f"{name}: {value}\r\n" for name, value in (fields | dict(response.fields)).items()]
+        head = f"HTTP/1.1 {request.status} Scripted\r\n{''.join(lines)}\r\n".encode("latin-1")
+        return Answer([head + body[:response.cut]], "keep" if response.cut is None else "close")
 
-    def is_current(self, response: Response, tag: str) -> bool:
+    def is_current(self, request: Request, response: Response, tag: str) -> bool:
         """Return whether the response to a conditional request is 304."""
         if response.status != 200:
             return False
-        if (wanted := self.headers.get("If-None-Match")) is not None:
-            return self.server.has_tags and wanted == tag
-        return self.server.has_dates and self.headers.get("If-Modified-Since") == MODIFIED
-
-    def send(self, response: Response, status: int, tag: str) -> None:
-        """Send a response."""
-        body = b"" if status == 304 else response.body
-        self.send_response(status)
-        fields = {"Content-Length": str(len(body))}
-        if response.status == 200:
-            fields |= {"ETag": tag} if self.server.has_tags else {}
-            fields |= {"Last-Modified": MODIFIED} if self.server.has_dates else {}
-        for name, value in (fields | dict(response.fields)).items():
-            self.send_header(name, value)
-        self.end_headers()
-        self.wfile.write(body if response.cut is None else body[:response.cut])
-        if response.cut is not None:
-            self.close_connection = True
-
-    def reset(self) -> None:
-        """Reset the connection."""
-        self.connection.setsockopt(socket.SOL_SOCKET, socket.SO_LINGER, struct.pack("ii", 1, 0))
-        self.close_connection = True
-
-    def log_message(self, *_: object) -> None:
-        """Print no log."""
+        if (wanted := request.fields.get("if-none-match")) is not None:
+            return self.has_tags and wanted == tag
+        return self.has_dates and request.fields.get("if-modified-since") == MODIFIED
 
 
-@contextlib.contextmanager
-def serving() -> Iterator[Server]:
-    """Run a server until the block ends."""
-    with Server() as server:
-        thread = threading.Thread(target=server.serve_forever, args=(0.02,), daemon=True)
-        thread.start()
-        try:
-            yield server
-        finally:
-            server.shutdown()
-            thread.join(10)
+def serving() -> Server:
+    """Return a server that runs in `with`."""
+    return Server()

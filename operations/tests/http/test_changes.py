@@ -10,7 +10,7 @@ from typing import Any
 
 import pytest
 
-from operations.tests.http.raw_server import CLOSE, RESET, Answer, RawServer, Request, answer, serving
+from operations.tests.harness.server import CLOSE, RESET, Answer, RawServer, Request, answer
 from ropepeach.faults import Fault, Silent
 from ropepeach.fill.send import MOST_GROUPED, PutOrDelete, Sending
 from ropepeach.http.client import Client
@@ -33,7 +33,7 @@ class FakeSource:
     def answer(self, request: Request) -> Answer:
         """Answer a request."""
         with self.lock:
-            name = request.target.rpartition("/")[2]
+            name = request.path.rpartition("/")[2]
             if request.method == "GET":
                 return answer(self.bodies[name], "200 OK", f"Content-Type: {TYPE}") if name in self.bodies else NOT_HELD
             lost = self.lost.pop(0) if self.lost else None
@@ -58,14 +58,14 @@ class FakeSource:
 
 def sending(server: RawServer, made_up: FakeSource, patience: float = 20) -> Sending:
     """Return a `Sending` to a server."""
-    source: Any = SimpleNamespace(client=Client(server.url, patience),
+    source: Any = SimpleNamespace(client=Client(server.base, patience),
                                   published_at=lambda: "2" if made_up.publications else "1")
     return Sending(source, "1", True)
 
 
 def changes_of(server: RawServer) -> list[tuple[str, str]]:
     """Return the requests that change something."""
-    return [(request.method, request.target) for request in server.requests if request.method != "GET"]
+    return [(request.method, request.path) for request in server.requests if request.method != "GET"]
 
 
 @pytest.mark.parametrize("changes", [[SMALL], [LARGE], [EMPTY], [DELETION], GROUP])
@@ -76,7 +76,7 @@ def test_change_without_an_answer_is_looked_for(changes: list[PutOrDelete], lost
                                                 is_taken: bool) -> None:
     """A change that the source has executed is not sent again; another one is."""
     made_up = FakeSource([lost], is_taken)
-    with serving(made_up.answer) as server:
+    with RawServer(made_up.answer) as server:
         sender = sending(server, made_up)
         if is_open:
             sender.ask("GET", "/resource/a")
@@ -93,7 +93,7 @@ def test_change_without_an_answer_is_looked_for(changes: list[PutOrDelete], lost
 @pytest.mark.parametrize("is_taken", [False, True])
 def test_publication_without_an_answer_is_looked_for(is_taken: bool) -> None:
     made_up = FakeSource([CLOSE], is_taken)
-    with serving(made_up.answer) as server:
+    with RawServer(made_up.answer) as server:
         sender = sending(server, made_up)
         sender.publish()
         assert (made_up.publications, sender.at) == (1, "2")
@@ -102,7 +102,7 @@ def test_publication_without_an_answer_is_looked_for(is_taken: bool) -> None:
 
 def test_changes_without_answers_end_with_the_patience_after_growing_pauses() -> None:
     made_up = FakeSource([answer(b"", "502 Bad Gateway")] * 1_000, False)
-    with serving(made_up.answer) as server:
+    with RawServer(made_up.answer) as server:
         started = time.monotonic()
         with pytest.raises(Silent, match="PUT .*/resource/a: no answer: 502 Bad Gateway"):
             sending(server, made_up, 1).send(SMALL)
@@ -114,7 +114,7 @@ def test_source_that_is_gone_ends_a_change() -> None:
     def answers(request: Request) -> Answer:
         return CLOSE
 
-    with serving(answers) as server:
+    with RawServer(answers) as server:
         with pytest.raises(Silent, match="GET .*/resource/a: no answer for 0.5 seconds"):
             sending(server, FakeSource([], False), 0.5).send(SMALL)
         assert changes_of(server) == [("PUT", "/resource/a")]
@@ -124,7 +124,7 @@ def test_source_that_is_gone_ends_a_change() -> None:
 def test_change_waits_as_a_proxy_asks(seconds: str) -> None:
     """A proxy that responds 429 has not forwarded the request."""
     made_up = FakeSource([answer(b"", "429 Too Many Requests", f"Retry-After: {seconds}")] * 2, False)
-    with serving(made_up.answer) as server:
+    with RawServer(made_up.answer) as server:
         sending(server, made_up).send(SMALL)
         first, second, third = (request.moment for request in server.requests)
         assert second - first >= float(seconds or 0.05) and third - second >= float(seconds or 0.1)
@@ -132,7 +132,7 @@ def test_change_waits_as_a_proxy_asks(seconds: str) -> None:
 
 def test_change_that_is_sent_too_fast_for_the_whole_patience_is_refused() -> None:
     made_up = FakeSource([answer(b"", "429 Too Many Requests")] * 1_000, False)
-    with serving(made_up.answer) as server, pytest.raises(Fault, match="was refused: 429 Too Many Requests"):
+    with RawServer(made_up.answer) as server, pytest.raises(Fault, match="was refused: 429 Too Many Requests"):
         sending(server, made_up, 0.5).send(SMALL)
 
 
@@ -144,6 +144,6 @@ def test_body_that_grew_meanwhile_is_another_one() -> None:
         yield answer(b"", "204 No Content")
 
     left = answers()
-    with serving(lambda _: next(left)) as server:
+    with RawServer(lambda _: next(left)) as server:
         sending(server, FakeSource([], False)).send(SMALL)
         assert changes_of(server) == [("PUT", "/resource/a")] * 2

@@ -9,7 +9,7 @@ from unittest import mock
 import pycurl
 import pytest
 
-from operations.tests.http.raw_server import CLOSE, Answer, Request, answer, closed_port, serving
+from operations.tests.harness.server import CLOSE, Answer, RawServer, Request, answer, closed_port
 from ropepeach.faults import Long, Silent, Slow
 from ropepeach.http import handle
 from ropepeach.http.client import LONGEST_DOCUMENT, Client
@@ -35,10 +35,10 @@ def dripping(_: Request) -> Answer:
 
 @pytest.mark.parametrize("answers", [waiting, dripping])
 def test_slow_answer_ends_and_is_not_asked_for_again(answers: object) -> None:
-    with serving(answers) as server:  # type: ignore[arg-type]
+    with RawServer(answers) as server:  # type: ignore[arg-type]
         started = time.monotonic()
-        with pytest.raises(Slow, match=f"GET {server.url}/a: the answer took longer than 0.7 seconds"):
-            Client(server.url, whole=0.7).ask("GET", "/a")
+        with pytest.raises(Slow, match=f"GET {server.base}/a: the answer took longer than 0.7 seconds"):
+            Client(server.base, whole=0.7).ask("GET", "/a")
         assert 0.6 < time.monotonic() - started < 3
         assert len(server.requests) == 1
 
@@ -47,25 +47,25 @@ def test_slow_answer_ends_and_is_not_asked_for_again(answers: object) -> None:
     waiting, dripping, lambda _: CLOSE, lambda _: answer(b"", "503 A", "Retry-After: 9"),
 ])
 def test_end_of_the_run_ends_a_request_in_time(answers: object) -> None:
-    with serving(answers) as server:  # type: ignore[arg-type]
+    with RawServer(answers) as server:  # type: ignore[arg-type]
         started = time.monotonic()
         with pytest.raises(Spent, match="the run took longer than --max-duration allows"):
-            Client(server.url, limits=Limits(end=started + 0.7)).ask("GET", "/a")
+            Client(server.base, limits=Limits(end=started + 0.7)).ask("GET", "/a")
         assert 0.6 < time.monotonic() - started < 2
 
 
 def test_pause_in_a_transfer_ends_the_attempt() -> None:
-    with mock.patch.object(handle, "OPTIONS", handle.OPTIONS | {pycurl.LOW_SPEED_TIME: 1}), serving(waiting) as server:
+    with mock.patch.object(handle, "OPTIONS", handle.OPTIONS | {pycurl.LOW_SPEED_TIME: 1}), RawServer(waiting) as server:
         started = time.monotonic()
         with pytest.raises(Silent, match="Operation too slow"):
-            Client(server.url, patience=0).ask("GET", "/a")
+            Client(server.base, patience=0).ask("GET", "/a")
         assert time.monotonic() - started < 6
 
 
 def test_bytes_of_answers_are_counted_while_they_come() -> None:
-    with serving(lambda _: answer(b"x" * 5_000_000)) as server:
+    with RawServer(lambda _: answer(b"x" * 5_000_000)) as server:
         limits = Limits(bytes=8_000_000)
-        client = Client(server.url, limits=limits)
+        client = Client(server.base, limits=limits)
         assert len(client.ask("GET", "/a").body) == 5_000_000
         with pytest.raises(Spent, match="more than 8,000,000 bytes, as --max-bytes allows"):
             client.ask("GET", "/a")
@@ -73,9 +73,9 @@ def test_bytes_of_answers_are_counted_while_they_come() -> None:
 
 
 def test_longest_document_is_the_default_limit() -> None:
-    with serving(lambda _: answer(b"x" * (LONGEST_DOCUMENT + 1))) as server:
+    with RawServer(lambda _: answer(b"x" * (LONGEST_DOCUMENT + 1))) as server:
         with pytest.raises(Long):
-            Client(server.url).ask("GET", "/a")
+            Client(server.base).ask("GET", "/a")
 
 
 # Failures

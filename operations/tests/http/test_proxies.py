@@ -8,7 +8,7 @@ from collections.abc import Iterator
 
 import pytest
 
-from operations.tests.http.raw_server import Answer, RawServer, answer, closed_port, serving
+from operations.tests.harness.server import Answer, RawServer, answer, closed_port
 from ropepeach.faults import Fault, Silent
 from ropepeach.http.client import Client
 from ropepeach.http.proxies import proxy_to
@@ -27,24 +27,24 @@ def no_proxies(monkeypatch: pytest.MonkeyPatch) -> None:
 @pytest.fixture
 def proxy() -> Iterator[RawServer]:
     """Run a proxy that answers all requests itself."""
-    with serving(lambda _: answer(b"by proxy")) as running:
+    with RawServer(lambda _: answer(b"by proxy")) as running:
         yield running
 
 
 @pytest.mark.parametrize("name", ["http_proxy", "HTTP_PROXY", "Http_Proxy", "all_proxy", "ALL_PROXY"])
 def test_proxy_gets_the_whole_address(proxy: RawServer, monkeypatch: pytest.MonkeyPatch, name: str) -> None:
-    monkeypatch.setenv(name, proxy.url)
+    monkeypatch.setenv(name, proxy.base)
     client = Client(f"http://{HOST}:8080/s1", patience=0)
     for target in ("/%c3/../a?b", "/b"):
         assert client.ask("GET", target).body == b"by proxy"
-    assert proxy.targets() == [f"http://{HOST}:8080/s1/%c3/../a?b", f"http://{HOST}:8080/s1/b"]
-    assert proxy.requests[0].fields()["host"] == f"{HOST}:8080"
+    assert proxy.paths() == [f"http://{HOST}:8080/s1/%c3/../a?b", f"http://{HOST}:8080/s1/b"]
+    assert proxy.requests[0].fields["host"] == f"{HOST}:8080"
     assert proxy.connections == 1
 
 
 def test_request_that_is_not_safe_goes_to_the_proxy_once(proxy: RawServer, monkeypatch: pytest.MonkeyPatch) -> None:
-    monkeypatch.setenv("http_proxy", proxy.url)
-    proxy.answers = lambda request: answer(b"x", then="keep" if request.method == "GET" else "close") \
+    monkeypatch.setenv("http_proxy", proxy.base)
+    proxy.handle = lambda request: answer(b"x", then="keep" if request.method == "GET" else "close") \
         if request.method == "GET" else Answer(then="close")
     client = Client(f"http://{HOST}", patience=1)
     client.ask("GET", "/a")
@@ -60,7 +60,7 @@ def test_request_that_is_not_safe_goes_to_the_proxy_once(proxy: RawServer, monke
 @pytest.mark.parametrize("name", ["no_proxy", "NO_PROXY"])
 def test_no_proxy_leads_to_the_hosts_of_no_proxy(proxy: RawServer, monkeypatch: pytest.MonkeyPatch, name: str,
                                                  value: str, is_direct: bool) -> None:
-    monkeypatch.setenv("http_proxy", proxy.url)
+    monkeypatch.setenv("http_proxy", proxy.base)
     monkeypatch.setenv(name, value)
     client = Client(f"http://{HOST}", patience=0)
     if is_direct:
@@ -74,9 +74,9 @@ def test_no_proxy_leads_to_the_hosts_of_no_proxy(proxy: RawServer, monkeypatch: 
 @pytest.mark.parametrize("host", ["127.0.0.1", "localhost"])
 def test_no_proxy_leads_to_this_machine(proxy: RawServer, monkeypatch: pytest.MonkeyPatch, host: str) -> None:
     for name in ("http_proxy", "ALL_PROXY"):
-        monkeypatch.setenv(name, proxy.url)
-    with serving(lambda _: answer(b"direct")) as server:
-        assert Client(server.url.replace("127.0.0.1", host)).ask("GET", "/a").body == b"direct"
+        monkeypatch.setenv(name, proxy.base)
+    with RawServer(lambda _: answer(b"direct")) as server:
+        assert Client(server.base.replace("127.0.0.1", host)).ask("GET", "/a").body == b"direct"
     assert proxy.requests == []
 
 
@@ -84,8 +84,8 @@ def test_no_proxy_leads_to_this_machine(proxy: RawServer, monkeypatch: pytest.Mo
                                                   ("502 Bad Gateway", False)])
 def test_refused_tunnel_is_worded(proxy: RawServer, monkeypatch: pytest.MonkeyPatch, status: str,
                                   is_final: bool) -> None:
-    monkeypatch.setenv("https_proxy", proxy.url)
-    proxy.answers = lambda _: answer(b"", status, then="close")
+    monkeypatch.setenv("https_proxy", proxy.base)
+    proxy.handle = lambda _: answer(b"", status, then="close")
     with pytest.raises(Fault, match=f"GET https://{HOST}/a: .*{status[:3]}") as fault:
         Client(f"https://{HOST}", patience=0.3).ask("GET", "/a")
     assert isinstance(fault.value, Silent) is not is_final
@@ -110,9 +110,9 @@ def test_unknown_proxy_is_named(monkeypatch: pytest.MonkeyPatch) -> None:
 
 
 def test_user_of_a_proxy_is_sent_to_it(proxy: RawServer, monkeypatch: pytest.MonkeyPatch) -> None:
-    monkeypatch.setenv("http_proxy", proxy.url.replace("//", "//user:secret@"))
+    monkeypatch.setenv("http_proxy", proxy.base.replace("//", "//user:secret@"))
     assert Client(f"http://{HOST}", patience=0).ask("GET", "/a").body == b"by proxy"
-    assert proxy.requests[0].fields()["proxy-authorization"] == "Basic dXNlcjpzZWNyZXQ="
+    assert proxy.requests[0].fields["proxy-authorization"] == "Basic dXNlcjpzZWNyZXQ="
 
 
 def test_proxy_of_socks_is_spoken_to_by_socks(monkeypatch: pytest.MonkeyPatch) -> None:

@@ -9,9 +9,8 @@ from unittest import mock
 
 import pytest
 
-from operations.tests.http.raw_server import (
-    CLOSE, RESET, Answer, Request, answer, closed_port, in_turn, received, serving,
-)
+from operations.tests.harness.server import (
+    CLOSE, RESET, Answer, RawServer, Request, answer, closed_port, in_turn, received)
 from ropepeach.cli import output
 from ropepeach.faults import Silent
 from ropepeach.http.client import Client, Fields, Response
@@ -41,21 +40,21 @@ CHANGES = {"publication": ("POST", "/publish", None), "group": ("POST", "/group"
 def test_request_that_changes_something_is_never_sent_twice(change: str, no_answer: Answer, is_open: bool) -> None:
     """The source reads the whole request and does not respond, on a new or a reused connection."""
     method, target, body = CHANGES[change]
-    with serving(lambda request: answer(b"x") if request.method == "GET" else no_answer) as server:
-        client = Client(server.url, patience=2)
+    with RawServer(lambda request: answer(b"x") if request.method == "GET" else no_answer) as server:
+        client = Client(server.base, patience=2)
         if is_open:
             assert client.ask("GET", "/a").body == b"x"
-        with pytest.raises(Silent, match=f"{method} {server.url}{target}: no answer: "):
+        with pytest.raises(Silent, match=f"{method} {server.base}{target}: no answer: "):
             client.ask(method, target, body)
         time.sleep(0.05)
-        changes = [(request.target, request.body) for request in server.requests if request.method != "GET"]
+        changes = [(request.path, request.body) for request in server.requests if request.method != "GET"]
         assert changes == [(target, body or b"")]
         assert client.ask("GET", "/a").body == b"x"
 
 
 def test_changes_use_the_open_connection_unless_libcurl_could_repeat_them() -> None:
-    with serving(lambda _: answer(b"x")) as server:
-        client = Client(server.url)
+    with RawServer(lambda _: answer(b"x")) as server:
+        client = Client(server.base)
         client.ask("GET", "/a")
         for method, target, body in CHANGES.values():
             client.ask(method, target, body)
@@ -65,8 +64,8 @@ def test_changes_use_the_open_connection_unless_libcurl_could_repeat_them() -> N
 
 def test_request_that_is_not_safe_goes_on_no_connection_that_the_source_has_closed() -> None:
     """The source closes a kept connection before the request comes."""
-    with serving(lambda request: answer(b"x", then="close" if request.method == "GET" else "keep")) as server:
-        client = Client(server.url, patience=0)
+    with RawServer(lambda request: answer(b"x", then="close" if request.method == "GET" else "keep")) as server:
+        client = Client(server.base, patience=0)
         for _ in range(20):
             assert client.ask("GET", "/a").body == b"x"
             assert client.ask("POST", "/publish").body == b"x"
@@ -74,14 +73,14 @@ def test_request_that_is_not_safe_goes_on_no_connection_that_the_source_has_clos
 
 
 def test_request_that_is_not_safe_is_repeated_where_the_source_has_not_seen_it() -> None:
-    with serving(in_turn(answer(b"", "503 Service Unavailable"), answer(b"published"))) as server:
-        assert Client(server.url).ask("POST", "/publish").body == b"published"
+    with RawServer(in_turn(answer(b"", "503 Service Unavailable"), answer(b"published"))) as server:
+        assert Client(server.base).ask("POST", "/publish").body == b"published"
         assert len(server.requests) == 2
 
 
 def test_request_that_is_not_safe_gets_429_as_its_answer() -> None:
-    with serving(lambda _: answer(b"", "429 Too Many Requests")) as server:
-        assert Client(server.url).ask("POST", "/publish").status == 429
+    with RawServer(lambda _: answer(b"", "429 Too Many Requests")) as server:
+        assert Client(server.base).ask("POST", "/publish").status == 429
         assert len(server.requests) == 1
 
 
@@ -104,8 +103,8 @@ def test_request_that_is_not_safe_waits_for_a_source_that_is_refused_at_first() 
 
 
 def test_connection_that_stays_open_is_used_again_and_one_that_was_closed_is_no_fault() -> None:
-    with serving(in_turn(answer(b"1"), answer(b"2", then="close"), answer(b"3"))) as server:
-        client = Client(server.url, patience=0)
+    with RawServer(in_turn(answer(b"1"), answer(b"2", then="close"), answer(b"3"))) as server:
+        client = Client(server.base, patience=0)
         bodies = []
         for _ in range(3):
             bodies.append(client.ask("GET", "/a").body)
@@ -115,8 +114,8 @@ def test_connection_that_stays_open_is_used_again_and_one_that_was_closed_is_no_
 
 
 def test_close_closes_the_connection_and_the_next_request_opens_another() -> None:
-    with serving(lambda _: answer(b"x")) as server:
-        client = Client(server.url)
+    with RawServer(lambda _: answer(b"x")) as server:
+        client = Client(server.base)
         client.ask("GET", "/a")
         assert server.open == 1
         client.close()
@@ -129,9 +128,9 @@ def test_close_closes_the_connection_and_the_next_request_opens_another() -> Non
 
 @pytest.mark.parametrize("first", [answer(b"", "429 Too Many Requests"), answer(b"", "503 Unavailable"), *NO_ANSWERS])
 def test_request_that_changes_nothing_is_repeated_without_a_whole_answer(first: Answer) -> None:
-    with serving(in_turn(first, first, answer(b"whole"))) as server:
-        assert Client(server.url).ask("GET", "/a").body == b"whole"
-        assert server.targets() == ["/a"] * 3
+    with RawServer(in_turn(first, first, answer(b"whole"))) as server:
+        assert Client(server.base).ask("GET", "/a").body == b"whole"
+        assert server.paths() == ["/a"] * 3
 
 
 @pytest.mark.parametrize(("first", "why"), [
@@ -146,28 +145,28 @@ def test_request_that_changes_nothing_is_repeated_without_a_whole_answer(first: 
 ])
 def test_source_that_stays_silent_is_named_with_the_reason(
         first: Answer, why: str, capsys: pytest.CaptureFixture[str]) -> None:
-    with serving(lambda _: first) as server:
+    with RawServer(lambda _: first) as server:
         started = time.monotonic()
         with pytest.raises(Silent) as fault:
-            Client(server.url, patience=1).ask("GET", "/a")
+            Client(server.base, patience=1).ask("GET", "/a")
         assert 0.9 < time.monotonic() - started < 5
-        assert str(fault.value) == f"GET {server.url}/a: no answer for 1 seconds: {why}"
+        assert str(fault.value) == f"GET {server.base}/a: no answer for 1 seconds: {why}"
         # (one message, even if several responses ask)
-        assert capsys.readouterr().err == f"GET {server.url}/a: {why}; waiting up to 1 s\n"
+        assert capsys.readouterr().err == f"GET {server.base}/a: {why}; waiting up to 1 s\n"
         assert 3 <= len(server.requests) <= 7
 
 
 def test_no_patience_asks_once() -> None:
-    with serving(lambda _: CLOSE) as server:
+    with RawServer(lambda _: CLOSE) as server:
         with pytest.raises(Silent, match="no answer for 0 seconds"):
-            Client(server.url, patience=0).ask("GET", "/a")
+            Client(server.base, patience=0).ask("GET", "/a")
         assert len(server.requests) == 1
 
 
 def test_pauses_double_up_to_a_second() -> None:
-    with serving(lambda _: CLOSE) as server:
+    with RawServer(lambda _: CLOSE) as server:
         with pytest.raises(Silent):
-            Client(server.url, patience=4).ask("GET", "/a")
+            Client(server.base, patience=4).ask("GET", "/a")
         moments = [request.moment for request in server.requests]
         pauses = [later - earlier for earlier, later in zip(moments, moments[1:])]
         for pause, wanted in zip(pauses, [0.05, 0.1, 0.2, 0.4, 0.8, 1, 1]):
@@ -184,18 +183,18 @@ def test_retry_after_is_waited_for(form: str, status: str) -> None:
         text = "1" if form == "seconds" else email.utils.formatdate(time.time() + 2.01, usegmt=True)
         return answer(b"", status, f"Retry-After: {text}")
 
-    with serving(away) as server:
-        assert Client(server.url).ask("GET", "/a").body == b"x"
+    with RawServer(away) as server:
+        assert Client(server.base).ask("GET", "/a").body == b"x"
         first, second = server.requests
         assert 0.99 < second.moment - first.moment < 2.8
 
 
 @pytest.mark.parametrize("text", ["3600", "999999999", "Fri, 31 Dec 9999 23:59:59 GMT"])
 def test_retry_after_is_bounded_by_the_patience(text: str, capsys: pytest.CaptureFixture[str]) -> None:
-    with serving(lambda _: answer(b"", "503 Unavailable", f"Retry-After: {text}")) as server:
+    with RawServer(lambda _: answer(b"", "503 Unavailable", f"Retry-After: {text}")) as server:
         started = time.monotonic()
         with pytest.raises(Silent, match="no answer for 1.5 seconds: 503 Unavailable"):
-            Client(server.url, patience=1.5).ask("GET", "/a")
+            Client(server.base, patience=1.5).ask("GET", "/a")
         assert 1.4 < time.monotonic() - started < 3
         assert len(server.requests) == 2
         assert capsys.readouterr().err.count("waiting up to 1.5 s") == 1
@@ -204,9 +203,9 @@ def test_retry_after_is_bounded_by_the_patience(text: str, capsys: pytest.Captur
 @pytest.mark.parametrize("text", ["", "-1", "soon", "1.5", "Mon, 99 Foo 2000 00:00:00 GMT", "0",
                                   "Thu, 01 Jan 1970 00:00:00 GMT", "Thu, 01 Jan 0000 00:00:00 GMT", "9" * 400])
 def test_odd_retry_after_delays_nothing(text: str) -> None:
-    with serving(in_turn(answer(b"", "503 Unavailable", f"Retry-After: {text}"), answer(b"x"))) as server:
+    with RawServer(in_turn(answer(b"", "503 Unavailable", f"Retry-After: {text}"), answer(b"x"))) as server:
         started = time.monotonic()
-        assert Client(server.url).ask("GET", "/a").body == b"x"
+        assert Client(server.base).ask("GET", "/a").body == b"x"
         assert time.monotonic() - started < 1
 
 
@@ -226,8 +225,8 @@ def test_retry_after_reads_the_three_forms_of_dates(text: str, monkeypatch: pyte
 
 def test_messages_of_the_client_end_with_the_request() -> None:
     """A message about one request may be repeated for the next one."""
-    with serving(lambda _: CLOSE) as server, mock.patch.object(output, "message") as message:
-        client = Client(server.url, patience=1)
+    with RawServer(lambda _: CLOSE) as server, mock.patch.object(output, "message") as message:
+        client = Client(server.base, patience=1)
         for _ in range(2):
             with pytest.raises(Silent):
                 client.ask("GET", "/a")

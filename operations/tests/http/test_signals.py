@@ -13,7 +13,7 @@ from collections.abc import Iterator
 import pytest
 
 from operations.tests import PYTHON
-from operations.tests.http.raw_server import Answer, Answering, Request, answer, serving
+from operations.tests.harness.server import Answer, Answering, RawServer, Request, answer
 
 OPERATIONS = pathlib.Path(__file__).resolve().parents[2]
 # A program that runs a transfer or a request, and prints its end.
@@ -69,8 +69,8 @@ def away(_: Request) -> Answer:
 
 def stopped(mode: str, answers: Answering, number: int, pause: float) -> tuple[int, str, str, float]:
     """Return the status, the output and the messages of a process that gets a signal, and the seconds until its end."""
-    with serving(answers) as server:
-        process = subprocess.Popen([PYTHON, "-c", PROGRAM, mode, server.url], text=True, stdout=subprocess.PIPE,
+    with RawServer(answers) as server:
+        process = subprocess.Popen([PYTHON, "-c", PROGRAM, mode, server.base], text=True, stdout=subprocess.PIPE,
                                    stderr=subprocess.PIPE, env=os.environ | {"PYTHONPATH": str(OPERATIONS)})
         end = time.monotonic() + 20
         while not server.requests and time.monotonic() < end:

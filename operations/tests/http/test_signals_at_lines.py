@@ -12,7 +12,7 @@ from unittest import mock
 import pycurl
 import pytest
 
-from operations.tests.http.raw_server import Answer, RawServer, Request, answer, serving
+from operations.tests.harness.server import Answer, RawServer, Request, answer
 from ropepeach.cli.stops import STOPS, Stopped
 from ropepeach.http import transfers
 from ropepeach.http.transfers import Transfer, Transfers
@@ -94,14 +94,14 @@ def answers(server: RawServer) -> Callable[[Request], Answer]:
     tried = set[str]()
 
     def answer_to(request: Request) -> Answer:
-        is_first = request.target not in tried
-        tried.add(request.target)
-        if request.target == "/retry" and is_first:
+        is_first = request.path not in tried
+        tried.add(request.path)
+        if request.path == "/retry" and is_first:
             return answer(b"", "503 Unavailable", "Retry-After: 0")
-        if request.target == "/cut" and is_first:
+        if request.path == "/cut" and is_first:
             return Answer([b"HTTP/1.1 200 OK\r\nContent-Length: 9\r\n\r\nx"], "close")
-        if request.target == "/redirect":
-            return answer(b"", "302 Found", f"Location: {server.url}/body")
+        if request.path == "/redirect":
+            return answer(b"", "302 Found", f"Location: {server.base}/body")
         return answer(b"body")
 
     return answer_to
@@ -121,13 +121,13 @@ def heard() -> Iterator[None]:
 @pytest.mark.parametrize("connections", [1, 3])
 def test_signal_at_any_line_leaves_no_handle_in_libcurl(offset: int, connections: int, heard: None) -> None:
     line, stops = offset * 2, 0
-    with serving(lambda _: answer(b"")) as server, mock.patch.object(pycurl, "CurlMulti", CountedMulti):
+    with RawServer(lambda _: answer(b"")) as server, mock.patch.object(pycurl, "CurlMulti", CountedMulti):
         while True:
-            server.answers = answers(server)
+            server.handle = answers(server)
             CountedMulti.made.clear()
             STOPS.listen([signal.SIGINT, signal.SIGTERM])
-            client, number = Transfers(server.url, connections=connections), (signal.SIGINT, signal.SIGTERM)[stops % 2]
-            asked = [Following(f"{server.url}/{name}", 99) for name in ("retry", "redirect", "cut", "body")]
+            client, number = Transfers(server.base, connections=connections), (signal.SIGINT, signal.SIGTERM)[stops % 2]
+            asked = [Following(f"{server.base}/{name}", 99) for name in ("retry", "redirect", "cut", "body")]
             ended = []
 
             def work() -> None:
@@ -146,7 +146,7 @@ def test_signal_at_any_line_leaves_no_handle_in_libcurl(offset: int, connections
             assert not any(multi.handles for multi in CountedMulti.made)
             # (the yielded results are complete)
             assert all((status, transfer.taken) == (200, b"body") for transfer, status in ended)
-            [(again, response)] = client.each([Following(f"{server.url}/body", 99)])
+            [(again, response)] = client.each([Following(f"{server.base}/body", 99)])
             assert (again.taken, getattr(response, "status", response)) == (b"body", 200)
             client.close()
             if not is_signalled:

@@ -12,8 +12,8 @@ from unittest import mock
 
 import pytest
 
+from operations.tests.harness.server import RawServer, answer
 from operations.tests.http.certificates import Certificates
-from operations.tests.http.raw_server import answer, serving
 from ropepeach.faults import Fault, Misused, Silent
 from ropepeach.http.client import Client, error_text
 from ropepeach.http.transfers import Transfer, Transfers
@@ -50,20 +50,20 @@ def refused(url: str) -> str:
 
 
 def test_private_ca_is_trusted_by_ssl_cert_file(certificates: Certificates, trusting: None) -> None:
-    with serving(lambda _: answer(b"x" * 3_000_000), certificates.server("good")) as server:
-        client = Client(server.url)
+    with RawServer(lambda _: answer(b"x" * 3_000_000), certificates.server("good")) as server:
+        client = Client(server.base)
         for _ in range(3):
             assert client.ask("GET", "/a").body == b"x" * 3_000_000
         assert server.connections == 1
-        assert Client(server.url.replace("127.0.0.1", "localhost")).ask("GET", "/a").status == 200
+        assert Client(server.base.replace("127.0.0.1", "localhost")).ask("GET", "/a").status == 200
 
 
 def test_private_ca_is_trusted_by_ssl_cert_dir(certificates: Certificates, tmp_path: pathlib.Path,
                                                monkeypatch: pytest.MonkeyPatch) -> None:
     shutil.copy(certificates.path("ca"), tmp_path)
     monkeypatch.setenv("SSL_CERT_DIR", str(tmp_path))
-    with serving(lambda _: answer(b"x"), certificates.server("good")) as server:
-        assert Client(server.url).ask("GET", "/a").body == b"x"
+    with RawServer(lambda _: answer(b"x"), certificates.server("good")) as server:
+        assert Client(server.base).ask("GET", "/a").body == b"x"
 
 
 @pytest.mark.parametrize(("name", "words"), [("self", SELF_SIGNED), ("good", UNKNOWN), ("expired", UNKNOWN),
@@ -71,35 +71,35 @@ def test_private_ca_is_trusted_by_ssl_cert_dir(certificates: Certificates, tmp_p
 def test_issuer_is_named_with_the_remedy(certificates: Certificates, name: str, words: str,
                                          monkeypatch: pytest.MonkeyPatch) -> None:
     monkeypatch.delenv("SSL_CERT_FILE", raising=False)
-    with serving(lambda _: answer(b"x"), certificates.server(name)) as server:
-        assert refused(server.url) == words
+    with RawServer(lambda _: answer(b"x"), certificates.server(name)) as server:
+        assert refused(server.base) == words
         assert server.requests == []
 
 
 def test_self_signed_certificate_is_not_trusted_for_a_private_ca(certificates: Certificates, trusting: None) -> None:
-    with serving(lambda _: answer(b"x"), certificates.server("self")) as server:
-        assert refused(server.url) == SELF_SIGNED
+    with RawServer(lambda _: answer(b"x"), certificates.server("self")) as server:
+        assert refused(server.base) == SELF_SIGNED
 
 
 def test_self_signed_certificate_is_trusted_by_ssl_cert_file(certificates: Certificates,
                                                              monkeypatch: pytest.MonkeyPatch) -> None:
     monkeypatch.setenv("SSL_CERT_FILE", str(certificates.path("self")))
-    with serving(lambda _: answer(b"x"), certificates.server("self")) as server:
-        assert Client(server.url).ask("GET", "/a").body == b"x"
+    with RawServer(lambda _: answer(b"x"), certificates.server("self")) as server:
+        assert Client(server.base).ask("GET", "/a").body == b"x"
 
 
 @pytest.mark.parametrize(("name", "words"), [("expired", "it has expired"), ("early", "it is not valid yet")])
 def test_certificate_of_another_time_is_named(certificates: Certificates, trusting: None, name: str,
                                               words: str) -> None:
-    with serving(lambda _: answer(b"x"), certificates.server(name)) as server:
-        why = refused(server.url)
+    with RawServer(lambda _: answer(b"x"), certificates.server(name)) as server:
+        why = refused(server.base)
         assert why.startswith(f"certificate verify failed: {words}") and "clock" in why
         assert server.requests == []
 
 
 def test_certificate_of_another_name_is_named(certificates: Certificates, trusting: None) -> None:
-    with serving(lambda _: answer(b"x"), certificates.server("other")) as server:
-        why = refused(server.url)
+    with RawServer(lambda _: answer(b"x"), certificates.server("other")) as server:
+        why = refused(server.base)
         assert why.startswith("certificate verify failed: ") and "does not match target host name '127.0.0.1'" in why
         assert why.endswith("; use a name that the certificate has")
         assert server.requests == []
@@ -123,23 +123,23 @@ ALERTS = b"\x15\x03\x01\x00\x02\x02\x0a", b"\x15\x03\x01\x00\x02\x02\x46"
 
 @pytest.mark.parametrize("first", [BAD_REQUEST, b"SSH-2.0-OpenSSH\r\n", b"220 mail ESMTP\r\n"])
 def test_port_without_tls_is_named(first: bytes) -> None:
-    with serving(lambda _: answer(b"")) as server, mock.patch.object(server, "serve", saying(first)):
-        why = refused(server.url.replace("http:", "https:"))
+    with RawServer(lambda _: answer(b"")) as server, mock.patch.object(server, "serve", saying(first)):
+        why = refused(server.base.replace("http:", "https:"))
         assert why.endswith(": no TLS is spoken at this port; does the address begin with http://?")
 
 
 @pytest.mark.parametrize("first", [*ALERTS, b"SSH-2.0-OpenSSH\r\n"])
 def test_port_without_http_is_named(first: bytes) -> None:
-    with serving(lambda _: answer(b"")) as server, mock.patch.object(server, "serve", saying(first)):
+    with RawServer(lambda _: answer(b"")) as server, mock.patch.object(server, "serve", saying(first)):
         with pytest.raises(Silent, match="no HTTP is spoken at this port; is it the right one, or does the address "
                                          "begin with https://?"):
-            Client(server.url, patience=0).ask("GET", "/a")
+            Client(server.base, patience=0).ask("GET", "/a")
 
 
 def test_request_without_tls_that_nginx_refuses_has_the_remedy() -> None:
     page = b"<html><h1>400 Bad Request</h1>The plain HTTP request was sent to HTTPS port</html>"
-    with serving(lambda _: answer(page, "400 Bad Request", "Content-Type: text/html")) as server:
-        assert error_text(Client(server.url).ask("GET", "/a")) == (
+    with RawServer(lambda _: answer(page, "400 Bad Request", "Content-Type: text/html")) as server:
+        assert error_text(Client(server.base).ask("GET", "/a")) == (
             "400 Bad Request: TLS is spoken at this port; does the address begin with https://?")
 
 
@@ -149,8 +149,8 @@ def test_server_with_old_versions_of_tls_is_named(certificates: Certificates, tr
     with warnings.catch_warnings():
         warnings.simplefilter("ignore", DeprecationWarning)
         context.minimum_version, context.maximum_version = ssl.TLSVersion.TLSv1, ssl.TLSVersion.TLSv1_1
-    with serving(lambda _: answer(b"x"), context) as server:
-        assert refused(server.url).endswith(": the server knows no TLS 1.2 or newer; it needs an update")
+    with RawServer(lambda _: answer(b"x"), context) as server:
+        assert refused(server.base).endswith(": the server knows no TLS 1.2 or newer; it needs an update")
         assert server.requests == []
 
 
@@ -160,30 +160,30 @@ def test_file_of_certificates_that_is_none_is_named(certificates: Certificates, 
     if text is not None:
         (tmp_path / "file").write_text(text)
     monkeypatch.setenv("SSL_CERT_FILE", str(tmp_path / "file"))
-    with serving(lambda _: answer(b"x"), certificates.server("good")) as server:
-        why = refused(server.url)
+    with RawServer(lambda _: answer(b"x"), certificates.server("good")) as server:
+        why = refused(server.base)
         assert "SSL_CERT_FILE" in why
 
 
 def test_handshake_that_is_cut_is_tried_again(certificates: Certificates, trusting: None) -> None:
     """A restarting server cuts handshakes; its certificate is not at fault."""
-    with serving(lambda _: answer(b"x")) as plain, mock.patch.object(plain, "serve", lambda one, _: one.close()):
+    with RawServer(lambda _: answer(b"x")) as plain, mock.patch.object(plain, "serve", lambda one, _: one.close()):
         with pytest.raises(Silent, match="no answer for 0.3 seconds"):
-            Client(plain.url.replace("http:", "https:"), patience=0.3).ask("GET", "/a")
+            Client(plain.base.replace("http:", "https:"), patience=0.3).ask("GET", "/a")
         assert plain.connections > 1
 
 
 def test_certificate_of_the_client_is_shown(certificates: Certificates, trusting: None) -> None:
-    with serving(lambda _: answer(b"x"), certificates.server("good", ssl.CERT_REQUIRED)) as server:
-        client = Client(server.url, certificate=str(certificates.path("client")))
+    with RawServer(lambda _: answer(b"x"), certificates.server("good", ssl.CERT_REQUIRED)) as server:
+        client = Client(server.base, certificate=str(certificates.path("client")))
         assert client.ask("PUT", "/a", b"body").status == 200
         assert "client.example" in str(server.certificates)
 
 
 def test_certificate_of_the_client_is_wanted(certificates: Certificates, trusting: None) -> None:
-    with serving(lambda _: answer(b"x"), certificates.server("good", ssl.CERT_REQUIRED)) as server:
-        with pytest.raises(Fault, match=f"GET {server.url}/a: "):
-            Client(server.url, patience=0).ask("GET", "/a")
+    with RawServer(lambda _: answer(b"x"), certificates.server("good", ssl.CERT_REQUIRED)) as server:
+        with pytest.raises(Fault, match=f"GET {server.base}/a: "):
+            Client(server.base, patience=0).ask("GET", "/a")
         assert server.requests == []
 
 
@@ -213,11 +213,11 @@ class Following(Transfer):
 def test_other_origins_are_not_shown_the_certificate(certificates: Certificates, trusting: None) -> None:
     """The certificate goes to no other port after a redirect, but again to its own origin."""
     optional = certificates.server("good", ssl.CERT_OPTIONAL)
-    with serving(lambda _: answer(b"other"), optional) as other, serving(
-            lambda request: answer(b"", "302 Found", f"Location: {other.url}/b") if request.target == "/a"
+    with RawServer(lambda _: answer(b"other"), optional) as other, RawServer(
+            lambda request: answer(b"", "302 Found", f"Location: {other.base}/b") if request.path == "/a"
             else answer(b"own"), optional) as own:
-        transfers = Transfers(own.url, certificate=str(certificates.path("client")))
-        urls = [f"{own.url}/a", f"{own.url}/c", f"{other.url}/d", f"{own.url}/c"]
+        transfers = Transfers(own.base, certificate=str(certificates.path("client")))
+        urls = [f"{own.base}/a", f"{own.base}/c", f"{other.base}/d", f"{own.base}/c"]
         bodies = [getattr(result, "body", result) for _, result in transfers.each(Following(url, 9) for url in urls)]
         assert bodies == [b"other", b"own", b"other", b"own"]
         assert [bool(shown) for shown in own.certificates] == [True] * own.connections
@@ -225,9 +225,9 @@ def test_other_origins_are_not_shown_the_certificate(certificates: Certificates,
 
 
 def test_request_over_tls_that_is_not_safe_is_sent_once(certificates: Certificates, trusting: None) -> None:
-    with serving(lambda request: answer(b"x", then="keep" if request.method == "GET" else "close"),
+    with RawServer(lambda request: answer(b"x", then="keep" if request.method == "GET" else "close"),
                  certificates.server("good")) as server:
-        client = Client(server.url)
+        client = Client(server.base)
         client.ask("GET", "/a")
         client.ask("POST", "/a")
         client.ask("GET", "/a")

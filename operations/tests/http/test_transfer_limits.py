@@ -10,7 +10,7 @@ from collections.abc import Iterator
 import pytest
 
 from operations.tests import PYTHON
-from operations.tests.http.raw_server import Answer, answer, in_turn, serving
+from operations.tests.harness.server import Answer, RawServer, answer, in_turn
 from operations.tests.http.test_signals import OPERATIONS
 from operations.tests.http.test_transfers import Noted, by_name, result_of
 from ropepeach.http.limits import Limits, Rate, Spent
@@ -20,12 +20,12 @@ HUGE = 2_000_000_000
 
 
 def test_streamed_bytes_count_and_end_the_run_within_a_body() -> None:
-    with serving(by_name) as server:
+    with RawServer(by_name) as server:
         limits = Limits(bytes=20_000_000)
-        asked = [Noted(f"{server.url}/x/15000000", 1 << 30) for _ in range(4)]
+        asked = [Noted(f"{server.base}/x/15000000", 1 << 30) for _ in range(4)]
         ended = []
         with pytest.raises(Spent, match="more than 20,000,000 bytes, as --max-bytes allows"):
-            for transfer, _ in Transfers(server.url, limits=limits).each(asked):
+            for transfer, _ in Transfers(server.base, limits=limits).each(asked):
                 ended.append(len(transfer.taken))
         assert ended == [15_000_000] and len(asked[1].taken) <= 5_000_000
         assert 20_000_000 < limits.taken.add(0) < 22_000_000
@@ -33,9 +33,9 @@ def test_streamed_bytes_count_and_end_the_run_within_a_body() -> None:
 
 def test_bytes_of_attempts_that_fail_count_too() -> None:
     cut = Answer([b"HTTP/1.1 200 OK\r\nContent-Length: 9\r\n\r\n12345"], "close")
-    with serving(in_turn(cut, answer(b"x" * 100, "502 Bad"), answer(b"abcdefghi"))) as server:
+    with RawServer(in_turn(cut, answer(b"x" * 100, "502 Bad"), answer(b"abcdefghi"))) as server:
         limits = Limits()
-        list(Transfers(server.url, limits=limits).each([Noted(f"{server.url}/a")]))
+        list(Transfers(server.base, limits=limits).each([Noted(f"{server.base}/a")]))
         assert limits.taken.add(0) == 5 + 100 + 9
 
 
@@ -46,21 +46,21 @@ def test_end_of_the_run_ends_transfers_in_time(connections: int) -> None:
         while True:
             yield bytes(1 << 16)
 
-    with serving(lambda _: Answer(pouring())) as server:
+    with RawServer(lambda _: Answer(pouring())) as server:
         started = time.monotonic()
-        asked = [Transfer(f"{server.url}/{number}", 1 << 60) for number in range(connections)]
+        asked = [Transfer(f"{server.base}/{number}", 1 << 60) for number in range(connections)]
         with pytest.raises(Spent, match="--max-duration"):
-            list(Transfers(server.url, limits=Limits(end=started + 0.7), connections=connections).each(asked))
+            list(Transfers(server.base, limits=Limits(end=started + 0.7), connections=connections).each(asked))
         assert 0.6 < time.monotonic() - started < 3
 
 
 @pytest.mark.parametrize("connections", [1, 3])
 def test_rate_is_kept_over_all_connections(connections: int) -> None:
-    with serving(by_name) as server:
+    with RawServer(by_name) as server:
         limits = Limits(rate=Rate(2_000_000))
         started = time.monotonic()
-        asked = [Noted(f"{server.url}/x/500000") for _ in range(6)]
-        for _, result in Transfers(server.url, limits=limits, connections=connections).each(asked):
+        asked = [Noted(f"{server.base}/x/500000") for _ in range(6)]
+        for _, result in Transfers(server.base, limits=limits, connections=connections).each(asked):
             assert result_of(result).status == 200
         # (the last bytes do not wait)
         assert 1.3 < time.monotonic() - started < 4
@@ -71,19 +71,19 @@ def test_rate_is_kept_for_bodies_of_requests() -> None:
         method, is_kept = "PUT", True
         body = bytes(3_000_000)
 
-    with serving(lambda _: answer(b"")) as server:
+    with RawServer(lambda _: answer(b"")) as server:
         started = time.monotonic()
-        list(Transfers(server.url, limits=Limits(rate=Rate(2_000_000))).each([Put(f"{server.url}/a", 9)]))
+        list(Transfers(server.base, limits=Limits(rate=Rate(2_000_000))).each([Put(f"{server.base}/a", 9)]))
         assert 1.1 < time.monotonic() - started < 4
         assert server.requests[0].body == Put.body
 
 
 def test_low_rate_ends_at_the_end_of_the_run() -> None:
-    with serving(by_name) as server:
+    with RawServer(by_name) as server:
         started = time.monotonic()
         limits = Limits(end=started + 1, rate=Rate(100))
         with pytest.raises(Spent, match="--max-duration"):
-            list(Transfers(server.url, limits=limits).each(Noted(f"{server.url}/x/5000") for _ in range(2)))
+            list(Transfers(server.base, limits=limits).each(Noted(f"{server.base}/x/5000") for _ in range(2)))
         assert 0.9 < time.monotonic() - started < 3
 
 
@@ -119,8 +119,8 @@ def most_memory(size: int, connections: int = 1) -> int:
     for _ in range(size // len(block)):
         digest.update(block)
     digest.update(block[:size % len(block)])
-    with serving(lambda _: Answer(generated())) as server:
-        run = subprocess.run([PYTHON, "-c", ONE_BODY, server.url, str(connections)], check=True, text=True,
+    with RawServer(lambda _: Answer(generated())) as server:
+        run = subprocess.run([PYTHON, "-c", ONE_BODY, server.base, str(connections)], check=True, text=True,
                              capture_output=True, timeout=600, env=os.environ | {"PYTHONPATH": str(OPERATIONS)})
     found, most = run.stdout.split()
     assert found == digest.hexdigest()

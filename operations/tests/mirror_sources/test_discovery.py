@@ -17,7 +17,7 @@ def test_a_list_whose_up_link_leads_to_another_host_is_mirrored_alone(
     """The run does not contact the other host, and continues."""
     source.hold(FILES)
     with serving() as other:
-        above = f"http://localhost:{other.server_address[1]}/capabilitylist.xml"
+        above = f"http://localhost:{other.port}/capabilitylist.xml"
         listed = [source.resource(name, body) for name, body in FILES.items()]
         source.put_list("resourcelist.xml", document(listed, links=link("up", above), capability="resourcelist",
                                                      at=FIRST))

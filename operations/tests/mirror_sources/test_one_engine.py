@@ -17,7 +17,7 @@ from operations.tests.harness.folder import Mirror
 from operations.tests.harness.server import Server, redirect, serving
 from operations.tests.harness.source import FakeSource
 from operations.tests.tools import COMMAND
-from operations.tests.tools.hostile_source import Liar, lying
+from operations.tests.tools.hostile_source import Liar
 from operations.tests.tools.mirrored import hold_files
 from operations.tests.tools.running import ropepeach as run
 from ropepeach.http.response import Response
@@ -30,14 +30,14 @@ FILES = {"a": b"one", "b/c": b"two", "d": b"three"}
 
 def resources_asked(liar: Liar) -> list[str]:
     """Return the resources that a source was asked for."""
-    return [path for path in liar.requests if path.startswith("/resource/")]
+    return liar.paths("/resource/")
 
 
 def test_a_folder_of_an_earlier_version_is_taken_over(tmp_path: os.PathLike[str],
                                                       monkeypatch: pytest.MonkeyPatch) -> None:
     """Version 0.1.0 wrote these fields of `#state` for a Ropepeach, and its table of rows."""
     monkeypatch.chdir(tmp_path)
-    with lying() as liar:
+    with Liar() as liar:
         hold_files(liar, FILES)
         assert run("mirror", liar.base, "m")[0] == 0
         state = json.loads(open("m/#state").read())
@@ -71,7 +71,7 @@ def test_a_refused_first_run_leaves_no_folder(ropepeach: Ropepeach, source: Fake
 
 def test_a_folder_has_a_name_without_an_argument(tmp_path: os.PathLike[str], monkeypatch: pytest.MonkeyPatch) -> None:
     monkeypatch.chdir(tmp_path)
-    with lying() as liar:
+    with Liar() as liar:
         hold_files(liar, FILES)
         assert run("mirror", liar.base)[0] == 0
         assert open("127.0.0.1/a", "rb").read() == b"one"
@@ -80,7 +80,7 @@ def test_a_folder_has_a_name_without_an_argument(tmp_path: os.PathLike[str], mon
 def test_an_exact_run_says_so_and_another_one_names_the_rule(tmp_path: os.PathLike[str],
                                                              monkeypatch: pytest.MonkeyPatch) -> None:
     monkeypatch.chdir(tmp_path)
-    with lying() as liar:
+    with Liar() as liar:
         hold_files(liar, FILES)
         found = json.loads(run("mirror", liar.base, "m", "--json", "--require", "exact")[1])["results"][-1]
         assert (found["exact"], found["rule"]) == (True, None)
@@ -103,7 +103,7 @@ def test_a_stopped_run_keeps_what_it_fetched(number: signal.Signals, tmp_path: o
     """The last of 20 files does not come: the other files are in place, and known, after the run."""
     monkeypatch.chdir(tmp_path)
     files = {f"{at:02}": b"%d" % at for at in range(20)}
-    with lying() as liar:
+    with Liar() as liar:
         hold_files(liar, files)
         slow = liar.answers["/resource/19"]
 

@@ -5,21 +5,14 @@ from collections.abc import Iterator
 
 import pytest
 
-from operations.tests.harness.server import Handler, Response, Server
+from operations.tests.harness.server import Response, Server
 from ropepeach.faults import Silent
 from ropepeach.http.client import Client
 
 
-def post(handler: Handler) -> None:
-    """Read the body of a request, and answer as the script says."""
-    handler.rfile.read(int(handler.headers["Content-Length"]))
-    handler.do_GET()
-
-
 @pytest.fixture
 def client(server: Server, monkeypatch: pytest.MonkeyPatch) -> Iterator[Client]:
-    """Return a client of a server that also takes POST, over a kept connection."""
-    monkeypatch.setattr(Handler, "do_POST", post, raising=False)
+    """Return a client of a server, over a kept connection."""
     monkeypatch.setenv("no_proxy", "127.0.0.1")
     running = Client(server.base, patience=2)
     server.put("/kept", b"")

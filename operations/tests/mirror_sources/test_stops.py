@@ -13,7 +13,7 @@ import pytest
 
 from operations.tests.harness.signalled import Runs, runs_in
 from operations.tests.tools import COMMAND
-from operations.tests.tools.hostile_source import Liar, collected, lying
+from operations.tests.tools.hostile_source import Liar, collected
 from operations.tests.tools.mirrored import hold_files
 from ropepeach.mirror import catalogue
 from ropepeach.mirror.folder import Folder
@@ -56,7 +56,7 @@ def known_in(folder: pathlib.Path) -> set[str]:
 @pytest.mark.parametrize("number", SIGNALS)
 def test_signal_at_any_line_ends_a_run_cleanly(number: signal.Signals, runs: Runs, tmp_path: pathlib.Path) -> None:
     """Files in place are whole and known, and the next run completes the mirror."""
-    with lying() as liar:
+    with Liar() as liar:
         hold_files(liar, FILES)
         total = runs.run("mirror", liar.base, "whole", "--connections", 4).lines
         assert files_in(tmp_path / "whole") == FILES and total > 3_000
@@ -99,7 +99,7 @@ def slowed(liar: Liar, path: str) -> None:
 def wait_for(liar: Liar, *paths: str) -> None:
     """Wait until the source has received requests for these paths."""
     end = time.monotonic() + LONGEST
-    while not set(paths) <= set(liar.requests):
+    while not set(paths) <= set(liar.paths()):
         assert time.monotonic() < end, "the run does not ask"
         time.sleep(0.02)
     time.sleep(0.3)
@@ -109,7 +109,7 @@ def wait_for(liar: Liar, *paths: str) -> None:
 @pytest.mark.parametrize("connections", ["1", "4"])
 def test_signal_while_bodies_are_in_flight_keeps_the_others(number: signal.Signals, connections: str,
                                                             tmp_path: pathlib.Path) -> None:
-    with lying() as liar:
+    with Liar() as liar:
         hold_files(liar, FILES)
         slow = sorted(FILES)[-int(connections):]
         for name in slow:
@@ -127,13 +127,13 @@ def test_signal_while_bodies_are_in_flight_keeps_the_others(number: signal.Signa
 @pytest.mark.parametrize("numbers", [[2], [15], [2, 15], [15, 2], [2, 2, 2, 15, 15]])
 def test_many_signals_up_to_the_end_of_the_process_are_as_one(numbers: list[int], tmp_path: pathlib.Path) -> None:
     """Signals keep coming, even while Python ends; the exit status is that of one of them."""
-    with lying() as liar:
+    with Liar() as liar:
         hold_files(liar, FILES)
         for turn in range(3):
             liar.requests.clear()
             with started(liar, tmp_path / f"m{turn}") as run:
                 end, at = time.monotonic() + LONGEST, 0
-                while f"/resource/{sorted(FILES)[turn * 10]}" not in liar.requests and time.monotonic() < end:
+                while f"/resource/{sorted(FILES)[turn * 10]}" not in liar.paths() and time.monotonic() < end:
                     time.sleep(0.001)
                 while run.poll() is None and time.monotonic() < end:
                     run.send_signal(numbers[at % len(numbers)])
@@ -150,7 +150,7 @@ def test_many_signals_up_to_the_end_of_the_process_are_as_one(numbers: list[int]
 def test_signal_ends_the_run_of_a_collection_and_keeps_what_it_fetched(number: signal.Signals, is_for_all: bool,
                                                                        tmp_path: pathlib.Path) -> None:
     """The signal goes to the first process, or to all processes, as from a terminal."""
-    with lying() as liar:
+    with Liar() as liar:
         names = [f"s{at}" for at in range(5)]
         collected(liar, {name: FILES for name in names})
         last = sorted(FILES)[-1]
@@ -168,7 +168,7 @@ def test_signal_ends_the_run_of_a_collection_and_keeps_what_it_fetched(number: s
 
 def test_process_that_ignores_ctrl_c_is_not_stopped_by_it(tmp_path: pathlib.Path) -> None:
     """Shells start background processes this way."""
-    with lying() as liar:
+    with Liar() as liar:
         hold_files(liar, FILES)
         run = subprocess.Popen([*COMMAND, "mirror", liar.base, str(tmp_path / "m")], text=True, stdout=subprocess.PIPE,
                                stderr=subprocess.PIPE, env=os.environ | {"no_proxy": "127.0.0.1"},

@@ -4,8 +4,9 @@ from __future__ import annotations
 import random
 from collections.abc import Callable
 
+from operations.tests.harness.server import Request
 from operations.tests.model.histories import History
-from operations.tests.model.made_up_source import Answer, Request
+from operations.tests.model.made_up_source import Answer
 from operations.tests.model.weather import served
 from tests.reading import crash_model
 
@@ -118,7 +119,8 @@ class Taking:
             return self.grouped(request.body.decode().splitlines())
         name = request.path.removeprefix("/resource/")
         if request.method == "PUT":
-            answer = self.history.put(name, request.body, request.kind)
+            answer = self.history.put(name, request.body,
+                                      request.fields.get("content-type", "application/octet-stream"))
             return Answer(201 if answer.startswith("created") else 204)
         is_refused = self.history.do(f"delete {name}").startswith("refused")
         return word(404, "NotHeld") if is_refused else Answer(204)

@@ -13,10 +13,11 @@ import pathlib
 import random
 import re
 
+from operations.tests.harness.server import Request
 from operations.tests.model import fill_model
 from operations.tests.model.grow_model import Expected, fault_of, home_of
 from operations.tests.model.histories import History
-from operations.tests.model.made_up_source import Answer, MadeUpSource, Request
+from operations.tests.model.made_up_source import Answer, MadeUpSource
 from operations.tests.model.runs import Ended, Runner, check_end
 from operations.tests.model.taking import Taking, word
 from tests.reading import crash_model

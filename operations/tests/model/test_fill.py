@@ -10,9 +10,10 @@ import os
 import pathlib
 import random
 
+from operations.tests.harness.server import Request
 from operations.tests.model.fill_model import Expected, Wanted, fault_of
 from operations.tests.model.histories import LENGTHS, History
-from operations.tests.model.made_up_source import MadeUpSource, Request
+from operations.tests.model.made_up_source import MadeUpSource
 from operations.tests.model.runs import Ended, Runner, check_end
 from operations.tests.model.taking import Taking
 

@@ -96,7 +96,7 @@ class Trial:
                                 *options)
         self.look(ended, "a run")
         after = self.before()
-        fault = fault_of(expected, ended, after, [request.path for request in self.source.requests])
+        fault = fault_of(expected, ended, after, self.source.paths())
         assert not fault, (f"{self.weather.name}, {' '.join(options)}: {fault}; "
                            f"it said {ended.output!r} {ended.complaints[-300:]!r}")
         return ended.status

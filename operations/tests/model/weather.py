@@ -5,8 +5,9 @@ import random
 import time
 from collections.abc import Callable
 
+from operations.tests.harness.server import Request
 from operations.tests.model.histories import History
-from operations.tests.model.made_up_source import Answer, Request
+from operations.tests.model.made_up_source import Answer
 from tests.reading import crash_model
 
 # The probability that a request fails, by weather; in `moving` it is 0, but the source changes.

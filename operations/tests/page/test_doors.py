@@ -117,7 +117,7 @@ def test_a_check_fetches_at_most_64_mib_unasked(look: Looked) -> None:
         look.chromium.state("Open")
         look.chromium.click("check-some")
         look.chromium.until(ENDED, "the end of the checks")
-        assert sum("/resource/" in path for path in shown.server.requests) == FETCHED
+        assert sum("/resource/" in path for path in shown.server.paths()) == FETCHED
         assert look.chromium.text("check-rest") == f"Check the other {MANY - FETCHED} (50.3 MB)"
         assert look.chromium.text("checked").partition(" in ")[0] == f"{FETCHED} agree; 67.1 MB"
         is_hidden = look.chromium.run("""
@@ -127,7 +127,7 @@ def test_a_check_fetches_at_most_64_mib_unasked(look: Looked) -> None:
         assert is_hidden
         others = f"return /^{MANY - FETCHED} agree;/.test(document.querySelector(`[data-part='checked']`).textContent)"
         look.chromium.until(others, "the end of the others")
-        found = sorted(path for path in shown.server.requests if "/resource/" in path)
+        found = sorted(path for path in shown.server.paths() if "/resource/" in path)
         assert found == [f"/resource/{number}" for number in range(MANY)]
         is_hidden = look.chromium.run("return document.querySelector(`[data-part='check-rest']`).hidden")
         assert is_hidden

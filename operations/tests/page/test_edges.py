@@ -130,7 +130,7 @@ def test_names_with_dot_segments_are_not_requested(look: Looked) -> None:
         shown.server.requests.clear()
         browser.click("check-some")
         browser.until(CHECKED, "the end of the checks")
-        found = sorted(path for path in shown.server.requests if path.startswith("/resource"))
+        found = sorted(path for path in shown.server.paths() if path.startswith("/resource"))
         assert found == ["/resource/a/x%2Ey", "/resource/plain"]
         assert "2 agree, 2 not checked;" in browser.text("checked")
         marks = [row[4] for row in browser.run(scripts.ROWS, "resources")]

@@ -269,6 +269,6 @@ def test_two_checks_of_many_resources_draw_different_ones(look: Looked) -> None:
             look.browser.run(UNCHECKED)
             look.browser.click("check-some")
             look.browser.until(CHECKED, "the end of the checks")
-            sets.append({path for path in shown.server.requests if path.startswith("/resource/")})
+            sets.append({path for path in shown.server.paths() if path.startswith("/resource/")})
         assert [len(found) for found in sets] == [100, 100]
         assert not (sets[0] == sets[1])

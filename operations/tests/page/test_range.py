@@ -1,9 +1,9 @@
 """Test the range of the time line, the requests of a check and of the page, and the page on a telephone."""
+from operations.tests.harness.server import Answer, Request, answer
 from operations.tests.page import fake as fakes, scripts
 from operations.tests.page.browser import NARROW
 from operations.tests.page.fake import current
 from operations.tests.page.looked import IN_BROWSER, Looked
-from operations.tests.tools.lists_server import Handler
 
 pytestmark = IN_BROWSER
 
@@ -122,7 +122,7 @@ def test_the_button_of_a_check_says_how_much_it_fetches(look: Looked) -> None:
         browser.until("return /; .* in/.test(document.querySelector(`[data-part='checked']`).textContent)",
                       "the end of the checks")
         assert browser.text("checked").partition("; ")[2].partition(" in ")[0] == label.partition("(")[2].rstrip(")")
-        assert sum("/resource/" in path for path in shown.server.requests) == 100
+        assert sum("/resource/" in path for path in shown.server.paths()) == 100
     with look.fake(lambda base: fakes.archive(base, 30)) as shown:
         browser.open(f"{shown.base}/")
         browser.state("Open")
@@ -132,34 +132,26 @@ def test_the_button_of_a_check_says_how_much_it_fetches(look: Looked) -> None:
 
 def test_lists_are_requested_with_their_etag(look: Looked) -> None:
     """The page requests lists with their ETag, and accepts 304."""
-    browser, tags = look.browser, []
-    original = Handler.do_GET
+    browser, tags = look.browser, list[tuple[str, bool]]()
 
-    def tagged(handler) -> None:  # type: ignore[no-untyped-def]
-        handler.server.requests.append(handler.path)
-        status, kind, body = handler.server.answer(handler.path)
+    def tagged(request: Request) -> Answer:
+        """Answer with an ETag, or with 304."""
+        status, kind, body = shown.server.answer(request.path)
         tag = f'"{abs(hash(body))}"'
-        is_same = handler.headers.get("If-None-Match", "").removeprefix("W/") == tag
-        tags.append((handler.path, is_same))
-        handler.send_response(304 if is_same else status)
-        handler.send_header("ETag", tag)
-        handler.send_header("Content-Type", kind)
-        handler.send_header("Content-Length", "0" if is_same else str(len(body)))
-        handler.end_headers()
-        handler.wfile.write(b"" if is_same else body)
+        is_same = request.fields.get("if-none-match", "").removeprefix("W/") == tag
+        tags.append((request.path, is_same))
+        return answer(b"" if is_same else body, f"{304 if is_same else status} Said", f"ETag: {tag}",
+                      f"Content-Type: {kind}", then="close")
 
-    setattr(Handler, "do_GET", tagged)
-    try:
-        with look.fake(lambda base: fakes.archive(base, 300), passing) as shown:
-            for _ in range(2):
-                browser.open("about:blank")
-                browser.open(f"{shown.base}/")
-                browser.state("Open")
-                assert browser.text("resources") == "300"
-            lists = [is_same for path, is_same in tags if path.endswith("list.xml")]
-            assert lists == [False] * 3 + [True] * 3
-    finally:
-        setattr(Handler, "do_GET", original)
+    with look.fake(lambda base: fakes.archive(base, 300), passing) as shown:
+        shown.server.handle = tagged
+        for _ in range(2):
+            browser.open("about:blank")
+            browser.open(f"{shown.base}/")
+            browser.state("Open")
+            assert browser.text("resources") == "300"
+        lists = [is_same for path, is_same in tags if path.endswith("list.xml")]
+        assert lists == [False] * 3 + [True] * 3
 
 
 def passing(site: str) -> str:

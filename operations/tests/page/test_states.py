@@ -322,7 +322,7 @@ def test_a_collection_has_a_tab_per_source_and_sums(look: Looked) -> None:
         with serving(only_described(text)) as server, look.site(int(server.url.rpartition(":")[2]), port, sources):
             browser.open(f"{base}/")
             browser.until("return document.querySelector('.sums')", "the sums")
-            assert one.server.requests + other.server.requests == []
+            assert one.server.paths() + other.server.paths() == []
             assert (browser.text("resources"), browser.text("read")) == ("–", "in 0 of 2 sources that were read")
             one_is_gone(browser, base, one, other)
             both = "return document.querySelectorAll('.sums .tone[data-tone=good]').length === 2"

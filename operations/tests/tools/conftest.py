@@ -7,14 +7,14 @@ from collections.abc import Iterator
 import pytest
 
 from operations.tests.tools import nginx_site
-from operations.tests.tools.hostile_source import Liar, lying
+from operations.tests.tools.hostile_source import Liar
 from operations.tests.tools.static_source import Static, static
 
 
 @pytest.fixture
 def liar() -> Iterator[Liar]:
     """Serve a Ropepeach whose responses a test changes."""
-    with lying() as running:
+    with Liar() as running:
         yield running
 
 

@@ -1,15 +1,12 @@
 """Serve a source that lies: a test writes its responses by path, and it counts the sent bytes."""
 from __future__ import annotations
 
-import contextlib
 import hashlib
-import socket
-import threading
 import time
 from collections.abc import Callable, Iterable, Iterator, Mapping, Sequence
 from typing import Any
 
-from tests.program import Differs
+from operations.tests.harness.server import Answer, RawServer, Request
 
 Response = Callable[[], Iterable[bytes]]
 SPACES = 'xmlns="http://www.sitemaps.org/schemas/sitemap/0.9" xmlns:rs="http://www.openarchives.org/rs/terms/"'
@@ -50,15 +47,12 @@ def answered(body: bytes, status: str = "200 OK", fields: str = "", length: int 
     return head.encode("latin-1") + body
 
 
-class Liar:
+class Liar(RawServer):
     """A Ropepeach with responses in `answers` by path: bytes, or a function that returns chunks of bytes."""
 
     def __init__(self) -> None:
-        self.listener = socket.create_server(("127.0.0.1", 0))
-        self.base = f"http://127.0.0.1:{self.listener.getsockname()[1]}"
+        super().__init__(self.answer)
         self.answers: dict[str, Any] = {}
-        self.requests: list[str] = []
-        self.sent = 0
         base, at = self.base, f' at="{MOMENT}"'
         pointer = lambda name, capability: pointed(f"{base}/{name}", capability)
         self.documents({
@@ -76,36 +70,10 @@ class Liar:
         """Serve a Resource List of these entries."""
         self.documents({"/resourcelist.xml": listed("resourcelist", entries, root, attributes)})
 
-    def serve(self) -> None:
-        """Serve until the listener is closed, every connection in its own thread."""
-        with contextlib.suppress(OSError):
-            while True:
-                threading.Thread(target=self.serve_one, args=self.listener.accept()[:1], daemon=True).start()
-
-    def serve_one(self, connection: socket.socket) -> None:
-        """Answer one request. A fault in `answers` ends the connection, which fails the run under test."""
-        with connection, contextlib.suppress(OSError, ValueError, Differs, StopIteration):
-            connection.settimeout(30)
-            self.answer(connection)
-
-    def answer(self, connection: socket.socket) -> None:
-        """Answer one request, and wait until the client has closed its end."""
-        head = b""
-        while b"\r\n\r\n" not in head and (piece := connection.recv(65_536)):
-            head += piece
-        words = head.split(b" ", 2)
-        # (a client that disconnects early sent no request)
-        if len(words) < 3 or b"\r\n\r\n" not in head:
-            return
-        path = words[1].decode(errors="replace")
-        self.requests.append(path)
-        response = self.answers.get(path, answered(b"NoSuchDocument\n", "404 Not Found"))
-        for part in response() if callable(response) else [response]:
-            connection.sendall(part)
-            self.sent += len(part)
-        connection.shutdown(socket.SHUT_WR)
-        while connection.recv(65_536):
-            pass
+    def answer(self, request: Request) -> Answer:
+        """Return the response to a request; the connection closes after it."""
+        response = self.answers.get(request.path, answered(b"NoSuchDocument\n", "404 Not Found"))
+        return Answer(response() if callable(response) else [response], "close")
 
 
 def in_parts(liar: Liar, entries: Sequence[str], limit: int = 5_000) -> None:
@@ -153,19 +121,6 @@ def collected(liar: Liar, sources: Iterable[str] | Mapping[str, Mapping[str, byt
         texts |= {f"/{name}/resource/{path}": body for path, body in files.items()}
     whole = [pointed(f"{liar.base}/{name}/capabilitylist.xml", "capabilitylist") for name in sources]
     liar.documents(texts | {"/.well-known/resourcesync": listed("description", whole)})
-
-
-@contextlib.contextmanager
-def lying() -> Iterator[Liar]:
-    """Serve a source; stop it with the block."""
-    liar = Liar()
-    thread = threading.Thread(target=liar.serve, daemon=True)
-    thread.start()
-    try:
-        yield liar
-    finally:
-        liar.listener.shutdown(socket.SHUT_RDWR)
-        liar.listener.close()
 
 
 def dripping(head: bytes, piece: bytes, seconds: float = 0.05) -> Response:

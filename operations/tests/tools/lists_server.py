@@ -1,63 +1,32 @@
 """Serve the responses of a function by path: the documents of a state of a source, or faults."""
 from __future__ import annotations
 
-import contextlib
-import http.server
-import threading
 import time
-from collections.abc import Callable, Iterator, Sequence
+from collections.abc import Callable, Sequence
 
+from operations.tests.harness import server as harness
+from operations.tests.harness.server import Answer, RawServer, Request
 from tests.reading import crash_model
 
 Answering = Callable[[str], tuple[int, str, bytes]]
 
 
-class Server(http.server.ThreadingHTTPServer):
-    """Serve the results of `answer` by path: a status, a type and a body. `requests` records the paths."""
-
-    daemon_threads = True
+class Server(RawServer):
+    """Serve the results of `answer` by path: a status, a type and a body."""
 
     def __init__(self, answer: Answering) -> None:
-        super().__init__(("127.0.0.1", 0), Handler)
-        self.answer = answer
-        self.requests: list[str] = []
-        self.url = f"http://127.0.0.1:{self.server_address[1]}"
+        super().__init__(self.answered)
+        self.answer, self.url = answer, self.base
 
-    def handle_error(self, request: object, client_address: object) -> None:
-        """Ignore a client that disconnects early."""
-
-
-class Handler(http.server.BaseHTTPRequestHandler):
-    """Answer GET."""
-
-    server: Server
-
-    def do_GET(self) -> None:
-        """Send the server's response for the path."""
-        self.server.requests.append(self.path)
-        status, kind, body = self.server.answer(self.path)
-        self.send_response(status)
-        self.send_header("Content-Type", kind)
-        self.send_header("Content-Length", str(len(body)))
-        self.end_headers()
-        with contextlib.suppress(OSError):
-            self.wfile.write(body)
-
-    def log_message(self, *_: object) -> None:
-        """Log nothing."""
+    def answered(self, request: Request) -> Answer:
+        """Return the server's response for the path."""
+        status, kind, body = self.answer(request.path)
+        return harness.answer(body, f"{status} Said", f"Content-Type: {kind}", then="close")
 
 
-@contextlib.contextmanager
-def serving(answer: Answering) -> Iterator[Server]:
-    """Serve; stop with the block."""
-    with Server(answer) as server:
-        thread = threading.Thread(target=server.serve_forever, daemon=True)
-        thread.start()
-        try:
-            yield server
-        finally:
-            server.shutdown()
-            thread.join(10)
+def serving(answer: Answering) -> Server:
+    """Return a server that runs in `with`."""
+    return Server(answer)
 
 
 def documents_of(state: crash_model.State) -> Answering:

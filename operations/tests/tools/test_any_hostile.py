@@ -56,7 +56,7 @@ def run_mirror(liar: Liar, room: pathlib.Path, *words: str, path: str = "", into
     assert status in (0, 1, 3), message
     assert message.count("\n") <= 3 and (status == 0 or bool(message))
     assert [char for char in message if not (char.isprintable() or char == "\n")] == []
-    assert [path for path in liar.requests if not path.startswith("/") or "elsewhere" in path] == []
+    assert [path for path in liar.paths() if not path.startswith("/") or "elsewhere" in path] == []
     assert liar.sent <= SENT
     return status, message
 
@@ -144,7 +144,7 @@ def test_a_list_with_a_link_up_to_itself_ends_the_run(liar: Liar, room: pathlib.
     up = f'<rs:ln rel="up" href="{liar.base}/u.xml"/><rs:md capability="changelist"/>'
     liar.documents({"/u.xml": f"{HEAD.format(root)}{up}</{root}>".encode()})
     refused(liar, room, "no Capability List above it", "/u.xml")
-    assert liar.requests.count("/u.xml") <= 3
+    assert liar.paths().count("/u.xml") <= 3
 
 
 def test_a_description_of_more_than_1000_lists_is_refused(liar: Liar, room: pathlib.Path) -> None:
@@ -221,7 +221,7 @@ def test_changed_notes_are_not_trusted(liar: Liar, room: pathlib.Path, what: str
     changes_of_known(own, victim)[what](known)
     status, message = run_mirror(liar, room)
     assert status == (3 if what == "a folder" else 0), message
-    assert ("/resource/a" in liar.requests) == (status == 0)
+    assert ("/resource/a" in liar.paths()) == (status == 0)
     assert victim.read_bytes() == b"theirs"
 
 

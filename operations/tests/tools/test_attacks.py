@@ -300,7 +300,7 @@ def test_a_file_system_that_has_several_names_as_one_is_refused_before_a_fetch(
     assert (status, output, messages.count("\n")) == (3, "", 1), messages
     assert says in messages
     assert os.listdir("m") == ["#state"]
-    assert [path for path in liar.requests if path.startswith("/resource/")] == []
+    assert liar.paths("/resource/") == []
 
 
 @pytest.mark.alone
@@ -318,7 +318,7 @@ def test_a_list_that_the_disk_has_no_room_for_is_refused_before_a_fetch(liar: Li
     for words in ((), ("--dry-run",)):
         mirrored("it is refused", liar, *words, status=3, says=says)
         assert os.listdir("m") == ["#state"]
-    assert [path for path in liar.requests if path.startswith("/resource/")] == []
+    assert liar.paths("/resource/") == []
 
 
 @pytest.mark.needs("cc")

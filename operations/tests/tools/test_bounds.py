@@ -29,7 +29,7 @@ def test_a_run_takes_no_more_bytes_than_are_allowed(liar: Liar) -> None:
     found = files_of("m")
     assert found.items() <= FILES.items() and 8 <= len(found) <= 10
     assert state()["until"] is None
-    assert sum(path.startswith("/resource/") for path in liar.requests) <= len(found) + 2
+    assert len(liar.paths("/resource/")) <= len(found) + 2
     mirrored("the next run", liar, says=f"fetched {len(FILES) - len(found)} ")
     assert files_of("m") == FILES
     documents = sum(len(response.partition(b"\r\n\r\n")[2]) for path, response in liar.answers.items()
@@ -151,7 +151,7 @@ def test_a_killed_process_of_the_pool_fails_its_own_sources_only(liar: Liar) -> 
     liar.answers["/s0/resource/a"] = dripping(answered(b"", length=4), b"")
     run = begun("mirror", liar.base, "m", "--jobs", "2", "--max-time", "20")
     until = time.monotonic() + 20
-    while "/s0/resource/a" not in liar.requests or len(list(pathlib.Path("m").glob("*/a"))) < 5:
+    while "/s0/resource/a" not in liar.paths() or len(list(pathlib.Path("m").glob("*/a"))) < 5:
         if time.monotonic() > until:
             pytest.fail(f"others are not mirrored: {sorted(map(str, pathlib.Path('m').glob('*/a')))}")
         time.sleep(0.02)

@@ -92,13 +92,13 @@ def test_a_source_without_its_change_list_ends_the_audit(origin: Liar) -> None:
 def test_a_repair_asks_for_nothing_where_nothing_is_wrong(origin: Liar) -> None:
     origin.requests.clear()
     checked("m", "--repair", says="4 well")
-    assert origin.requests == []
+    assert origin.paths() == []
 
 
 def test_a_repair_fetches_missing_and_changed_files_only(origin: Liar) -> None:
     origin.requests.clear()
     checked("m", "--repair", lines=spoil(), says="after the repair 4 files (11 bytes): 4 well")
-    assert len([path for path in origin.requests if path.startswith("/resource/")]) == 2
+    assert len(origin.paths("/resource/")) == 2
 
 
 def test_a_repair_compares_digests(origin: Liar) -> None:

@@ -10,9 +10,10 @@ import subprocess
 import time
 from collections.abc import Callable
 
-from operations.tests.tools.hostile_source import Liar, answered, lying
+from operations.tests.harness.server import Answer, Request
+from operations.tests.tools.hostile_source import Liar, answered
 from operations.tests.tools.running import begun, ended, ropepeach, wait_until, written
-from operations.tests.tools.taking_source import taking
+from operations.tests.tools.taking_source import Taking
 
 DEEP = 1_500
 
@@ -37,7 +38,7 @@ def test_links_are_not_followed(room: pathlib.Path) -> None:
         os.symlink(to, f"folder/{name}")
     os.symlink("../a", "folder/d/inside")
     os.symlink(os.path.abspath("folder/d/b"), "folder/inside")
-    with taking() as liar:
+    with Taking() as liar:
         _, messages = filled(liar, status=3,
                              says="left out shadow: it is a link, and is not followed (--links ")
         assert messages.count("left out ") == 11
@@ -57,16 +58,16 @@ def test_a_folder_that_becomes_a_link_is_not_followed(room: pathlib.Path) -> Non
     """fill leaves out a folder that another process replaces by a link during the run."""
     written("outside", {f"{number:02}": b"secret" for number in range(40)})
     written("folder", {f"{above}/{number:02}": b"b" for above in ("d", "e") for number in range(40)})
-    with taking() as liar:
-        before = liar.answer
+    with Taking() as liar:
+        before = liar.handle
 
-        def answer(connection: socket.socket) -> None:
-            if not os.path.islink("folder/e") and any(request.startswith("PUT") for request in liar.requests):
+        def answer(request: Request) -> Answer:
+            if not os.path.islink("folder/e") and any(request.method == "PUT" for request in liar.requests):
                 os.replace("folder/e", "elsewhere")
                 os.symlink("../outside", "folder/e")
-            before(connection)
+            return before(request)
 
-        setattr(liar, "answer", answer)
+        liar.handle = answer
         _, messages = filled(liar, status=3, says="left out e/00: it lies below a link")
         assert liar.put == {f"d/{number:02}": b"b" for number in range(40)}
         assert (os.path.islink("folder/e"), messages.count("it lies below a link")) == (True, 40)
@@ -99,7 +100,7 @@ def look_at_deep_folders() -> None:
     long = "/".join(["n"] * 119) + "/nn"
     written("folder", {"a": b"a", long: b"long", "q/q/b": b"b"})
     nested("folder/deep", DEEP)
-    with taking() as liar:
+    with Taking() as liar:
         _, messages = filled(liar, status=3, says="/: what it holds has names of more than 240 bytes")
         assert messages.count("\n") == 1
         assert liar.put == {"a": b"a", long: b"long", "q/q/b": b"b"}
@@ -107,7 +108,7 @@ def look_at_deep_folders() -> None:
     status, _, messages = ropepeach("size", "folder")
     assert (status, messages.count("\n")) == (3, 2), f"size: {messages}"
     nested("mirror", DEEP)
-    with lying() as liar:
+    with Liar() as liar:
         status, _, messages = ropepeach("mirror", liar.base, "mirror")
         assert (status, messages.count("\n")) == (3, 1), f"a mirror's folder: {messages}"
         assert ropepeach("mirror", liar.base, "m")[0] == 0
@@ -123,7 +124,7 @@ def test_names_and_answers_are_printed_as_printable_lines(room: pathlib.Path) ->
     odd = {os.fsdecode(name): b"x" for name in (b"e\x1b]0;owned\x07", b"f\nropepeach fill: all is well", b"g\xff\xfe",
                                                 "h\u202e\u2028".encode())}
     written("folder", odd | {f"{'l' * 200}\x1b[2J\n{'l' * 40}": b"x", "a": b"a"})
-    with taking() as liar:
+    with Taking() as liar:
         liar.published = b"published \x1b]0;owned\x07\nropepeach fill: all is well\r\x9b31m"
         status, output, messages = ropepeach("fill", "folder", liar.base)
         assert status == 3, f"{messages}: the status"
@@ -152,13 +153,13 @@ def test_pipes_sockets_and_devices_block_no_run(room: pathlib.Path) -> None:
     """`fill` leaves out pipes and sockets; a mirror replaces a pipe and wrong links."""
     written("folder", {"a": b"a"})
     os.mkfifo("folder/pipe")
-    with socket.socket(socket.AF_UNIX) as bound, taking() as liar:
+    with socket.socket(socket.AF_UNIX) as bound, Taking() as liar:
         bound.bind("folder/socket")
         started = time.monotonic()
         filled(liar, status=3, says="left out pipe: it is no regular file")
         assert liar.put == {"a": b"a"}
         assert time.monotonic() - started < 20
-    with lying() as liar:
+    with Liar() as liar:
         pathlib.Path("m").mkdir()
         assert ropepeach("mirror", liar.base, "m")[0] == 0
         makers: list[Callable[[str], object]] = [os.mkfifo, lambda path: os.symlink("none", path),

@@ -14,13 +14,12 @@ from unittest import mock
 import pytest
 
 from operations.tests.tools.hostile_source import (
-    MOMENT, Liar, answered, changed, collected, entry, gone, in_parts, listed, lying,
-)
+    MOMENT, Liar, answered, changed, collected, entry, gone, in_parts, listed)
 from operations.tests.tools.made_up_store import OTHER, MadeUp
 from operations.tests.tools.mirrored import AFTER, change, hold_files, mirrored, state
 from operations.tests.tools.noted_calls import SHIM
 from operations.tests.tools.running import begun, ended, files_of, ropepeach, wait_until, written
-from operations.tests.tools.taking_source import taking
+from operations.tests.tools.taking_source import Taking
 from ropepeach.cli import numbers
 from ropepeach.faults import Fault
 from ropepeach.http.client import Client
@@ -37,7 +36,7 @@ BODY = b"the body"
 def test_every_digit_of_a_digest_counts(room: pathlib.Path) -> None:
     """A wrong digit of one digest is at its beginning, in its middle or at its end."""
     digests = {"md5": hashlib.md5(BODY).hexdigest(), "sha-256": hashlib.sha256(BODY).hexdigest()}
-    with lying() as liar:
+    with Liar() as liar:
         liar.documents({"/resource/a": BODY})
         for kind, digest in digests.items():
             for at in [0, 1, len(digest) // 2, len(digest) - 8, len(digest) - 2, len(digest) - 1]:
@@ -56,26 +55,26 @@ def test_every_digit_of_a_digest_counts(room: pathlib.Path) -> None:
 def test_a_repeated_digest_is_refused(room: pathlib.Path) -> None:
     """A list with the same kind of digest twice is refused, whichever is correct."""
     right, wrong = (f"sha-256:{hashlib.sha256(body).hexdigest()}" for body in (BODY, b"other"))
-    with lying() as liar:
+    with Liar() as liar:
         liar.documents({"/resource/a": BODY})
         for hashes in (f"{right} {wrong}", f"{wrong} {right}", f"{right} {right}"):
             liar.resources([entry(f"{liar.base}/resource/0", BODY),
                             entry(f"{liar.base}/resource/a", BODY, hashes=hashes)])
             mirrored(hashes, liar, status=1, says="refused")
-        assert [path for path in liar.requests if path.startswith("/resource/")] == []
+        assert liar.paths("/resource/") == []
 
 
 def test_the_longest_body_is_mirrored_and_put(room: pathlib.Path) -> None:
     """A body of exactly 16,777,216 bytes is mirrored, and put from a file; a file of one byte more is left out."""
     body = bytes(LONGEST)
-    with lying() as liar:
+    with Liar() as liar:
         hold_files(liar, {"a": body})
         mirrored("the longest body", liar)
         assert files_of("m") == {"a": body}
         mirrored("the longest body, which is here", liar, "--baseline", says="fetched 0 ")
     folder = written("folder", {"a": body, "b": b"b"})
     os.truncate(folder / "b", LONGEST + 1)
-    with taking() as source:
+    with Taking() as source:
         status, output, messages = ropepeach("fill", folder, source.base)
         assert (status, output.split(" (")[0]) == (3, "1 put")
         assert "left out b: it has more than 16,777,216 bytes" in messages
@@ -86,7 +85,7 @@ def test_the_longest_body_is_mirrored_and_put(room: pathlib.Path) -> None:
 def test_files_of_several_batches_are_all_there(count: int, room: pathlib.Path) -> None:
     """The files of a batch are synced together."""
     files = {f"n/{number:04}": b"%d" % number for number in range(count)}
-    with lying() as liar:
+    with Liar() as liar:
         hold_files(liar, files)
         mirrored(f"{count} files", liar)
     assert files_of("m") == files
@@ -94,7 +93,7 @@ def test_files_of_several_batches_are_all_there(count: int, room: pathlib.Path) 
 
 def test_a_list_has_at_most_50_000_entries(room: pathlib.Path) -> None:
     """A list of 50,000 entries is accepted, and a list of 50,001 refused."""
-    with lying() as liar:
+    with Liar() as liar:
         front, hashes = f"{liar.base}/resource", f"md5:{hashlib.md5(BODY).hexdigest()}"
         entries = [entry(f"{front}/{number}", BODY, hashes=hashes) for number in range(MOST_ENTRIES + 1)]
         liar.resources(entries[:-1])
@@ -105,7 +104,7 @@ def test_a_list_has_at_most_50_000_entries(room: pathlib.Path) -> None:
 
 def test_the_parts_of_a_list_have_at_most_50_000_entries_together(room: pathlib.Path) -> None:
     """The parts of a list may have as many entries together as a source may have resources, and not one more."""
-    with lying() as liar:
+    with Liar() as liar:
         source = lists.Source(Client(liar.base, patience=1))
         entries = [entry(f"{liar.base}/resource/{number}", BODY) for number in range(10)]
         for most in range(1, len(entries)):
@@ -125,7 +124,7 @@ def test_units_of_sizes_are_powers_of_1024(text: str, size: int) -> None:
 
 def test_a_base_is_compared_to_its_end(room: pathlib.Path) -> None:
     """A source at `/s1` sends no request to `/s10`."""
-    with lying() as liar:
+    with Liar() as liar:
         collected(liar, ["s1", "s10"])
         lists = [f'<url><loc>{liar.base}/{name}.xml</loc><rs:md capability="{word}"/></url>\n'
                  for name, word in (("s10/resourcelist", "resourcelist"), ("s1/changelist", "changelist"))]
@@ -135,12 +134,12 @@ def test_a_base_is_compared_to_its_end(room: pathlib.Path) -> None:
         status, _, messages = ropepeach("mirror", f"{liar.base}/s1", "m", "--baseline")
         assert status == 1
         assert "refused, as it is not below the base" in messages
-        assert [path for path in liar.requests if path.startswith("/s10/")] == []
+        assert liar.paths("/s10/") == []
 
 
 def test_changes_out_of_order_remove_nothing(room: pathlib.Path) -> None:
     """A Change List has an earlier deletion after a later put."""
-    with lying() as liar:
+    with Liar() as liar:
         hold_files(liar, {"a": BODY})
         mirrored("at first", liar)
         liar.documents({"/resource/a": b"later"})
@@ -154,7 +153,7 @@ def test_changes_out_of_order_remove_nothing(room: pathlib.Path) -> None:
 def test_a_part_older_than_its_index_is_read_again(room: pathlib.Path) -> None:
     """A part from a cache may be older than its index and lack changes: it is read again."""
     bounds = [(MOMENT, LAST), (LAST, None)]
-    with lying() as liar:
+    with Liar() as liar:
         hold_files(liar, {"a": b"a", "b": b"b"})
         mirrored("at first", liar)
         before = state()
@@ -194,7 +193,7 @@ def changing_until(liar: Liar, last: int) -> None:
 @pytest.mark.parametrize("last", [1, 2, 3, 4, 7, 29, PASSES - 2, PASSES - 1])
 def test_a_resource_that_changes_in_every_pass_is_followed(last: int, room: pathlib.Path) -> None:
     """The resource changes in as many passes as a run has."""
-    with lying() as liar:
+    with Liar() as liar:
         changing_until(liar, last)
         mirrored(f"{last} changes meanwhile", liar, says=f"fetched 1, {last} anew ")
         assert (files_of("m"), state()["until"]) == ({"a": b"%02d" % last}, AFTER[last + 1])
@@ -202,7 +201,7 @@ def test_a_resource_that_changes_in_every_pass_is_followed(last: int, room: path
 
 def test_a_resource_that_changes_in_too_many_passes_ends_the_run(room: pathlib.Path) -> None:
     """The resource changes in one pass more than a run has."""
-    with lying() as liar:
+    with Liar() as liar:
         changing_until(liar, PASSES)
         mirrored("a change more", liar, status=1, says="the source changes faster than it can be fetched")
 
@@ -222,11 +221,11 @@ def held_up(liar: Liar, path: str) -> pathlib.Path:
 
 def test_a_second_run_on_a_folder_is_refused(room: pathlib.Path) -> None:
     """The first run continues."""
-    with lying() as liar:
+    with Liar() as liar:
         hold_files(liar, {"a": BODY, "b": b"b"})
         gate = held_up(liar, "/resource/b")
         first = begun("mirror", liar.base, "m")
-        wait_until(lambda: "/resource/b" in liar.requests, "the first run")
+        wait_until(lambda: "/resource/b" in liar.paths(), "the first run")
         for option in ("--yes", "--baseline", "--dry-run"):
             status, _, messages = ropepeach("mirror", liar.base, "m", option)
             assert status == 3, f"the second run {option}"
@@ -239,7 +238,7 @@ def test_a_second_run_on_a_folder_is_refused(room: pathlib.Path) -> None:
 def test_files_fetched_before_a_silence_stay(room: pathlib.Path) -> None:
     """The next run fetches the other files."""
     files = {f"{number}": b"%d" % number for number in range(6)}
-    with lying() as liar:
+    with Liar() as liar:
         hold_files(liar, files)
         well = liar.answers["/resource/4"]
         liar.answers["/resource/4"] = answered(b"", "503 Service Unavailable")
@@ -255,7 +254,7 @@ def test_files_fetched_before_a_silence_stay(room: pathlib.Path) -> None:
 def test_a_baseline_that_ended_early_is_repeated(room: pathlib.Path) -> None:
     """Files that a baseline did not compare may be wrong."""
     files = {"a": b"a", "b": b"b", "c": b"c"}
-    with lying() as liar:
+    with Liar() as liar:
         hold_files(liar, files)
         mirrored("at first", liar)
         for name in files:
@@ -271,7 +270,7 @@ def test_a_baseline_that_ended_early_is_repeated(room: pathlib.Path) -> None:
 
 def test_nothing_of_a_collection_is_removed_while_a_source_is_away(room: pathlib.Path) -> None:
     """The resource may have moved to the missing source."""
-    with lying() as liar:
+    with Liar() as liar:
         collected(liar, {"s1": {"a": b"a", "b": b"b"}, "s2": {"c": b"c"}})
         mirrored("at first", liar)
         lists = {name: liar.answers[f"/{name}/changelist.xml"] for name in ("s1", "s2")}
@@ -288,11 +287,11 @@ def test_nothing_of_a_collection_is_removed_while_a_source_is_away(room: pathlib
 
 def test_ctrl_c_ends_a_mirror_of_a_collection_in_one_line(room: pathlib.Path) -> None:
     """Ctrl-C at a terminal reaches all processes of a run."""
-    with lying() as liar:
+    with Liar() as liar:
         collected(liar, [f"s{number}" for number in range(4)])
         gate = held_up(liar, "/s2/resource/a")
         run = begun("mirror", liar.base, "m", start_new_session=True)
-        wait_until(lambda: "/s2/resource/a" in liar.requests, "the run")
+        wait_until(lambda: "/s2/resource/a" in liar.paths(), "the run")
         os.killpg(run.pid, signal.SIGINT)
         status, output, messages = ended(run)
         gate.touch()
@@ -301,13 +300,13 @@ def test_ctrl_c_ends_a_mirror_of_a_collection_in_one_line(room: pathlib.Path) ->
 
 def test_ctrl_c_ends_a_fill_of_a_collection_in_one_line(room: pathlib.Path) -> None:
     """Ctrl-C while a collection is filled reaches all processes too."""
-    with lying() as liar:
+    with Liar() as liar:
         pathlib.Path("c.toml").write_text(f'address = "{liar.base}"\n[source.s1]\naddress = "{liar.base}"\n'
                                           f'base = "{liar.base}/s1"\n'
                                           'file = "/nowhere/s1"\n')
         gate = held_up(liar, "/.well-known/resourcesync")
         run = begun("fill", written("folder", {"a": b"a"}), "c.toml", start_new_session=True)
-        wait_until(lambda: bool(liar.requests), "the run")
+        wait_until(lambda: bool(liar.paths()), "the run")
         os.killpg(run.pid, signal.SIGINT)
         status, output, messages = ended(run)
         gate.touch()
@@ -317,7 +316,7 @@ def test_ctrl_c_ends_a_fill_of_a_collection_in_one_line(room: pathlib.Path) -> N
 @pytest.mark.parametrize("length", [2, 9, 10, 11])
 def test_room_is_compared_to_the_byte(length: int, room: pathlib.Path) -> None:
     """--room accepts the size that `ropepeach size` prints, and refuses a block less. Mean lengths of names vary."""
-    with taking() as source:
+    with Taking() as source:
         folder = written("folder", dict.fromkeys(["a", "n" * length, "b.html"], b"body"))
         status, output, messages = ropepeach("size", folder, "--base", source.base)
         assert status == 0

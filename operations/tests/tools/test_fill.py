@@ -17,10 +17,10 @@ from unittest import mock
 
 import pytest
 
-from operations.tests.tools.hostile_source import answered, entry, lying
+from operations.tests.tools.hostile_source import Liar, answered, entry
 from operations.tests.tools.running import SECONDS, Server, begun, ended, ropepeach, wait_until, written
 from operations.tests.tools.taken import little, most_memory, small_files
-from operations.tests.tools.taking_source import taking
+from operations.tests.tools.taking_source import Taking
 from ropepeach.fill import files as fill_files
 from tests.disks import made_disks, paged_disk
 from tests.reading import disk_parts as parts_of
@@ -251,18 +251,18 @@ def test_fill_waits_for_a_source_that_is_down(program: str, room: pathlib.Path) 
 def test_a_publication_without_an_answer_is_made_once(is_published: bool, room: pathlib.Path) -> None:
     """fill repeats a publication without a response only if the source did not make it."""
     folder, later = written("folder", {"a": b"other"}), "2000-02-29T00:00:00.009Z"
-    with lying() as liar:
+    with Liar() as liar:
 
         def publish() -> Iterator[bytes]:
             if is_published:
                 liar.resources([entry(f"{liar.base}/resource/a")], attributes=f' at="{later}"')
-            elif liar.requests.count("/publish") > 1:
+            elif liar.paths().count("/publish") > 1:
                 yield answered(f"published 2 {later}\n".encode())
 
         liar.answers |= {"/resource/a": answered(b"", "204 No Content"), "/publish": publish}
         status, output, _ = ropepeach("fill", folder, liar.base)
         assert (status, output.split(" (")[0], output.split()[-1]) == (0, "1 put", later)
-        assert liar.requests.count("/publish") == (1 if is_published else 2)
+        assert liar.paths().count("/publish") == (1 if is_published else 2)
 
 
 def test_ctrl_c_ends_a_run_in_one_line(program: str, room: pathlib.Path) -> None:
@@ -308,7 +308,7 @@ def test_a_file_takes_at_most_300_bytes_of_memory(program: str, room: pathlib.Pa
 def test_only_the_404_of_the_source_counts_as_a_deletion(body: bytes, kind: str, ends: int, room: pathlib.Path) -> None:
     """Any other 404 ends the run."""
     folder = written("folder", {"kept": b"kept"})
-    with taking() as liar:
+    with Taking() as liar:
         liar.resources([entry(f"{liar.base}/resource/gone")])
         liar.answers["/resource/gone"] = answered(body, "404 Not Found", f"Content-Type: text/{kind}\r\n").replace(
             b"Content-Type: application/xml\r\n", b"")

@@ -20,8 +20,8 @@ from unittest import mock
 import pytest
 
 from operations.tests.tools.generating import st, tried
-from operations.tests.tools.hostile_source import answered, changed, collected, entry, gone, lying
-from operations.tests.tools.taking_source import taking
+from operations.tests.tools.hostile_source import Liar, answered, changed, collected, entry, gone
+from operations.tests.tools.taking_source import Taking
 from ropepeach.admin import takeover, takeover_store
 from ropepeach.cli import command
 from ropepeach.cli.subcommands import SUBCOMMANDS
@@ -81,7 +81,7 @@ def fresh() -> Iterator[None]:
 
 def test_any_document_of_a_source_ends_in_a_line(room: pathlib.Path) -> None:
     """mirror, health, fill and a second mirror read any bytes instead of a document, a body or a whole response."""
-    with lying() as liar:
+    with Liar() as liar:
         liar.documents({"/resource/b": b"b"})
         changed(liar, [entry(f"{liar.base}/resource/b", b"b", moment="2000-02-29T00:00:00.002Z")],
                 [gone(f"{liar.base}/resource/a", "2000-02-29T00:00:00.003Z")],
@@ -110,7 +110,7 @@ def test_any_document_of_a_source_ends_in_a_line(room: pathlib.Path) -> None:
 def test_any_document_of_a_source_of_any_software_ends_in_a_line(room: pathlib.Path) -> None:
     """Two runs of mirror read any bytes instead of a document, page, robots.txt or response of any software."""
     page = b'<html><head><link rel="resourcesync" href="/capabilitylist.xml"></head></html>'
-    with lying() as liar:
+    with Liar() as liar:
         created = entry(f"{liar.base}/resource/b", b"b", moment="2000-02-29T00:00:00.002Z").replace(
             "<rs:md ", '<rs:md change="created" ')
         changed(liar, [created], [gone(f"{liar.base}/resource/a", "2000-02-29T00:00:00.003Z")],
@@ -141,7 +141,7 @@ def test_any_document_of_a_source_of_any_software_ends_in_a_line(room: pathlib.P
 
 def test_any_state_of_a_mirror_of_any_source_ends_in_a_line(room: pathlib.Path) -> None:
     """mirror reads any bytes instead of `#known` and of `#state`, of a mirror of any source."""
-    with lying() as liar:
+    with Liar() as liar:
         assert run_command("mirror", liar.base, "m") == 0
         for name in ("#known", "#state"):
             well = pathlib.Path("m", name).read_bytes()
@@ -159,7 +159,7 @@ def test_any_state_of_a_mirror_of_any_source_ends_in_a_line(room: pathlib.Path) 
 
 def test_any_document_of_a_collection_ends_in_a_line(room: pathlib.Path) -> None:
     """mirror reads any bytes instead of a collection's Source Description, and of a source's list."""
-    with lying() as liar:
+    with Liar() as liar:
         collected(liar, ["s1", "s2"])
         well = dict(liar.answers)
 
@@ -174,7 +174,7 @@ def test_any_document_of_a_collection_ends_in_a_line(room: pathlib.Path) -> None
 
 def test_any_state_of_a_mirror_ends_in_a_line(room: pathlib.Path) -> None:
     """mirror reads any bytes instead of `#state` and of `#collection`."""
-    with lying() as liar:
+    with Liar() as liar:
         assert run_command("mirror", liar.base, "m") == 0
         well = pathlib.Path("m/#state").read_bytes()
 
@@ -197,7 +197,7 @@ def test_any_response_to_a_publication_ends_in_a_line(room: pathlib.Path) -> Non
     pathlib.Path("folder").mkdir()
     pathlib.Path("folder/a").write_bytes(b"a")
     os.utime("folder/a", (1, 1))
-    with taking() as liar:
+    with Taking() as liar:
         well = liar.published
 
         def look(text: bytes) -> None:
@@ -258,7 +258,7 @@ def test_any_name_of_a_file_ends_in_a_line(room: pathlib.Path) -> None:
     plain = st.binary(min_size=1, max_size=40).map(lambda name: name.replace(b"/", b"").replace(b"\0", b""))
     segment = plain.filter(lambda name: name not in (b"", b".", b".."))
     path = st.lists(segment, min_size=1, max_size=4).map(b"/".join)
-    with taking() as liar:
+    with Taking() as liar:
 
         def look(paths: list[bytes], links: list[tuple[bytes, bytes]]) -> None:
             with fresh():

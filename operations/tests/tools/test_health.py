@@ -75,7 +75,7 @@ def test_changes_are_counted(limit: int, changes: int) -> None:
     """The changes are in one list or in parts, of which at most two are read."""
     with serving(documents_of(source(changes, limit))) as server:
         figures = health_of(server.url)[2]
-        parts = [path for path in server.requests if path.startswith("/changelist/")]
+        parts = server.paths("/changelist/")
     assert figures["changes"].split(";")[0] == str(changes)
     assert len(parts) <= 2, parts
 
@@ -183,7 +183,7 @@ def test_a_list_whose_part_is_dropped_meanwhile_is_read_again() -> None:
     assert later.first > 0, "nothing was dropped"
     with serving(documents_of(before)) as server:
         old, new = server.answer, documents_of(later)
-        server.answer = lambda path: (old if "/changelist/3.xml" not in server.requests else new)(path)
+        server.answer = lambda path: (old if "/changelist/3.xml" not in server.paths() else new)(path)
         found = health_of(server.url)
     assert found[0] == 0 and found[2]["changes"].split(";")[0] == str(len(later.changes)), found
 

@@ -20,8 +20,8 @@ def mirrored(liar: Liar, room: pathlib.Path, status: int, *files: str) -> str:
     assert found == status, messages
     assert [char for char in messages if not (char.isprintable() or char == "\n")] == []
     assert set(below(room)) <= {"mirror/#state", "mirror/#known", *files}
-    assert [path for path in liar.requests if not path.startswith("/") or "elsewhere" in path] == []
-    assert max((liar.requests.count(path) for path in liar.requests), default=0) <= ASKED
+    assert [path for path in liar.paths() if not path.startswith("/") or "elsewhere" in path] == []
+    assert max((liar.paths().count(path) for path in liar.paths()), default=0) <= ASKED
     assert liar.sent <= SENT
     return messages
 

@@ -54,20 +54,10 @@ def test_the_version_is_that_of_the_version_file() -> None:
     for word in ("--version", "version"):
         done = run_command(word)
         assert (done.returncode, done.stdout, done.stderr) == (0, f"ropepeach {version}\n", ""), word
-    agents: list[str | None] = []
-
-    class Noting(lists_server.Handler):
-        """Record the User-Agent of requests."""
-
-        def do_GET(self) -> None:
-            """Answer a request."""
-            agents.append(self.headers["User-Agent"])
-            super().do_GET()
-
-    missing = lists_server.serving(lambda _: (404, "text/plain", b"NotFound\n"))
-    with mock.patch.object(lists_server, "Handler", Noting), missing as server:
+    with lists_server.serving(lambda _: (404, "text/plain", b"NotFound\n")) as server:
         run_command("health", server.url)
-    assert set(agents) == {f"ropepeach/{version}"}
+    agents = {request.fields["user-agent"] for request in server.requests}
+    assert agents == {f"ropepeach/{version}"}
 
 
 @pytest.mark.parametrize("name", SUBCOMMANDS)

@@ -18,7 +18,7 @@ from typing import Any
 
 import pytest
 
-from operations.tests.tools.hostile_source import Liar, answered, entry, in_parts, lying
+from operations.tests.tools.hostile_source import Liar, answered, entry, in_parts
 from operations.tests.tools.running import (
     SECONDS, Run, Server, begun, ended, files_of, ropepeach, wait_until, written,
 )
@@ -203,12 +203,12 @@ def test_a_run_without_a_terminal_shows_no_bar(server: Server) -> None:
 def memory_of_a_baseline(count: int) -> int:
     """Return the peak memory, in bytes, of a baseline of this many files that the folder already has."""
     folder = small_files(f"{count}", count)
-    with lying() as liar:
+    with Liar() as liar:
         entries = [entry(f"{liar.base}/resource/{path.name}", path.read_bytes()) for path in sorted(folder.iterdir())]
         in_parts(liar, entries)
         (folder / "#state").write_text(json.dumps({"source": liar.base, "until": None, "newest": None}))
         taken = most_memory("mirror", liar.base, folder)
-        assert [path for path in liar.requests if path.startswith("/resource/")] == []
+        assert liar.paths("/resource/") == []
     return taken
 
 

@@ -193,7 +193,7 @@ def killed_at(liar: Liar, path: str, *words: str, promised: str = "") -> None:
     answer = liar.answers[path]
     liar.answers[path] = late(answer)
     run = begun("mirror", liar.base, "m", *words)
-    wait_until(lambda: path in liar.requests, "a request")
+    wait_until(lambda: path in liar.paths(), "a request")
     wait_until(lambda: not promised or state()["newest"] == promised, "the promise")
     run.send_signal(signal.SIGKILL)
     ended(run)
@@ -341,7 +341,7 @@ def test_a_stopped_run_at_several_connections_is_resumed(liar: Liar, number: sig
     hold_files(liar, files)
     counted(liar, files)
     run = begun("mirror", liar.base, "m", "--connections", "3")
-    wait_until(lambda: sum("/f" in path for path in liar.requests) > 5, "requests")
+    wait_until(lambda: sum("/f" in path for path in liar.paths()) > 5, "requests")
     run.send_signal(number)
     status, _, complaints = ended(run)
     assert status == end, complaints
