@@ -1,4 +1,4 @@
-"""Fake HTTP servers on loopback: raw answers of a function, or scripted responses by path, and a log of the requests."""
+"""Fake HTTP servers on loopback: answers of a function, or scripted responses by path, and a log of the requests."""
 from __future__ import annotations
 
 import contextlib

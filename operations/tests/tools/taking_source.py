@@ -19,8 +19,6 @@ class Taking(Liar):
         if request.method == "PUT":
             self.put[request.path.removeprefix("/resource/")] = request.body
             return Answer([answered(b"created\n", "201 Created")], "close")
-        if request.path == "/group":
-            return Answer([answered(b"NoSuchDocument\n", "404 Not Found")], "close")
         if request.path == "/publish":
             return Answer([answered(self.published, fields="X: y\r\n")], "close")
         return super().answer(request)

@@ -243,6 +243,14 @@ def test_changes_remove_half_of_a_mirror_and_no_more_without_yes(liar: Liar) -> 
     mirrored("half", liar, says="removed 10")
 
 
+def test_all_folders_that_a_deletion_empties_are_removed(liar: Liar) -> None:
+    hold_files(liar, {"a": b"a", "b/c": b"c", "b/d/e/f": b"f"})
+    mirrored("at first", liar)
+    changed(liar, [gone(f"{liar.base}/resource/b/d/e/f", in_order(0))])
+    mirrored("one is gone", liar, says="removed 1")
+    assert (os.listdir("m/b"), files_of("m")) == (["c"], {"a": b"a", "b/c": b"c"})
+
+
 def test_max_delete_allows_more_than_half(liar: Liar) -> None:
     hold_files(liar, TWENTY)
     mirrored("at first", liar)

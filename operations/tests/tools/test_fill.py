@@ -302,6 +302,16 @@ def test_a_file_takes_at_most_300_bytes_of_memory(program: str, room: pathlib.Pa
     little("fill, where all are held", functools.partial(memory_of_a_fill, True))
 
 
+@pytest.mark.parametrize(("status", "puts"), [(500, 0), (501, 0), (507, 3), (404, 3), (400, 3)])
+def test_a_group_that_the_source_fails_ends_the_run(status: int, puts: int, room: pathlib.Path) -> None:
+    """After any other refusal of a group, fill sends its changes one at a time."""
+    folder = written("folder", {name: b"body" for name in "abc"})
+    with Taking() as liar:
+        liar.answers["/group"] = answered(b"", f"{status} Refused")
+        assert ropepeach("fill", folder, liar.base)[0] == (0 if puts else 1)
+        assert len(liar.put) == puts
+
+
 @pytest.mark.parametrize("body, kind, ends", [
     (b"NotHeld\n", "plain", 0), (b"", "html", 1), (b"NotHeld\n", "html", 1), (b"NoSuchDocument\n", "plain", 1),
     (b"NotHeldHere\n", "plain", 1), (b"notheld\n", "plain", 1)])

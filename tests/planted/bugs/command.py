@@ -140,7 +140,7 @@ OF_COLLECTION = [
         "a home that differs is not compared", "collection/grow",
         "        if differing:\n            raise Fault(differing_line([(",
         "        if False:\n            raise Fault(differing_line([(",
-        COLLECTION,
+        "operations/tests/collection/test_refusals.py::test_grow_refuses_before_it_changes_anything",
     ),
     tool(
         "a status forgets a source that ended early", "collection/fill",
@@ -239,7 +239,7 @@ OF_SIZES = [
         "half of a mirror may not go", "http/limits",
         "elif 2 * count > total and not self.is_sure:",
         "elif 2 * count >= total and not self.is_sure:",
-        MIRROR,
+        "operations/tests/tools/test_attacks.py::test_changes_remove_half_of_a_mirror_and_no_more_without_yes",
     ),
     tool(
         "--max-delete counts one more", "http/limits",
@@ -303,7 +303,7 @@ OF_EDGES = [
         "only the nearest of the folders that a deletion empties goes", "mirror/folder",
         "        for above in reversed(above_it(name)):\n            self.drop_empty(above)",
         "        for above in above_it(name)[-1:]:\n            self.drop_empty(above)",
-        MIRROR,
+        "operations/tests/tools/test_attacks.py::test_all_folders_that_a_deletion_empties_are_removed",
     ),
     tool(
         "a source that changes in a second pass changes too fast", "mirror/aims",

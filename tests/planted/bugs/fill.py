@@ -52,7 +52,7 @@ OF_FILL = [
         "an ill source is given a refused group once more", "fill/send",
         "if answer.status >= 500 and answer.status != FULL:",
         "if answer.status >= 600:",
-        FILL,
+        "operations/tests/tools/test_fill.py::test_a_group_that_the_source_fails_ends_the_run",
     ),
     tool(
         "a type that a pattern gives is not compared", "fill/plan",
