@@ -9,33 +9,20 @@ from ropepeach.cli import output
 from ropepeach.faults import Fault, Long, Silent
 from ropepeach.fill.files import FileReading
 from ropepeach.http.limits import FIRST_PAUSE, LONGEST_PAUSE
-from ropepeach.http.response import TOO_MANY_REQUESTS, Fields, Response, error_text
+from ropepeach.http.response import REMEDIES, TOO_MANY_CHANGES, TOO_MANY_REQUESTS, Fields, Response, error_text
 from ropepeach.resync.lists import Source
 
 # The most items of a group (docs/HTTP.md), and the longest body in one, in bytes: a group has bodies as
 # hexadecimal digits.
 MOST_GROUPED, LONGEST_GROUPED = 16, 65_536
-# The status of a change that has no room, and the word of one of its causes.
-FULL, TOO_MANY_CHANGES = 507, "TooManyChanges"
+# The status of a change that has no room.
+FULL = 507
 # The source's own answer for a missing name. Another 404 comes from a proxy, and proves nothing.
 NOT_HELD = "404 NotHeld"
 # The number of publications that make room for changes: the second one drops the changes that the first one keeps.
 PUBLICATIONS = 2
 # How long a proxy may serve an older list, in seconds (operations/install/ropepeach.nginx).
 KEPT = 2.1
-
-
-# Remedies of refusals, by the word of the source or the status (operations/docs/OPERATING.md, "Troubles").
-REMEDIES = {
-    "Full": "delete resources, or move to a larger disk",
-    TOO_MANY_CHANGES: "publish, twice if the first publication drops nothing",
-    "TooManyResources": "delete resources, or use several sources",
-    "Device": "run `ropepeach why`, and look at the kernel's log and `df`",
-    "NoMemory": "give the program more memory, and run this again",
-    "401": "give a certificate that may change the source (--certificate)",
-    "403": "fill from a machine that may change the source, or with --certificate",
-    "413": "let the proxy take longer bodies",
-}
 
 
 def refusal(source: Source, method: str, path: str, answer: Response) -> Fault:

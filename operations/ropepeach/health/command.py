@@ -5,9 +5,11 @@ does, and changes nothing. The line ends with performance data for monitoring sy
 closed until its program is restarted. If URL is a Source Description of several sources, or the file of a
 collection, each source has a line, and the worst status is the exit status.
 
-  critical  no answer, `Closed`, unreadable lists, `TooManyChanges` is near, or the last verification failed
-  warning   many changes are kept; the last change, publication or verification is older than allowed, or in the
-            future; the file system has less room than the file lacks; the file cannot be examined
+  critical  no answer, `Closed`, unreadable lists, the last verification failed, or 98 % are used of the 50,000
+            resources, the 50,000 changes, or, with --file, the blocks, the file system, or the longest free run,
+            which the longest body of 30 days needs
+  warning   90 % are used of one of these; the last change, publication or verification is older than allowed, or in
+            the future; the file system has less room than the file lacks; the file cannot be examined
 """
 from __future__ import annotations
 
@@ -20,10 +22,11 @@ from typing import NamedTuple
 from ropepeach.cli import numbers, output
 from ropepeach.cli.files import write_file
 from ropepeach.cli.statuses import Health
-from ropepeach.disk.formula import MOST_CHANGES
 from ropepeach.faults import Fault
+from ropepeach.health.capacity import Quantity
 from ropepeach.health.source import SourceHealth, Subject, examined
 from ropepeach.resync.lists import Several
+from ropepeach.resync.moments import AHEAD, moment_text
 
 MS_PER_DAY, MS_PER_SECOND = 86_400_000, 1_000
 # The clocks of two machines may differ by this many milliseconds.
@@ -35,16 +38,16 @@ def add_arguments(parser: argparse.ArgumentParser) -> None:
     """Add the arguments of the command."""
     parser.add_argument("url", metavar="URL",
                         help="the address of the source, such as http://127.0.0.1:8080, or the file of a collection")
-    parser.add_argument("--changes-warning", type=numbers.number, default=45_000, metavar="N",
+    parser.add_argument("--changes-warning", type=numbers.number, metavar="N",
                         help="warn from this many changes kept (45,000)")
-    parser.add_argument("--changes-critical", type=numbers.number, default=49_000, metavar="N",
+    parser.add_argument("--changes-critical", type=numbers.number, metavar="N",
                         help="critical from this many changes kept (49,000)")
     parser.add_argument("--change-age", type=numbers.positive, metavar="DAYS", help="warn if the last change is older")
     parser.add_argument("--publication-age", type=numbers.positive, metavar="DAYS",
                         help="warn if the last publication is older")
     parser.add_argument("--verification-age", type=numbers.positive, metavar="DAYS",
                         help="warn if the last verification is older")
-    parser.add_argument("--file", metavar="FILE", help="check the room of the source's file, and its last verification")
+    parser.add_argument("--file", metavar="FILE", help="check the source's file too, its last verification and file system")
     parser.add_argument("--max-time", type=numbers.positive, default=10, metavar="SECONDS",
                         help="timeout of a response (10)")
     parser.add_argument("--patience", type=numbers.seconds, default=0, metavar="SECONDS",
@@ -62,58 +65,75 @@ class Trouble(NamedTuple):
 
 
 class Age(NamedTuple):
-    """The age of an event in milliseconds (None: it never happened), and its limit in days."""
+    """The moment of an event in milliseconds (0: it never happened), its age at `now`, the limit of the age in days,
+    and the moment from which the age of an event counts that never happened.
+    """
 
     event: str
-    value: int | None
+    moment: int
+    now: int
     limit: float | None
+    since: int = 0
 
     def text(self) -> str:
         """Return the age as text."""
-        if self.value is None:
+        if not self.moment:
             return f"last {self.event} never"
-        size, unit = next((unit for unit in AGE_UNITS if self.value >= unit[0]), AGE_UNITS[-1])
-        count = max(0, self.value // size)
+        age = self.now - self.moment
+        size, unit = next((unit for unit in AGE_UNITS if age >= unit[0]), AGE_UNITS[-1])
+        count = max(0, age // size)
         return f"last {self.event} {count:,} {unit}{'s' * (count != 1)} ago"
 
     def troubles(self) -> Iterator[Trouble]:
         """Yield the problems of this age."""
-        if self.limit is not None and (self.value is None or self.value > self.limit * MS_PER_DAY):
+        if self.limit is not None and self.now - (self.moment or self.since) > self.limit * MS_PER_DAY:
             yield Trouble(Health.WARNING, f"no {self.event} within {24 * self.limit:g} hours")
-        if self.value is not None and self.value < -SKEW:
-            yield Trouble(Health.WARNING, f"the last {self.event} is {-self.value // MS_PER_SECOND:,} seconds in the "
-                                          "future: a clock is or was wrong")
+        ahead = self.moment - self.now
+        if ahead > SKEW:
+            refused = (f"; mirrors refuse the source until {moment_text(self.moment - AHEAD)}" if ahead > AHEAD else "")
+            yield Trouble(Health.WARNING, f"the last {self.event} is {ahead // MS_PER_SECOND:,} seconds in the "
+                                          f"future: a clock is or was wrong{refused}")
 
     def figure(self) -> str:
-        """Return the performance data of this age, or an empty text without a value."""
-        if self.value is None:
+        """Return the performance data of this age, or an empty text without an event."""
+        if not self.moment:
             return ""
         limit = f";{self.limit * MS_PER_DAY / MS_PER_SECOND:g}" if self.limit else ""
-        return f"{self.event}_age={self.value // MS_PER_SECOND}s{limit}"
+        return f"{self.event}_age={(self.now - self.moment) // MS_PER_SECOND}s{limit}"
 
 
 def ages_of(finding: SourceHealth, arguments: argparse.Namespace) -> list[Age]:
-    """Return the ages of the last change, publication and verification, as far as they are known."""
-    moments: list[tuple[str, int, float | None]] = []
+    """Return the ages of the last change, publication and verification, as far as they are known. The age of the
+    verification of a source that was never verified counts from its earliest change.
+    """
+    now, ages = time.time_ns() // 1_000_000, list[Age]()
     if finding.is_up:
-        moments = [("change", finding.changed, arguments.change_age),
-                   ("publication", finding.published, arguments.publication_age)]
+        ages = [Age("change", finding.changed, now, arguments.change_age),
+                Age("publication", finding.published, now, arguments.publication_age)]
     if finding.unreserved is not None:
-        last = finding.verification.moment if finding.verification else 0
-        moments.append(("verification", last, arguments.verification_age))
-    now = time.time_ns() // 1_000_000
-    return [Age(event, now - moment if moment else None, limit) for event, moment, limit in moments]
+        ages.append(Age("verification", finding.verification.moment if finding.verification else 0, now,
+                        arguments.verification_age, finding.contents.earliest if finding.contents else 0))
+    return ages
+
+
+def quantities_of(finding: SourceHealth, arguments: argparse.Namespace) -> list[Quantity]:
+    """Return the bounded quantities of a source. Options have the limits of the changes."""
+    limits = {"warning": arguments.changes_warning, "critical": arguments.changes_critical}
+    limits = {name: value for name, value in limits.items() if value is not None}
+    return [quantity._replace(**limits) if quantity.name == "changes" else quantity
+            for quantity in finding.quantities()]
 
 
 def troubles(finding: SourceHealth, arguments: argparse.Namespace, ages: Sequence[Age]) -> Iterator[Trouble]:
     """Yield the problems of a source."""
     if not finding.is_up:
         yield Trouble(Health.CRITICAL, "Closed until the program is restarted" if finding.is_closed else finding.fault)
-    elif finding.change_count >= arguments.changes_critical:
-        yield Trouble(Health.CRITICAL,
-                      "TooManyChanges is near: publish now, twice if the first publication drops nothing")
-    elif finding.change_count >= arguments.changes_warning:
-        yield Trouble(Health.WARNING, "TooManyChanges comes closer: publish")
+    for quantity in quantities_of(finding, arguments):
+        if quantity.used >= quantity.warning:
+            is_near = quantity.used >= quantity.critical
+            yield Trouble(Health.CRITICAL if is_near else Health.WARNING,
+                          f"{quantity.refusal} {'is near' if is_near else 'comes closer'} ({quantity.text}): "
+                          f"{quantity.remedy}")
     yield from troubles_of_file(finding)
     for age in ages:
         yield from age.troubles()
@@ -135,7 +155,8 @@ def troubles_of_file(finding: SourceHealth) -> Iterator[Trouble]:
 
 def state_text(finding: SourceHealth, ages: Sequence[Age]) -> str:
     """Return the state of a running source as text."""
-    facts = [f"{finding.change_count:,} changes kept of {MOST_CHANGES:,}", *(age.text() for age in ages)]
+    facts = [quantity.text for quantity in finding.quantities() if quantity.name in ("changes", "resources", "blocks")]
+    facts += [age.text() for age in ages]
     if finding.unreserved:
         facts.append(f"{finding.unreserved:,} bytes of the file not reserved")
     return ", ".join(facts)
@@ -143,8 +164,9 @@ def state_text(finding: SourceHealth, ages: Sequence[Age]) -> str:
 
 def figures_of(finding: SourceHealth, arguments: argparse.Namespace, ages: Sequence[Age]) -> str:
     """Return the performance data of a line, in the form of monitoring plugins."""
-    limits = f"{arguments.changes_warning};{arguments.changes_critical};0;{MOST_CHANGES}"
-    figures = [f"changes={finding.change_count};{limits}", *filter(None, (age.figure() for age in ages))]
+    figures = [f"{quantity.name}={quantity.used};{quantity.warning};{quantity.critical};0;{quantity.most}"
+               for quantity in quantities_of(finding, arguments)]
+    figures += filter(None, (age.figure() for age in ages))
     if finding.unreserved is not None:
         figures.append(f"unreserved={finding.unreserved}B")
     return " ".join([*figures, f"time={finding.seconds:.3f}s"])
@@ -160,7 +182,7 @@ def reported(finding: SourceHealth, arguments: argparse.Namespace) -> Health:
     state = [state_text(finding, ages)] if finding.is_up else []
     figures = f" | {figures_of(finding, arguments, ages)}" if finding.is_up else ""
     output.result(f"{status.name}: {finding.subject.url}: {'; '.join([*words, *state])}{figures}",
-                  source=finding.subject.url, health=status.name, troubles=words)
+                  source=finding.subject.url, health=status.name, troubles=words, figures=measured(finding, status))
     return status
 
 
@@ -181,9 +203,10 @@ def measured(finding: SourceHealth, status: Health) -> dict[str, float]:
                                  "check_timestamp_seconds": round(finding.begun, 3),
                                  "answer_seconds": round(finding.seconds, 3)}
     if finding.is_up:
-        figures |= {"changes_kept": finding.change_count, "changes_most": MOST_CHANGES,
-                    "last_change_timestamp_seconds": finding.changed / MS_PER_SECOND,
+        figures |= {"last_change_timestamp_seconds": finding.changed / MS_PER_SECOND,
                     "last_publication_timestamp_seconds": finding.published / MS_PER_SECOND}
+    for quantity in finding.quantities():
+        figures |= {f"{quantity.name}_{quantity.word}": quantity.used, f"{quantity.name}_most": quantity.most}
     if finding.unreserved is not None:
         figures["unreserved_bytes"] = finding.unreserved
     if finding.verification:

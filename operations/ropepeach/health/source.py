@@ -12,6 +12,7 @@ from typing import NamedTuple
 
 from ropepeach.disk import formula
 from ropepeach.faults import Fault, Misused, Silent
+from ropepeach.health.capacity import FileContents, Quantity, changes_of, contents_of, file_system_of, resources_of
 from ropepeach.http.client import Client
 from ropepeach.resync.lists import Several, Source, Unheld, list_address, strict_moment
 from ropepeach.resync.moments import milliseconds
@@ -53,6 +54,7 @@ class SourceHealth:
     is_up: bool = False
     is_closed: bool = False
     change_count: int = 0
+    published_count: int = 0
     # The moments of the last change and of the last publication, in milliseconds, or 0.
     changed: int = 0
     published: int = 0
@@ -61,6 +63,9 @@ class SourceHealth:
     free: int = 0
     size: int = 0
     file_fault: str = ""
+    # What the file holds, and the use of its file system.
+    contents: FileContents | None = None
+    file_system: Quantity | None = None
     verification: Verification | None = None
 
     def ask(self, arguments: argparse.Namespace) -> None:
@@ -68,8 +73,9 @@ class SourceHealth:
         self.begun, started = time.time(), time.monotonic()
         try:
             source = Source(Client(self.subject.url, arguments.patience, arguments.certificate, arguments.max_time))
-            self.change_count, changed = kept_changes(source)
-            self.changed, self.published = milliseconds(changed), milliseconds(source.published_at())
+            self.change_count, changed = entries_in(source, "changelist", "datetime", "from")
+            self.published_count, published = entries_in(source, "resourcelist", "at", "at")
+            self.changed, self.published = milliseconds(changed), milliseconds(published)
             self.is_up = True
         except (Misused, Several):
             raise
@@ -86,9 +92,21 @@ class SourceHealth:
             status = os.stat(self.subject.file)
             self.unreserved, self.size = formula.unreserved(status), status.st_size
             self.free = formula.free_bytes(self.subject.file)
+            self.file_system = file_system_of(self.subject.file)
             self.verification = last_verification(self.subject.file)
+            self.contents = contents_of(self.subject.file, time.time_ns() // 1_000_000)
         except OSError as fault:
             self.file_fault = f"{self.subject.file} can't be looked at: {fault.strerror}"
+        except Fault as fault:
+            self.file_fault = f"{self.subject.file} can't be looked at: {' '.join(fault.lines())}"
+
+    def quantities(self) -> list[Quantity]:
+        """Return the bounded quantities: the resources by the file, or else as published."""
+        by_file = self.contents.quantities if self.contents else []
+        by_lists = [changes_of(self.change_count)] if self.is_up else []
+        if self.is_up and not by_file:
+            by_lists.append(resources_of(self.published_count, "published"))
+        return [*by_lists, *by_file, *([self.file_system] if self.file_system else [])]
 
 
 def examined(subject: Subject, arguments: argparse.Namespace) -> SourceHealth:
@@ -99,12 +117,14 @@ def examined(subject: Subject, arguments: argparse.Namespace) -> SourceHealth:
     return finding
 
 
-def kept_changes(source: Source) -> tuple[int, str]:
-    """Return the number of changes in the Change List, and the moment of the last."""
+def entries_in(source: Source, capability: str, last: str, front: str) -> tuple[int, str]:
+    """Return the number of entries of a list, and the moment in the attribute `last` of its last entry, or in the
+    attribute `front` of its head.
+    """
     for turn in range(LIST_READINGS):
-        head = source.document(list_address(source.lists, "changelist"))
+        head = source.document(list_address(source.lists, capability))
         try:
-            return counted_changes(source, head)
+            return entries_once(source, head, last, front)
         except Unheld:
             # A publication dropped this part meanwhile.
             if turn == LIST_READINGS - 1:
@@ -112,13 +132,13 @@ def kept_changes(source: Source) -> tuple[int, str]:
     raise AssertionError
 
 
-def counted_changes(source: Source, head: Document) -> tuple[int, str]:
-    """Count the changes of a Change List by its head: all parts but the last are as long as the first."""
+def entries_once(source: Source, head: Document, last: str, front: str) -> tuple[int, str]:
+    """Count the entries of a list by its head: all parts but the last are as long as the first."""
     addresses = [part.loc for part in head.entries] if head.is_index else []
     entries = (source.document(addresses[-1]) if addresses else head).entries
     full = len(source.document(addresses[0]).entries) if len(addresses) > 1 else 0
-    moment = entries[-1].attributes.get("datetime") if entries else head.attributes.get("from")
-    return full * (len(addresses) - 1) + len(entries), strict_moment(moment)
+    moment = entries[-1].attributes.get(last) if entries else None
+    return full * (len(addresses) - 1) + len(entries), strict_moment(moment or head.attributes.get(front))
 
 
 def last_verification(file: str) -> Verification | None:

@@ -13,6 +13,18 @@ BLANK_LINES = b"\r\n", b"\n"
 TOO_MANY_REQUESTS = 429
 # nginx's text for a request without TLS.
 PLAIN_REQUEST = b"plain HTTP request was sent to HTTPS port"
+TOO_MANY_CHANGES = "TooManyChanges"
+# Remedies of refusals, by the word of the source or the status (operations/docs/OPERATING.md, "Troubles").
+REMEDIES = {
+    "Full": "delete resources, or move to a larger disk",
+    TOO_MANY_CHANGES: "publish, twice if the first publication drops nothing",
+    "TooManyResources": "delete resources, or use several sources",
+    "Device": "run `ropepeach why`, and look at the kernel's log and `df`",
+    "NoMemory": "give the program more memory, and run this again",
+    "401": "give a certificate that may change the source (--certificate)",
+    "403": "fill from a machine that may change the source, or with --certificate",
+    "413": "let the proxy take longer bodies",
+}
 
 
 class Fields:

@@ -14,7 +14,7 @@ import pytest
 from operations.tests.tools.lists_server import after, always, documents_of, serving, slow
 from operations.tests.tools.command_runs import lines_of, run_command, status_of
 from tests.program import ask, interposed
-from tests.reading.crash_model import State
+from tests.reading.crash_model import State, moment_text
 from tests.served_source import free_port
 from tests.served_source import serving as serving_program
 from tests.system.edge_runs import SYSTEM
@@ -56,8 +56,9 @@ def test_a_healthy_source_has_status_0_and_figures() -> None:
     """The figures follow the text of the line."""
     with serving(documents_of(source(5, age=3 * 3_600_000, published=2 * DAY))) as server:
         status, words, figures = health_of(server.url)
-    assert (status, words) == (0, "5 changes kept of 50,000, last change 3 hours ago, last publication 2 days ago")
-    assert figures["changes"] == "5;45000;49000;0;50000", figures
+    assert (status, words) == (0, "5 changes kept of 50,000, 0 resources published of 50,000, last change 3 hours ago, "
+                                "last publication 2 days ago")
+    assert (figures["changes"], figures["resources"]) == ("5;45000;49000;0;50000", "0;45000;49000;0;50000"), figures
     ages = [int(figures[name].rstrip("s")) for name in ("change_age", "publication_age")]
     assert abs(ages[0] - 10_800) < 60 and abs(ages[1] - 172_800) < 60, ages
 
@@ -66,7 +67,8 @@ def test_a_new_source_has_status_0() -> None:
     """A new source has no change and no publication."""
     with serving(documents_of(State(BASE, 10))) as server:
         status, words, _ = health_of(server.url)
-    assert (status, words) == (0, "0 changes kept of 50,000, last change never, last publication never")
+    assert (status, words) == (0, "0 changes kept of 50,000, 0 resources published of 50,000, last change never, "
+                                "last publication never")
 
 
 @pytest.mark.parametrize("limit, changes", [*((2, changes) for changes in range(8)),
@@ -121,13 +123,16 @@ def test_a_new_source_is_too_old_without_changes_and_publications() -> None:
             assert found[0] == 1 and phrase in found[1], found
 
 
-@pytest.mark.parametrize("milliseconds, status", [(30_000, 0), (3_600_000, 1)])
+@pytest.mark.parametrize("milliseconds, status", [(30_000, 0), (3_600_000, 1), (30 * DAY, 1)])
 def test_changes_in_the_future_are_reported(milliseconds: int, status: int) -> None:
-    """The source's clock may be up to half a minute fast."""
-    with serving(documents_of(source(2, age=-milliseconds))) as server:
+    """The source's clock may be up to half a minute fast. The line says until when mirrors refuse the source."""
+    state = source(2, age=-milliseconds)
+    with serving(documents_of(state)) as server:
         found = health_of(server.url)
     assert found[0] == status
     assert ("in the future" in found[1]) == (status == 1), found
+    refused = f"mirrors refuse the source until {moment_text(state.last - DAY)}"
+    assert (refused in found[1]) == (milliseconds > DAY) == ("refuse" in found[1]), found
 
 
 HTML = "text/html"

@@ -224,3 +224,16 @@ OF_IMPORTS = [
          "a_subcommand_imports_its_own_package"),
     ]
 ]
+CAPACITY = "health/capacity.py"
+OF_FULL = [
+    bug(what, file, old, new, f"full::{test}") for what, file, old, new, test in [
+        ("a nearly full source is healthy", CAPACITY, "WARNING, CRITICAL = 90, 98", "WARNING, CRITICAL = 91, 99",
+         "nearly_50000_resources_are_reported"),
+        ("blocks that only root may use are free", CAPACITY, "system.f_bavail", "system.f_bfree",
+         "a_nearly_full_file_system_is_reported"),
+        ("the longest free run does not count", CAPACITY, "        if longest:", "        if False:",
+         "a_nearly_full_file_is_reported"),
+        ("a fresh source was verified too long ago", CAPACITY, "filter(None, moments)", "moments",
+         "a_file_that_was_never_verified_counts_from_its_first_change"),
+    ]
+]
