@@ -4,6 +4,7 @@ from __future__ import annotations
 import argparse
 import gc
 import io
+import itertools
 import os
 import signal
 import sys
@@ -11,17 +12,24 @@ from collections.abc import Sequence
 from typing import NoReturn
 
 from ropepeach.cli import output
-from ropepeach.cli.parser import overview, parser_of
+from ropepeach.cli.output import OUTPUT_OPTIONS
+from ropepeach.cli.parser import meant, overview, parser_of
 from ropepeach.cli.statuses import Status
 from ropepeach.cli.stops import STOPS
 from ropepeach.cli.subcommands import SUBCOMMANDS, Subcommand
 from ropepeach.faults import Fault, Misused, lines_of
 
 
+def refuse(name: str, front: str = "") -> NoReturn:
+    """End the run: there is no command of this name."""
+    hint = meant(name, SUBCOMMANDS) or f"; choose from {', '.join(SUBCOMMANDS)}"
+    overview().error(f"{front}there is no command {name!r}{hint}")
+
+
 def print_help(words: Sequence[str]) -> NoReturn:
     """Print the help of the command, or of the named subcommand, and exit."""
     if words and (words[0] not in SUBCOMMANDS or len(words) > 1):
-        overview().error(f"help: there is no command {' '.join(words)!r}; choose from {', '.join(SUBCOMMANDS)}")
+        refuse(" ".join(words), "help: ")
     parser = parser_of(SUBCOMMANDS[words[0]]) if words else overview()
     parser.print_help()
     parser.exit()
@@ -37,7 +45,12 @@ def print_completions(words: Sequence[str]) -> NoReturn:
 
 
 def parsed(words: Sequence[str]) -> tuple[Subcommand, argparse.Namespace]:
-    """Parse the command line; exit if it names no subcommand."""
+    """Parse the command line; exit if it names no subcommand. Without words print the overview as an error."""
+    if not words:
+        overview().print_help(sys.stderr)
+        sys.exit(Status.MISUSED)
+    front = list(itertools.takewhile(OUTPUT_OPTIONS.__contains__, words))
+    words = words[len(front):]
     name = words[0] if words else ""
     if name == "help":
         print_help(words[1:])
@@ -46,11 +59,12 @@ def parsed(words: Sequence[str]) -> tuple[Subcommand, argparse.Namespace]:
     if name == "complete":
         print_completions(words[2:])
     if name in SUBCOMMANDS:
-        return SUBCOMMANDS[name], parser_of(SUBCOMMANDS[name]).parse_args(words[1:])
+        return SUBCOMMANDS[name], parser_of(SUBCOMMANDS[name]).parse_args([*front, *words[1:]])
     if name.startswith("-"):
         overview().parse_args(words)
-    overview().error(f"there is no command {name!r}; choose from {', '.join(SUBCOMMANDS)}"
-                     if name else "name a command")
+    if not name:
+        overview().error("name a command")
+    refuse(name)
 
 
 def outcome(subcommand: Subcommand, arguments: argparse.Namespace) -> int:

@@ -5,8 +5,10 @@ word is the one to complete.
 """
 from __future__ import annotations
 
+import itertools
 from collections.abc import Sequence
 
+from ropepeach.cli.output import OUTPUT_OPTIONS
 from ropepeach.cli.parser import parser_of
 from ropepeach.cli.subcommands import SUBCOMMANDS, Subcommand
 
@@ -16,7 +18,8 @@ GENERAL = ("help", "version", "--help", "--version")
 
 def candidates(words: Sequence[str]) -> list[str]:
     """Return the words that may replace the last word. If the list is empty, the shell offers files."""
-    *before, word = words or [""]
+    *given, word = words or [""]
+    before = list(itertools.dropwhile(OUTPUT_OPTIONS.__contains__, given))
     if not before:
         offered = [*SUBCOMMANDS, *GENERAL]
     elif before[0] == "help":

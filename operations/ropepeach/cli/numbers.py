@@ -7,7 +7,8 @@ from collections.abc import Callable
 
 from ropepeach.disk.formula import LONGEST_BODY, MOST_CHANGES
 
-UNITS = {"": 1, "KiB": 1 << 10, "MiB": 1 << 20, "GiB": 1 << 30}
+# The units of sizes: `M` is `MiB`, and `MB` is decimal.
+UNITS = {"": 1, "KiB": 1 << 10, "MiB": 1 << 20, "GiB": 1 << 30, "KB": 10**3, "MB": 10**6, "GB": 10**9}
 MOST_PORT, MOST_CONNECTIONS, MOST_NUMBER = 65_535, 64, 999_999_999
 DECIMAL = re.compile(r"[0-9]{1,6}(\.[0-9]{1,6})?")
 
@@ -29,7 +30,6 @@ count = between(1, MOST_NUMBER, f"a number is 1 to {MOST_NUMBER:,}")
 any_port = between(0, MOST_PORT, f"a port is 0 to {MOST_PORT}")
 port = between(1, MOST_PORT, f"a port is 1 to {MOST_PORT}")
 connections = between(1, MOST_CONNECTIONS, f"connections are 1 to {MOST_CONNECTIONS}")
-body_size = between(0, LONGEST_BODY, f"a body has 0 to {LONGEST_BODY:,} bytes")
 change_count = between(0, MOST_CHANGES, f"a source keeps 0 to {MOST_CHANGES:,} changes")
 
 
@@ -48,11 +48,19 @@ def positive(text: str) -> float:
 
 
 def size(text: str) -> int:
-    """Parse a number of bytes, as 921698304 or 879MiB."""
-    parts = re.fullmatch(r"([0-9]{1,18})([KMG]iB)?", text)
+    """Parse a number of bytes, as 921698304, 879M, 879MiB or 5GB."""
+    parts = re.fullmatch(r"([0-9]{1,18})([KMG]i?B|[KMG])?", text)
     if not parts:
-        raise argparse.ArgumentTypeError(f"{text!r} is no size, as 921698304 or 879MiB")
-    return int(parts[1]) * UNITS[parts[2] or ""]
+        raise argparse.ArgumentTypeError(f"{text!r} is no size, as 921698304, 879M, 879MiB or 5GB")
+    unit = parts[2] or ""
+    return int(parts[1]) * UNITS[f"{unit}iB" if len(unit) == 1 else unit]
+
+
+def body_size(text: str) -> int:
+    """Parse the size of a body."""
+    if size(text) > LONGEST_BODY:
+        raise argparse.ArgumentTypeError(f"{text!r}: a body has 0 to {LONGEST_BODY:,} bytes")
+    return size(text)
 
 
 def rate(text: str) -> int:

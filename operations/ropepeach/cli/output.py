@@ -52,6 +52,10 @@ class Output:
 current = Output()
 
 
+# The options of all commands, which may also come before the name of a command.
+OUTPUT_OPTIONS = frozenset(("-v", "--verbose", "-q", "--quiet", "--json"))
+
+
 def add_output_options(parser: argparse.ArgumentParser) -> None:
     """Add the options that all commands have."""
     amount = parser.add_mutually_exclusive_group()

@@ -6,12 +6,13 @@ import contextlib
 import os
 import re
 import sys
+from collections.abc import Iterable
 from typing import NoReturn
 
 from ropepeach import __version__
 from ropepeach.cli import output
 from ropepeach.cli.statuses import Status
-from ropepeach.cli.subcommands import TABLE, Subcommand
+from ropepeach.cli.subcommands import GROUPS, SUBCOMMANDS, Subcommand
 from ropepeach.faults import printable
 
 PURPOSE = "Fills, mirrors and maintains ResourceSync sources. `ropepeach help COMMAND` describes a command."
@@ -39,7 +40,16 @@ class Parser(argparse.ArgumentParser):
 
     def error(self, message: str) -> NoReturn:
         """End the run with an error of usage."""
-        self.exit(self.misused, f"{self.prog}: error: {printable(message)}\nTry '{self.prog} --help'.\n")
+        wrong = re.match(r"unrecognized arguments: (--[^ =]+)", message)
+        hint = meant(wrong[1], self._option_string_actions) if wrong else ""
+        self.exit(self.misused, f"{self.prog}: error: {printable(message)}{hint}\nTry '{self.prog} --help'.\n")
+
+
+def meant(word: str, words: Iterable[str]) -> str:
+    """Return a question for the most similar of some words, or an empty text."""
+    from difflib import get_close_matches
+
+    return "".join(f"; did you mean {near}?" for near in get_close_matches(word, words, n=1))
 
 
 def terminal_width() -> int:
@@ -99,10 +109,12 @@ def parser_of(subcommand: Subcommand) -> Parser:
 
 def overview() -> Parser:
     """Return the parser of the command without a subcommand, whose help lists the subcommands."""
-    entries = [*((subcommand.name, subcommand.help) for subcommand in TABLE),
-               ("help", "describe a command"), ("version", "print the version")]
-    listed = "\n".join(f"  {name:<10}  {purpose}" for name, purpose in entries)
-    parser = Parser("ropepeach", PURPOSE, f"commands:\n{listed}")
+    parts = {f"to {group}": [(name, SUBCOMMANDS[name].help) for name in names.split()]
+             for group, names in GROUPS.items()}
+    parts["other commands"] = [("help", "describe a command"), ("version", "print the version")]
+    listed = "\n\n".join(f"{title}:\n" + "\n".join(f"  {name:<10}  {purpose}" for name, purpose in entries)
+                         for title, entries in parts.items())
+    parser = Parser("ropepeach", PURPOSE, listed)
     parser.add_argument("command", metavar="COMMAND", nargs="?", help="a command; its arguments follow")
     parser.add_argument("--version", action="version", version=f"ropepeach {__version__}",
                         help="print the version and exit")

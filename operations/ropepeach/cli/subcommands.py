@@ -170,4 +170,7 @@ TABLE = (
         Status.INTERRUPTED: f"{STOPPED}; nothing was started",
     }),
 )
+# The parts of the overview, and the names of their commands.
+GROUPS = {"serve": "new remove site size collection grow takeover", "fill": "fill", "mirror": "mirror check",
+          "look after": "health look why backup restore"}
 SUBCOMMANDS: Mapping[str, Subcommand] = {subcommand.name: subcommand for subcommand in TABLE}

@@ -28,7 +28,6 @@ from ropepeach.disk import formula
 from ropepeach.faults import Fault
 from ropepeach.fill.send import MOST_GROUPED, PutOrDelete, Sending
 from ropepeach.http.client import add_options, client_of, error_text
-from ropepeach.mirror.collection import bases_at
 from ropepeach.resync.facts import Facts, kind_of, length_of
 from ropepeach.resync.lists import DESCRIPTION_PATH, Dropped, Entry, Source
 
@@ -50,6 +49,9 @@ def add_arguments(parser: argparse.ArgumentParser) -> None:
 
 def check_description(collection: CollectionSettings, arguments: argparse.Namespace) -> None:
     """Refuse to move resources to a source that mirrors do not find."""
+    # (--help needs no libcurl)
+    from ropepeach.mirror.collection import bases_at
+
     bases = bases_at(client_of(arguments, collection.address))
     missing = [member.base for member in collection.members.values() if member.base not in bases]
     if missing:

@@ -41,8 +41,8 @@ def add_arguments(parser: argparse.ArgumentParser) -> None:
     parser.add_argument("--dry-run", action="store_true", help="print the changes, and make none")
     parser.add_argument("--check", action="store_true",
                         help="read all files, also those that did not change since the last run")
-    parser.add_argument("--again", metavar="NAME", nargs="+", action="extend", default=[],
-                        help="put these again, also if the source has them")
+    parser.add_argument("--again", metavar="NAME", action="append", default=[],
+                        help="put this again, also if the source has it; for several names give the option again")
     parser.add_argument("--repair", action="store_true",
                         help="ask the source for all bodies, and put the damaged ones again")
     parser.add_argument("--publish", action=argparse.BooleanOptionalAction, default=True,

@@ -15,7 +15,7 @@ import enum
 import os
 import time
 from collections.abc import Iterator
-from typing import NamedTuple
+from typing import TYPE_CHECKING, NamedTuple
 
 from ropepeach.cli import numbers, output
 from ropepeach.cli.progress import Progress
@@ -26,13 +26,15 @@ from ropepeach.http.limits import LONGEST_RUN, Limits
 from ropepeach.mirror.aims import entries_in, is_gone
 from ropepeach.mirror.catalogue import Row, records_in
 from ropepeach.mirror.folder import Folder
-from ropepeach.mirror.sources import Sources
 from ropepeach.mirror.state import STATE, State, state_in
 from ropepeach.mirror.tree import tree_at
 from ropepeach.mirror.whole import COLLECTION_FILE
 from ropepeach.resync import filters
 from ropepeach.resync.facts import Algorithm, Facts, facts_of, has_digest
 from ropepeach.resync.filters import Filters
+
+if TYPE_CHECKING:
+    from ropepeach.mirror.sources import Sources
 
 
 class Kind(enum.Enum):
@@ -150,6 +152,9 @@ def findings_in(folder: Folder, part: CheckedMirror, arguments: argparse.Namespa
     """Return the findings of all files."""
     if arguments.url is not None:
         limits = Limits(time.monotonic() + LONGEST_RUN)
+        # (its --help needs no libcurl)
+        from ropepeach.mirror.sources import Sources
+
         return against_lists(folder, Sources(as_mirror(arguments, arguments.url), folder, limits))
     if part.is_unfinished:
         raise Fault(f"{part.path}: its last baseline did not end: run `ropepeach mirror` again, or give URL")

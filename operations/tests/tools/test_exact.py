@@ -116,9 +116,10 @@ def test_the_parts_of_a_list_have_at_most_50_000_entries_together(room: pathlib.
                     source.resource_list()
 
 
-@pytest.mark.parametrize("text, size", [("0", 0), ("7", 7), ("7KiB", 7 << 10), ("3MiB", 3 << 20), ("2GiB", 2 << 30)])
-def test_units_of_sizes_are_powers_of_1024(text: str, size: int) -> None:
-    """A size without a unit is in bytes."""
+@pytest.mark.parametrize("text, size", [("0", 0), ("7", 7), ("7KiB", 7 << 10), ("3MiB", 3 << 20), ("2GiB", 2 << 30),
+                                         ("7K", 7 << 10), ("3M", 3 << 20), ("5GB", 5 * 10**9)])
+def test_sizes_have_units(text: str, size: int) -> None:
+    """A size without a unit is in bytes; `M` is `MiB`, and `MB` is decimal."""
     assert numbers.size(text) == size
 
 

@@ -13,7 +13,7 @@ from ropepeach.fill import files
 
 
 @pytest.mark.parametrize("words", [
-    ["--repair"], ["--again", "d/02.txt", "d/11.txt"], ["--again", "d/02.txt", "--again", "d/11.txt"]], ids=str)
+    ["--repair"], ["--again", "d/02.txt", "--again", "d/11.txt"]], ids=str)
 def test_a_damaged_body_is_put_again(words: list[str], program: str, room: pathlib.Path) -> None:
     """`fill` without an option detects no damage; --repair verifies all bodies, and --again puts the named files."""
     with remembered(program, room) as (server, _):
@@ -32,7 +32,7 @@ def test_again_without_a_file_is_refused(program: str, room: pathlib.Path) -> No
     """fill exits 1, and changes no resource."""
     with remembered(program, room) as (server, _):
         before = server.disk.read_bytes()
-        status, _, messages, _ = filled(server.url, "--again", "d/none", "d/02.txt")
+        status, _, messages, _ = filled(server.url, "--again", "d/none", "--again", "d/02.txt")
         assert status == 1, messages
         assert "--again d/none: FOLDER has no such file, or --exclude leaves it out; nothing was changed" in messages
         assert server.disk.read_bytes() == before

@@ -18,21 +18,25 @@ from unittest import mock
 import pytest
 
 import ropepeach
+from operations.tests import PYTHON
 from operations.tests.tools import COMMAND, lists_server, shells
 from operations.tests.tools.line_runs import FIELDS, completed, here, object_of, on_a_terminal, status_and, surroundings
 from operations.tests.tools.command_runs import page_of, run_command, status_of
 from operations.tests.tools.running import SECONDS, Server, written
 from ropepeach.cli import output, parser
 from ropepeach.cli.statuses import Health, Status
-from ropepeach.cli.subcommands import SUBCOMMANDS, TABLE
+from ropepeach.cli.subcommands import GROUPS, SUBCOMMANDS, TABLE
 from ropepeach.http import limits
-from tests.program import ROOT
+from tests.program import ROOT, TOOLS
 
 # The most columns of a line of help, on a terminal of this width.
 NARROW, WIDE = 60, 80
 # Words that are not commands.
-NO_COMMANDS: list[list[str]] = [["help", "nothing"], ["help", "fill", "mirror"], [], ["nothing"], ["fil"],
-                                ["--nothing"], ["--", "fill"]]
+NO_COMMANDS: list[list[str]] = [["help", "nothing"], ["help", "fill", "mirror"], ["nothing"], ["fil"], ["--json"],
+                                ["--nothing"], ["--", "fill"], ["--json", "nothing"]]
+# Wrong words, and the right ones.
+MEANT = {"mirro": "mirror", "helth": "health", "help gorw": "grow", "fill --dryrun a b": "--dry-run",
+         "look --putt=1 a": "--put", "--json restor": "restore"}
 # Lines after completion by a key, and words that a key lists below the line.
 COMPLETED = {"ropepeach mi": "ropepeach mirror ", "ropepeach help gr": "ropepeach help grow ",
              "ropepeach mirror --any": "ropepeach mirror --any-source ",
@@ -80,6 +84,37 @@ def test_help_names_all_commands() -> None:
 def test_words_that_name_no_command_have_status_2(words: list[str]) -> None:
     """The message names `--help`."""
     status_of(here(*words), 2, "ropepeach: error: ", "Try 'ropepeach --help'.")
+
+
+@pytest.mark.parametrize("line, word", MEANT.items())
+def test_a_wrong_word_gets_a_suggestion(line: str, word: str) -> None:
+    """The line names the most similar command or option."""
+    status_of(here(*line.split()), 2, f"; did you mean {word}?\n")
+
+
+def test_no_words_print_the_overview() -> None:
+    """Every command is in one part of it, and the status is that of wrong arguments."""
+    assert sorted(" ".join(GROUPS.values()).split()) == sorted(SUBCOMMANDS)
+    done = here()
+    assert (done.returncode, done.stdout) == (2, "") and done.stderr == here("--help").stdout
+    assert all(f"\nto {group}:\n" in done.stderr for group in GROUPS), done.stderr
+
+
+@pytest.mark.parametrize("words", [["--json"], ["-q"], ["--json", "-v"]], ids=str)
+def test_output_options_may_come_first(words: list[str], room: Path) -> None:
+    """They have the effect of options behind the command."""
+    written(room / "folder", {"a": b"1"})
+    first = here(*words, "size", str(room / "folder"))
+    assert first.stdout and (first.returncode, first.stdout) == (0, here("size", *words, str(room / "folder")).stdout)
+
+
+def test_help_needs_no_package_of_debian() -> None:
+    """The parsers of all commands are made without libcurl and tqdm."""
+    script = ("import sys; sys.modules.update(pycurl=None, tqdm=None, defusedxml=None)\n"
+              "from ropepeach.cli import parser, subcommands\n"
+              "for subcommand in subcommands.TABLE: print(parser.parser_of(subcommand).prog)")
+    done = subprocess.run([PYTHON, "-c", script], capture_output=True, text=True, timeout=SECONDS, cwd=TOOLS)
+    assert done.stdout.split("\n")[:-1] == [f"ropepeach {name}" for name in SUBCOMMANDS], done.stderr
 
 
 @pytest.mark.parametrize("columns, limit", [(NARROW, NARROW), (200, WIDE)])

@@ -294,7 +294,7 @@ OF_SIZES = [
         "GiB count as 1,000 MiB", "cli/numbers",
         '"GiB": 1 << 30',
         '"GiB": 1000 << 20',
-        f"{EXACT}units_of_sizes_are_powers_of_1024",
+        f"{EXACT}sizes_have_units",
     ),
 ]
 # Bugs that no earlier check noticed.
