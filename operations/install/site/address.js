@@ -1,11 +1,13 @@
-// What is shown has an address: the fragment names a source, a resource, a search, an order and a range of time.
+// What is shown has an address: the fragment names a source, a resource, a search, a folder, a type, an order and a
+// range of time.
 
 /** @type {(keyof Place)[]} */
-const KEYS = ["source", "resource", "search", "sort", "range"];
+const KEYS = ["source", "resource", "search", "folder", "type", "sort", "range"];
 
 /**
  * Where a reader is. A field that is empty says: as at first.
- * @typedef {{source: string, resource: string, search: string, sort: string, range: string}} Place
+ * @typedef {{source: string, resource: string, search: string, folder: string, type: string, sort: string,
+ *   range: string}} Place
  */
 
 /**
@@ -16,8 +18,8 @@ const KEYS = ["source", "resource", "search", "sort", "range"];
 export function placeOf(fragment) {
   if (fragment.length > 1 && !fragment.includes("=")) return null;
   const fields = new URLSearchParams(fragment.slice(1));
-  const [source, resource, search, sort, range] = KEYS.map((key) => fields.get(key) ?? "");
-  return { source, resource, search, sort, range };
+  const [source, resource, search, folder, type, sort, range] = KEYS.map((key) => fields.get(key) ?? "");
+  return { source, resource, folder, type, search, sort, range };
 }
 
 /**

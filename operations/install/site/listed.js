@@ -2,8 +2,10 @@
 
 import { given, made, part, tell } from "./elements.js";
 import { count, counted, moment } from "./formats.js";
-import { chosen, search } from "./model.js";
-import { kindOf, pieces, plain, readable } from "./names.js";
+import { csvOf, jsonOf, save } from "./export.js";
+import { showFolders, showTypes } from "./facets.js";
+import { chosen, kind, within } from "./model.js";
+import { pieces, plain, readable } from "./names.js";
 import { Rows } from "./rows.js";
 
 const MARKS = { agrees: "✓ agrees", differs: "✗ differs", unasked: "not checked" };
@@ -58,13 +60,13 @@ export function fillName(cellOfName, name, address) {
 }
 
 /**
- * Shows a type in its cell by a short word.
+ * Shows the type of a resource in its cell by a short word.
  * @param {any} cellOfType
- * @param {string} type
+ * @param {Resource} resource
  */
-export function fillType(cellOfType, type) {
-  tell(cellOfType.firstChild, kindOf(type));
-  cellOfType.title = plain(type);
+export function fillType(cellOfType, resource) {
+  tell(cellOfType.firstChild, kind(resource));
+  cellOfType.title = plain(resource.type);
 }
 
 /** The resources of a panel, searched and sorted. */
@@ -88,6 +90,8 @@ export class Listed {
     /** @type {Column} */
     this.key = "name";
     this.isDown = false;
+    this.folder = "";
+    this.type = "";
     this.grid = part(root, "resources-grid");
     this.search = part(root, "search");
     /** @type {Rows<Resource>} */
@@ -104,6 +108,9 @@ export class Listed {
     for (const button of this.grid.querySelectorAll("[data-sort]")) {
       button.addEventListener("click", () => this.sort(button.dataset.sort));
     }
+    part(root, "clear").addEventListener("click", () => this.clear());
+    part(root, "csv").addEventListener("click", () => save("resources.csv", "text/csv", csvOf(this.rows.items)));
+    part(root, "json").addEventListener("click", () => save("resources.json", "application/json", jsonOf(this.rows.items)));
   }
 
   /**
@@ -114,7 +121,7 @@ export class Listed {
   fill(element, resource) {
     const [name, type, length, put, mark] = /** @type {any} */ (element.children);
     fillName(name, resource.name, this.address(resource.name));
-    fillType(type, resource.type);
+    fillType(type, resource);
     tell(length, count(resource.length));
     tell(put, moment(resource.moment).slice(0, 10));
     const outcome = this.outcome(resource);
@@ -133,11 +140,34 @@ export class Listed {
   }
 
   /**
-   * Whether the search hides a resource.
-   * @param {{name: string, type: string}} resource
+   * Whether the search, the folder or the type hides a resource.
+   * @param {{name: string, type: string, hash: string}} resource
    */
   hides(resource) {
-    return !search(this.search.value)(resource);
+    return !within(this.place())(resource);
+  }
+
+  /** What the list shows, as an address has it. */
+  place() {
+    const { folder, type } = this;
+    return { search: this.search.value.trim(), folder, type, sort: this.order() };
+  }
+
+  /**
+   * Narrows the list to a folder, or to a type.
+   * @param {{folder?: string, type?: string}} to
+   */
+  narrow(to) {
+    Object.assign(this, to);
+    this.choose();
+    this.moved();
+  }
+
+  /** Shows all resources again. */
+  clear() {
+    this.search.value = "";
+    this.narrow({ folder: "", type: "" });
+    this.search.focus();
   }
 
   /** The order as an address has it: a column, with a minus where it is turned; nothing as at first. */
@@ -146,15 +176,15 @@ export class Listed {
   }
 
   /**
-   * Shows the search and the order of an address.
-   * @param {string} words
-   * @param {string} order
+   * Shows the search, the folder, the type and the order of an address.
+   * @param {import("./address.js").Place} place
    */
-  goTo(words, order) {
+  goTo({ search, folder, type, sort: order }) {
     const key = order.replace(/^-/, "");
     this.key = Object.hasOwn(COLUMNS, key) ? /** @type {Column} */ (key) : "name";
     this.isDown = order.startsWith("-");
-    this.search.value = words;
+    Object.assign(this, { folder, type });
+    this.search.value = search;
     this.showOrder();
     this.choose();
   }
@@ -182,10 +212,17 @@ export class Listed {
 
   /** Shows the resources that the search finds, in the order; the view stays where it is, or goes to the top. */
   choose(isSame = false) {
-    const found = chosen(this.resources, this.search.value, this.key, this.isDown);
+    const filter = this.place();
+    const found = chosen(this.resources, filter, this.key, this.isDown);
     this.rows.show(found, isSame);
+    showFolders(part(this.root, "folders"), found, this.folder, (folder) => this.narrow({ folder }));
+    const ofAnyType = this.type ? this.resources.filter(within({ ...filter, type: "" })) : found;
+    showTypes(part(this.root, "types"), ofAnyType, this.type, (type) => this.narrow({ type }));
+    part(this.root, "nothing").hidden = found.length > 0 || !this.resources.length;
+    this.grid.hidden = part(this.root, "export").hidden = !found.length;
     const all = counted(this.resources.length, "resource");
-    const text = this.search.value.trim() ? `${count(found.length)} of ${all}` : all;
+    const isNarrow = filter.search || filter.folder || filter.type;
+    const text = isNarrow ? `${count(found.length)} of ${all}` : all;
     tell(part(this.root, "found"), text);
     if (!isSame) this.say(text);
   }

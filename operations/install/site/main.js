@@ -168,6 +168,14 @@ async function pause() {
   while (document.hidden) await new Promise((go) => document.addEventListener("visibilitychange", go, { once: true }));
 }
 
+// A slash goes to the search that is shown.
+document.addEventListener("keydown", (event) => {
+  if (event.key !== "/" || event.ctrlKey || event.metaKey || event.target instanceof HTMLInputElement) return;
+  const fields = /** @type {HTMLElement[]} */ ([...document.querySelectorAll("[type=search]")]);
+  const shown = fields.find((it) => it.getClientRects().length);
+  if (shown) event.preventDefault();
+  shown?.focus();
+});
 showHead({});
 about.then((it) => {
   showAbout(place("about"), it);

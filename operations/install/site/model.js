@@ -2,12 +2,13 @@
 //
 // The Resource List, followed by the changes after its moment in their order, is what is held (docs/DOCUMENTS.md).
 
-import { isLawful, plain, readable, searchable } from "./names.js";
+import { isLawful, kindOf, plain, readable, searchable } from "./names.js";
 import { digestsIn } from "./source.js";
 
 /** @typedef {import("./source.js").Resource} Resource */
 /** @typedef {import("./source.js").Reading} Reading */
-/** @typedef {{name: string, type: string, searched?: string}} Named */
+/** @typedef {{name: string, type: string, hash: string, searched?: string, kind?: string}} Named */
+/** @typedef {{search: string, folder: string, type: string}} Filter  words, a folder and a kind of type; any may be empty */
 /** @typedef {"name" | "type" | "length" | "moment"} Column */
 
 const BY_NAME = (/** @type {Resource} */ a, /** @type {Resource} */ b) => (a.name < b.name ? -1 : a.name > b.name ? 1 : 0);
@@ -166,25 +167,101 @@ export function sums(holdings) {
 }
 
 /**
- * What tells whether a resource has some words in its name, as it is read or as it is in the lists, or in its type.
+ * Return a function that decides whether a resource has each of some words in its name, as it is read or as it is in the
+ * lists, or in its type. A word with `*` is a pattern that ends where the name ends; one of eight or more hexadecimal digits is also
+ * the beginning of a SHA-256.
  * @param {string} words
  */
 export function search(words) {
-  const wanted = searchable(words).split(/\s+/).filter(Boolean);
-  return (/** @type {Named} */ resource) => wanted.every((word) => searched(resource).includes(word));
+  const wanted = searchable(words).split(/\s+/).filter(Boolean).map(matches);
+  return (/** @type {Named} */ resource) => wanted.every((it) => it(resource));
 }
 
 /**
- * The resources that a search finds, in an order. They come in that of their names.
+ * Return a function that decides whether a resource has a word.
+ * @param {string} word
+ * @returns {(resource: Named) => boolean}
+ */
+function matches(word) {
+  if (word.includes("*")) {
+    const parts = word.split("*");
+    return (resource) => searched(resource).split("\n").some((line) => isLike(line, parts));
+  }
+  const isDigest = /^[0-9a-f]{8,64}$/.test(word);
+  return (resource) => searched(resource).includes(word)
+    || (isDigest && digestsIn(resource.hash).sha256.startsWith(word));
+}
+
+/**
+ * Whether a line has parts one after another, the last at its end.
+ * @param {string} line
+ * @param {string[]} parts
+ */
+function isLike(line, parts) {
+  const last = parts.at(-1) ?? "";
+  let at = 0;
+  for (const part of parts.slice(0, -1)) {
+    const found = line.indexOf(part, at);
+    if (found < 0) return false;
+    at = found + part.length;
+  }
+  return line.length - last.length >= at && line.endsWith(last);
+}
+
+/**
+ * Return a function that decides whether a filter leaves a resource.
+ * @param {Filter} filter
+ */
+export function within({ search: words, folder, type }) {
+  const isFound = search(words);
+  return (/** @type {Named} */ it) => it.name.startsWith(folder) && (!type || kind(it) === type) && isFound(it);
+}
+
+/**
+ * The resources that a filter leaves, in an order. They come in that of their names.
  * @param {Resource[]} resources
- * @param {string} words
+ * @param {Filter} filter
  * @param {Column} key
  * @param {boolean} isDown
  */
-export function chosen(resources, words, key, isDown) {
-  const found = words.trim() ? resources.filter(search(words)) : [...resources];
+export function chosen(resources, filter, key, isDown) {
+  const found = resources.filter(within(filter));
   if (key !== "name") found.sort((a, b) => (a[key] < b[key] ? -1 : a[key] > b[key] ? 1 : 0));
   return isDown ? found.reverse() : found;
+}
+
+/**
+ * The kind of a resource's type.
+ * @param {Named} resource
+ */
+export function kind(resource) {
+  resource.kind ??= kindOf(resource.type);
+  return resource.kind;
+}
+
+/**
+ * The folder directly below a folder that has a name, or nothing if the name is directly in the folder.
+ * @param {string} name
+ * @param {string} folder
+ */
+export function folderBelow(name, folder) {
+  return name.slice(0, name.indexOf("/", folder.length) + 1);
+}
+
+/**
+ * The values of resources with the number of resources of each, the most first; empty values are left out.
+ * @param {Resource[]} resources
+ * @param {(resource: Resource) => string} value
+ */
+export function tally(resources, value) {
+  /** @type {Map<string, number>} */
+  const found = new Map();
+  for (const it of resources) {
+    const key = value(it);
+    found.set(key, (found.get(key) ?? 0) + 1);
+  }
+  found.delete("");
+  return [...found].sort(([a, one], [b, other]) => other - one || (a < b ? -1 : 1));
 }
 
 /**

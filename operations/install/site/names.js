@@ -77,11 +77,11 @@ export function isLawful(name) {
 }
 
 /**
- * A text as it is searched: in one form of Unicode, in lower case.
+ * A text as it is searched: without diacritics, in lower case.
  * @param {string} text
  */
 export function searchable(text) {
-  return text.normalize("NFC").toLowerCase();
+  return text.normalize("NFD").replace(/[\u0300-\u036F]/g, "").toLowerCase();
 }
 
 /**

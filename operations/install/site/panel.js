@@ -257,8 +257,7 @@ export class Panel {
     if (this.wanted) return { ...this.wanted, source: this.key };
     const { listed, timeline } = this;
     const range = this.holding ? timeline.range() : "";
-    const search = listed.search.value.trim();
-    return { source: this.key, resource: this.chosen ?? "", search, sort: listed.order(), range };
+    return { source: this.key, resource: this.chosen ?? "", ...listed.place(), range };
   }
 
   /**
@@ -271,8 +270,8 @@ export class Panel {
       return;
     }
     const { listed, timeline } = this;
-    const isOther = place.search !== listed.search.value.trim() || place.sort !== listed.order();
-    if (isOther) listed.goTo(place.search, place.sort);
+    const isOther = Object.entries(listed.place()).some(([key, it]) => place[/** @type {keyof Place} */ (key)] !== it);
+    if (isOther) listed.goTo(place);
     if (place.range !== timeline.range()) timeline.goTo(place.range);
     if (place.resource) this.choose(place.resource);
     else this.close();
@@ -314,8 +313,8 @@ export class Panel {
   /** The reader has searched or sorted: the card of a resource that is hidden now is closed. */
   searched(isTyping = false) {
     const { chosen: name, listed, wanted } = this;
-    if (wanted) this.wanted = { ...wanted, search: listed.search.value.trim(), sort: listed.order() };
-    const isHidden = name !== null && listed.hides(this.holding?.byName.get(name) ?? { name, type: "" });
+    if (wanted) this.wanted = { ...wanted, ...listed.place() };
+    const isHidden = name !== null && listed.hides(this.holding?.byName.get(name) ?? { name, type: "", hash: "" });
     if (isHidden) this.close();
     this.moved(isTyping);
   }

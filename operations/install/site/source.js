@@ -16,9 +16,9 @@ const MOST_BYTES = 16_777_216;
 
 /**
  * What a list says of a name. Of a Resource List `change` is empty, and `last` the last change of the name up to its
- * moment; `searched` is what a search looks at.
+ * moment; `searched` is what a search looks at, `kind` that of its type.
  * @typedef {{name: string, loc: string, change: string, moment: string, length: number, type: string, hash: string,
- *   last: Resource | null, searched?: string}} Resource
+ *   last: Resource | null, searched?: string, kind?: string}} Resource
  */
 
 /**

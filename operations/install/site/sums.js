@@ -149,7 +149,7 @@ function fill(element, { panel, resource }) {
   const [name, source, type, length, put] = /** @type {any} */ (element.children);
   fillName(name, resource.name, fragmentOf({ source: panel.key, resource: resource.name }));
   tell(source.firstChild, panel.label);
-  fillType(type, resource.type);
+  fillType(type, resource);
   tell(length, count(resource.length));
   tell(put, moment(resource.moment).slice(0, 10));
 }

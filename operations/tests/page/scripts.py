@@ -123,7 +123,7 @@ const found = [];
 const wide = document.documentElement.scrollWidth;
 if (wide > innerWidth) found.push(`the page is ${wide} wide`);
 for (const it of document.querySelectorAll("main *, header *, footer *")) {
-  if (!it.checkVisibility() || it.closest("svg, .row, .wide, .unseen, code, .tabs")) continue;
+  if (!it.checkVisibility() || it.closest("svg, .row, .wide, .unseen, code, .tabs, .chips")) continue;
   const box = it.getBoundingClientRect();
   const isWider = box.width > 1 && box.right > innerWidth + 1;
   if (isWider) found.push(`${it.localName}.${it.className} ends at ${Math.round(box.right)}`);

@@ -23,7 +23,7 @@ ORDER = ["a Skip to the content", "button again", "input search", "button Name",
          "button copyname", "button back", "button Zoom in", "group Time line", "summary The time line", "row ",
          "button copy", "a description", "a changelist", "button check-some"]
 # The most presses of the tab key.
-PRESSES = 60
+PRESSES = 90
 SMALL = """
 const seen = (it) => it.checkVisibility() && it.getClientRects().length > 0;
 const wanted = arguments[0] - 0.5;

@@ -35,7 +35,7 @@ def test_keys_reach_every_control(look: Looked) -> None:
         browser.state("Open")
         browser.run("document.querySelector('[data-zoom=whole]').click()")
         found = []
-        for _ in range(40):
+        for _ in range(70):
             browser.press("Tab", code=9)
             found.append(browser.run(scripts.FOCUSED))
             if found[-1].startswith("body") or found[-1] in found[:-1] and found[-1].startswith("a Skip"):
