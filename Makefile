@@ -81,8 +81,6 @@ statement:
 
 bench: build
 	python3 -m bench.run
-	python3 -m bench.puts
-	python3 -m bench.used
 	python3 -m bench.many
 	python3 -m bench.dropping
 	python3 -m bench.copying
@@ -91,9 +89,7 @@ bench: build
 	/usr/bin/python3 -m bench.durable
 
 bench-more: build
-	python3 -m bench.digests
 	python3 -m bench.verify
-	python3 -m bench.writing
 	python3 -m bench.lists
 	python3 -m bench.sitemaps
 
