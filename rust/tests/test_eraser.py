@@ -1,6 +1,7 @@
 """Test the result of the eraser for every form, and its refusals by name."""
-import unittest
 from unittest import mock
+
+import pytest
 
 from rattle.lexer import Kind, tokens
 from rust import eraser, names
@@ -87,64 +88,62 @@ def without_prelude(text: str) -> str:
     return text.replace(f"{PRELUDE} ", "").replace(f" {PRELUDE}", "")
 
 
-class Forms(unittest.TestCase):
-    """All forms, and all refusals."""
-
-    def test_each_form(self) -> None:
-        for what, (text, wanted) in FORMS.items():
-            with self.subTest(what):
-                self.assertEqual(without_prelude(plain("a.rt", text)), wanted)
-
-    def test_each_refusal(self) -> None:
-        for text, why in REFUSED.items():
-            with self.subTest(text):
-                with self.assertRaises(Refused) as refusal:
-                    plain("a.rt", text)
-                self.assertIn(why, str(refusal.exception))
-
-    def test_a_test_makes_its_own_runtime(self) -> None:
-        made = plain("a.rt", "#[test]\nfn it_holds(rt: HostRuntime) -> Result<(), Fail> {\n    a(rt)\n}\n")
-        runtime = "let rt = rattle_std::rt::HostRuntime;"
-        self.assertIn(f"fn it_holds() {{ fn inner() -> Result<(), Fail> {{ {runtime}\n    a(rt)\n}}", made)
-        self.assertIn("rattle_std::test::Ended::ended(inner())", made)
-        made = plain("a.rt", "#[test]\nfn it_holds(rt: HostRuntime) {\n    a(rt)\n}\n")
-        self.assertIn("fn it_holds() { let rt = rattle_std::rt::HostRuntime;\n    a(rt)\n}\n", made)
-
-    def test_main_is_that_of_c(self) -> None:
-        made = plain("a.rt", "//! It.\nfn main(rt: HostRuntime) -> ExitCode {\n    a(rt)\n}\n")
-        self.assertTrue(made.startswith("#![no_main] //! It.\n"))
-        self.assertIn('extern "C" fn main(count: i32, words: *const *const u8) -> i32 { fn inner() -> ExitCode {', made)
-
-    def test_the_prelude_stands_in_each_module(self) -> None:
-        made = plain("a.rt", "//! It.\n#![allow(a)]\n/// One.\nfn f() {}\nmod m {\n    fn g() {}\n}\n")
-        self.assertEqual(made.count(PRELUDE), 2)
-        self.assertIn(f"{PRELUDE} /// One.\nfn f()", made)
-
-    def test_a_file_that_lost_a_token_is_refused(self) -> None:
-        def losing(text: str, edits: list[Edit]) -> str:
-            return applied(text, edits).replace("b + c", "b c")
-
-        with mock.patch.object(eraser, "applied", losing):
-            with self.assertRaisesRegex(Refused, "a.rt: what was erased and what was kept are not the source"):
-                plain("a.rt", "fn f()\n    requires { a }\n{ b + c }\n")
-
-    def test_a_crates_own_macro_is_known(self) -> None:
-        text = "macro_rules! next { () => {} }\nfn f() { next!() }\n"
-        self.assertIn("next!()", plain("a.rt", text, macros_of(text)))
+def test_each_form() -> None:
+    for what, (text, wanted) in FORMS.items():
+        assert without_prelude(plain("a.rt", text)) == wanted
 
 
-class Sources(unittest.TestCase):
-    """The current sources of crates/."""
+def test_each_refusal() -> None:
+    for text, why in REFUSED.items():
+        with pytest.raises(Refused) as refusal:
+            plain("a.rt", text)
+        assert why in str(refusal.value)
 
-    def test_each_is_put_together_again(self) -> None:
-        files = [file for crate in listed() for file in sorted((ROOT / "crates" / crate.name / "src").rglob("*.rt"))]
-        self.assertGreater(len(files), 200)
-        for file in files:
-            text = file.read_text()
-            edits = edits_of(file.name, text)
-            self.assertEqual(put_together(text, edits), text, file)
-            texts = [token.text for token in tokens(applied(text, edits)) if token.kind is Kind.WORD]
-            self.assertFalse({"ghost", "requires", "ensures", "tactic"} & set(texts), file)
+
+def test_a_test_makes_its_own_runtime() -> None:
+    made = plain("a.rt", "#[test]\nfn it_holds(rt: HostRuntime) -> Result<(), Fail> {\n    a(rt)\n}\n")
+    runtime = "let rt = rattle_std::rt::HostRuntime;"
+    assert f"fn it_holds() {{ fn inner() -> Result<(), Fail> {{ {runtime}\n    a(rt)\n}}" in made
+    assert "rattle_std::test::Ended::ended(inner())" in made
+    made = plain("a.rt", "#[test]\nfn it_holds(rt: HostRuntime) {\n    a(rt)\n}\n")
+    assert "fn it_holds() { let rt = rattle_std::rt::HostRuntime;\n    a(rt)\n}\n" in made
+
+
+def test_main_is_that_of_c() -> None:
+    made = plain("a.rt", "//! It.\nfn main(rt: HostRuntime) -> ExitCode {\n    a(rt)\n}\n")
+    assert made.startswith("#![no_main] //! It.\n")
+    assert 'extern "C" fn main(count: i32, words: *const *const u8) -> i32 { fn inner() -> ExitCode {' in made
+
+
+def test_the_prelude_stands_in_each_module() -> None:
+    made = plain("a.rt", "//! It.\n#![allow(a)]\n/// One.\nfn f() {}\nmod m {\n    fn g() {}\n}\n")
+    assert made.count(PRELUDE) == 2
+    assert f"{PRELUDE} /// One.\nfn f()" in made
+
+
+def test_a_file_that_lost_a_token_is_refused() -> None:
+    def losing(text: str, edits: list[Edit]) -> str:
+        return applied(text, edits).replace("b + c", "b c")
+
+    with mock.patch.object(eraser, "applied", losing):
+        with pytest.raises(Refused, match="a.rt: what was erased and what was kept are not the source"):
+            plain("a.rt", "fn f()\n    requires { a }\n{ b + c }\n")
+
+
+def test_a_crates_own_macro_is_known() -> None:
+    text = "macro_rules! next { () => {} }\nfn f() { next!() }\n"
+    assert "next!()" in plain("a.rt", text, macros_of(text))
+
+
+def test_each_is_put_together_again() -> None:
+    files = [file for crate in listed() for file in sorted((ROOT / "crates" / crate.name / "src").rglob("*.rt"))]
+    assert len(files) > 200
+    for file in files:
+        text = file.read_text()
+        edits = edits_of(file.name, text)
+        assert put_together(text, edits) == text, file
+        texts = [token.text for token in tokens(applied(text, edits)) if token.kind is Kind.WORD]
+        assert not {"ghost", "requires", "ensures", "tactic"} & set(texts), file
 
 
 def put_together(text: str, edits: list[Edit]) -> str:

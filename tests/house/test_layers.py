@@ -3,7 +3,6 @@ only `proofs/FromBelow.antt` of a crate cites another crate's proofs, and only f
 """
 
 import re
-import unittest
 
 from rattle.crates import crates_of
 from tests.house import layers
@@ -21,33 +20,35 @@ def strays(crate: str, place: str, text: str) -> list[str]:
     return [citation[0] for citation in found if not (is_taken and citation[2] == "ForCallers")]
 
 
-class Layers(unittest.TestCase):
-    def test_the_picture_is_that_of_the_crates(self) -> None:
-        page, uses = layers.PAGE.read_text(), crates_of(ROOT)
-        self.assertEqual(layers.with_picture(page, uses), page, "python3 -m tests.house.layers --write")
-        self.assertNotIn("NOBODY SAYS", page)
-        for other in (page.replace(" 12  rs_source", " 11  rs_source"), page.replace("rs_http rs_script", "rs_http")):
-            self.assertEqual(layers.with_picture(other, uses), page)
-        self.assertIn("NOBODY SAYS", layers.with_picture(page, {**uses, "rs_new": ["rs_io"]}))
+def test_the_picture_is_that_of_the_crates() -> None:
+    page, uses = layers.PAGE.read_text(), crates_of(ROOT)
+    assert layers.with_picture(page, uses) == page, "python3 -m tests.house.layers --write"
+    assert "NOBODY SAYS" not in page
+    for other in (page.replace(" 12  rs_source", " 11  rs_source"), page.replace("rs_http rs_script", "rs_http")):
+        assert layers.with_picture(other, uses) == page
+    assert "NOBODY SAYS" in layers.with_picture(page, {**uses, "rs_new": ["rs_io"]})
 
-    def test_what_stands_below_another_one_is_left_out(self) -> None:
-        uses = {"rs_a": ["std"], "rs_b": ["rs_a"], "rs_c": ["rs_a", "rs_b"]}
-        self.assertEqual(layers.layers(uses), {"rs_a": (1, []), "rs_b": (2, ["rs_a"]), "rs_c": (3, ["rs_b"])})
 
-    def test_proofs_are_cited_by_their_interface(self) -> None:
-        crates = ROOT / "crates"
-        files = [file for kind in ("*.rt", "*.antt") for file in sorted(crates.rglob(kind)) if "out" not in file.parts]
-        found = {}
-        for file in files:
-            crate, _, place = file.relative_to(crates).as_posix().partition("/")
-            found[f"{crate}/{place}"] = strays(crate, place, file.read_text())
-        self.assertEqual({place: names for place, names in found.items() if names}, {})
+def test_what_stands_below_another_one_is_left_out() -> None:
+    uses = {"rs_a": ["std"], "rs_b": ["rs_a"], "rs_c": ["rs_a", "rs_b"]}
+    assert layers.layers(uses) == {"rs_a": (1, []), "rs_b": (2, ["rs_a"]), "rs_c": (3, ["rs_b"])}
 
-    def test_a_stray_citation_is_found(self) -> None:
-        lemma, offered = "use Rattle.rs_a.proofs.Images.{settled}", "pub use Rattle.rs_a.proofs.ForCallers.{settled}"
-        self.assertEqual(strays("rs_b", "proofs/Pages.antt", lemma), ["Rattle.rs_a.proofs.Images"])
-        self.assertEqual(strays("rs_b", "proofs/FromBelow.antt", lemma), ["Rattle.rs_a.proofs.Images"])
-        self.assertEqual(strays("rs_b", "proofs/Pages.antt", offered), ["Rattle.rs_a.proofs.ForCallers"])
-        self.assertEqual(strays("rs_b", "proofs/FromBelow.antt", offered), [])
-        self.assertEqual(strays("rs_a", "proofs/Pages.antt", lemma), [])
-        self.assertEqual(strays("rs_a", "specs/Pages.antt", lemma), ["Rattle.rs_a.proofs.Images"])
+
+def test_proofs_are_cited_by_their_interface() -> None:
+    crates = ROOT / "crates"
+    files = [file for kind in ("*.rt", "*.antt") for file in sorted(crates.rglob(kind)) if "out" not in file.parts]
+    found = {}
+    for file in files:
+        crate, _, place = file.relative_to(crates).as_posix().partition("/")
+        found[f"{crate}/{place}"] = strays(crate, place, file.read_text())
+    assert {place: names for place, names in found.items() if names} == {}
+
+
+def test_a_stray_citation_is_found() -> None:
+    lemma, offered = "use Rattle.rs_a.proofs.Images.{settled}", "pub use Rattle.rs_a.proofs.ForCallers.{settled}"
+    assert strays("rs_b", "proofs/Pages.antt", lemma) == ["Rattle.rs_a.proofs.Images"]
+    assert strays("rs_b", "proofs/FromBelow.antt", lemma) == ["Rattle.rs_a.proofs.Images"]
+    assert strays("rs_b", "proofs/Pages.antt", offered) == ["Rattle.rs_a.proofs.ForCallers"]
+    assert strays("rs_b", "proofs/FromBelow.antt", offered) == []
+    assert strays("rs_a", "proofs/Pages.antt", lemma) == []
+    assert strays("rs_a", "specs/Pages.antt", lemma) == ["Rattle.rs_a.proofs.Images"]

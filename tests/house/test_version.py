@@ -1,7 +1,6 @@
 """Test that VERSION has one number, and that all other places have the same."""
 
 import re
-import unittest
 
 from tests.program import ROOT
 
@@ -11,10 +10,9 @@ PLACES = {"CHANGELOG.md": r"(?m)^## \[(\d.*?)\]",
           "debian/changelog": r"\Aropepeach \((\S+)\)"}
 
 
-class Version(unittest.TestCase):
-    def test_each_place_has_the_number(self) -> None:
-        number = (ROOT / "VERSION").read_text()
-        self.assertRegex(number, r"\A\d+\.\d+\.\d+\n\Z")
-        for name, place in PLACES.items():
-            found = re.search(place, (ROOT / name).read_text())
-            self.assertEqual(found and found[1], number.strip(), name)
+def test_each_place_has_the_number() -> None:
+    number = (ROOT / "VERSION").read_text()
+    assert re.search(r"\A\d+\.\d+\.\d+\n\Z", number)
+    for name, place in PLACES.items():
+        found = re.search(place, (ROOT / name).read_text())
+        assert (found and found[1]) == number.strip(), name

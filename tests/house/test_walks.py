@@ -2,7 +2,6 @@
 
 import functools
 import re
-import unittest
 from pathlib import Path
 
 from rattle import code
@@ -32,15 +31,16 @@ def missing(text: str) -> list[str]:
             if name not in functions_of(ROOT / "crates" / crate)]
 
 
-class Walks(unittest.TestCase):
-    def test_each_function_stands_in_its_crate(self) -> None:
-        self.assertEqual(missing(PAGE.read_text()), [])
+def test_each_function_stands_in_its_crate() -> None:
+    assert missing(PAGE.read_text()) == []
 
-    def test_each_line_of_a_walk_is_read(self) -> None:
-        text = PAGE.read_text().partition("\n## Three walks\n")[2].partition("\n## ")[0]
-        self.assertEqual(len(steps(PAGE.read_text())), text.count("\n rs_"))
-        self.assertEqual(text.count("```"), 6)
 
-    def test_a_function_that_moved_is_noticed(self) -> None:
-        wrong = PAGE.read_text().replace("put_from, accept_put", "put_from, moment_of_put", 1)
-        self.assertEqual(missing(wrong), ["rs_store: moment_of_put"])
+def test_each_line_of_a_walk_is_read() -> None:
+    text = PAGE.read_text().partition("\n## Three walks\n")[2].partition("\n## ")[0]
+    assert len(steps(PAGE.read_text())) == text.count("\n rs_")
+    assert text.count("```") == 6
+
+
+def test_a_function_that_moved_is_noticed() -> None:
+    wrong = PAGE.read_text().replace("put_from, accept_put", "put_from, moment_of_put", 1)
+    assert missing(wrong) == ["rs_store: moment_of_put"]

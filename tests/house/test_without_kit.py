@@ -4,7 +4,6 @@ import os
 import re
 import shutil
 import subprocess
-import unittest
 from pathlib import Path
 
 ROOT = Path(__file__).resolve().parents[2]
@@ -33,34 +32,35 @@ def is_one_line(output: str) -> bool:
     return len(lines) == 1 and "no Rattle kit here" in lines[0]
 
 
-class WithoutKit(unittest.TestCase):
-    def test_each_target_says_so_in_one_line(self) -> None:
-        path = path_without_kit()
-        self.assertIsNone(shutil.which(KIT, path=path))
-        due = [target for target in targets() if target not in WITHOUT]
-        self.assertGreater(len(due), LEAST)
-        for target in due:
-            with self.subTest(target):
-                environment = {**os.environ, "PATH": path, "SETUP": "no"}
-                run = subprocess.run(["make", "--no-print-directory", target], cwd=ROOT, env=environment, text=True,
-                                     stdout=subprocess.PIPE, stderr=subprocess.STDOUT, timeout=SECONDS)
-                self.assertNotEqual(run.returncode, 0)
-                self.assertTrue(is_one_line(run.stdout), run.stdout[-1000:])
+def test_each_target_says_so_in_one_line() -> None:
+    path = path_without_kit()
+    assert shutil.which(KIT, path=path) is None
+    due = [target for target in targets() if target not in WITHOUT]
+    assert len(due) > LEAST
+    for target in due:
+        environment = {**os.environ, "PATH": path, "SETUP": "no"}
+        run = subprocess.run(["make", "--no-print-directory", target], cwd=ROOT, env=environment, text=True,
+                             stdout=subprocess.PIPE, stderr=subprocess.STDOUT, timeout=SECONDS)
+        assert run.returncode != 0
+        assert is_one_line(run.stdout), run.stdout[-1000:]
 
-    def test_each_target_is_told(self) -> None:
-        told = subprocess.run(["make", "help"], cwd=ROOT, capture_output=True, text=True, check=True).stdout
-        self.assertEqual(sorted(re.findall(r"(?m)^make (\S+)", told)), sorted(targets()))
 
-    def test_no_target_is_a_file(self) -> None:
-        """The targets in the help are .PHONY: make's own list of its rules has them all."""
-        rules = subprocess.run(["make", "-pRrnq", "help"], cwd=ROOT, capture_output=True, text=True).stdout
-        phony = re.findall(r"(?m)^\.PHONY:(.*)$", rules)
-        self.assertEqual(sorted(" ".join(phony).split()), sorted(targets()))
+def test_each_target_is_told() -> None:
+    told = subprocess.run(["make", "help"], cwd=ROOT, capture_output=True, text=True, check=True).stdout
+    assert sorted(re.findall(r"(?m)^make (\S+)", told)) == sorted(targets())
 
-    def test_wrong_outputs_are_noticed(self) -> None:
-        line = "there is no Rattle kit here (the command `rt`): a release has the built program (README.md)\n"
-        end = "make: *** [Makefile:67: build] Error 1\n"
-        self.assertTrue(is_one_line(line + end))
-        for output in ("", end, line + line, f"Building the program\n{line}", "FileNotFoundError: 'rt'\n",
-                       f"Traceback (most recent call last):\n{line}"):
-            self.assertFalse(is_one_line(output))
+
+def test_no_target_is_a_file() -> None:
+    """The targets in the help are .PHONY: make's own list of its rules has them all."""
+    rules = subprocess.run(["make", "-pRrnq", "help"], cwd=ROOT, capture_output=True, text=True).stdout
+    phony = re.findall(r"(?m)^\.PHONY:(.*)$", rules)
+    assert sorted(" ".join(phony).split()) == sorted(targets())
+
+
+def test_wrong_outputs_are_noticed() -> None:
+    line = "there is no Rattle kit here (the command `rt`): a release has the built program (README.md)\n"
+    end = "make: *** [Makefile:67: build] Error 1\n"
+    assert is_one_line(line + end)
+    for output in ("", end, line + line, f"Building the program\n{line}", "FileNotFoundError: 'rt'\n",
+                   f"Traceback (most recent call last):\n{line}"):
+        assert not is_one_line(output)

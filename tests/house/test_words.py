@@ -1,8 +1,8 @@
 """Test the checks of pages: a correct page passes, and every kind of wrong statement on it is found."""
 
-import tempfile
-import unittest
 from pathlib import Path
+
+import pytest
 
 from tests.house import words
 from tests.house.repository import Repository
@@ -40,44 +40,47 @@ def test_the_pages_have_no_fault() -> None:
     assert words.faults(ROOT) == []
 
 
-class Pages(unittest.TestCase):
-    def setUp(self) -> None:
-        folder = tempfile.TemporaryDirectory()
-        self.addCleanup(folder.cleanup)
-        self.root = Path(folder.name)
-        for name, text in FILES.items():
-            (self.root / name).parent.mkdir(parents=True, exist_ok=True)
-            (self.root / name).write_text(text)
-        self.repo = Repository(self.root)
+@pytest.fixture
+def repo(tmp_path: Path) -> Repository:
+    """Return a repository of FILES."""
+    for name, text in FILES.items():
+        (tmp_path / name).parent.mkdir(parents=True, exist_ok=True)
+        (tmp_path / name).write_text(text)
+    return Repository(tmp_path)
 
-    def faults(self, old: str = "", new: str = "") -> list[str]:
-        """Return the faults found on the page after a text is replaced."""
-        self.assertIn(old, PAGE)
-        page = self.root / "crates/rs_a/README.md"
-        return [what for look in words.LOOKS for _, what in look(self.repo, page, PAGE.replace(old, new, 1))]
 
-    def test_a_page_as_it_should_be_passes(self) -> None:
-        self.assertEqual(self.faults(), [])
+def faults(repo: Repository, old: str = "", new: str = "") -> list[str]:
+    """Return the faults found on the page after a text is replaced."""
+    assert old in PAGE
+    page = repo.root / "crates/rs_a/README.md"
+    return [what for look in words.LOOKS for _, what in look(repo, page, PAGE.replace(old, new, 1))]
 
-    def test_what_is_wrong_is_told(self) -> None:
-        changed = ["n ≤ at }", "n < at }"], [
-            "(length", "(size"], ["n: u32", "n: u64"], ["    ensures", "ensures none { result ≡ 0 }\nensures"]
-        gone = ["docs/PLAN.md,", "docs/PLANS.md,"], [
-            "../../docs", "../docs"], ["Runs.antt", "Sets.antt"], ["NAME/specs", "NAME/spec"]
-        unknown = ["rs_a::find", "lost_word"], [
-            "rs_a::find", "rs_a::finds"], ["2 words", "`IsFreed at 2`"], ["of rs_b", "of it"]
-        commands = ["make test", "make tests"], [
-            "make test", "make tests.crush"], ["--short", "--shorter"], ["tests.crash", "tests.crush"]
-        others = ["renew --short", "renew --shorter"], ["rust.build", "rust.built"], [
-            "build --short", "build --shorter"], ["debian/control", "debian/rules"], ["debian/control", "rust/control"]
-        for old, new in [*changed, *gone, *unknown, *commands, *others]:
-            self.assertTrue(self.faults(old, new), f"{old} -> {new}")
 
-    def test_a_strange_word_is_told_with_a_plain_one(self) -> None:
-        for old, new in (["2 words", "2 Words such\na one"], ["2 words", "what Comes to"]):
-            self.assertEqual(len(self.faults(old, new)), 1, new)
-        self.assertEqual(self.faults("2 words", "becomes tonight"), [])
+def test_a_page_as_it_should_be_passes(repo: Repository) -> None:
+    assert faults(repo) == []
 
-    def test_the_words_of_the_world_are_sorted(self) -> None:
-        listed = (ROOT / "tests" / "house" / "words.txt").read_text().split("\n")
-        self.assertEqual(listed, [*sorted(set(filter(None, listed))), ""])
+
+def test_what_is_wrong_is_told(repo: Repository) -> None:
+    changed = ["n ≤ at }", "n < at }"], [
+        "(length", "(size"], ["n: u32", "n: u64"], ["    ensures", "ensures none { result ≡ 0 }\nensures"]
+    gone = ["docs/PLAN.md,", "docs/PLANS.md,"], [
+        "../../docs", "../docs"], ["Runs.antt", "Sets.antt"], ["NAME/specs", "NAME/spec"]
+    unknown = ["rs_a::find", "lost_word"], [
+        "rs_a::find", "rs_a::finds"], ["2 words", "`IsFreed at 2`"], ["of rs_b", "of it"]
+    commands = ["make test", "make tests"], [
+        "make test", "make tests.crush"], ["--short", "--shorter"], ["tests.crash", "tests.crush"]
+    others = ["renew --short", "renew --shorter"], ["rust.build", "rust.built"], [
+        "build --short", "build --shorter"], ["debian/control", "debian/rules"], ["debian/control", "rust/control"]
+    for old, new in [*changed, *gone, *unknown, *commands, *others]:
+        assert faults(repo, old, new), f"{old} -> {new}"
+
+
+def test_a_strange_word_is_told_with_a_plain_one(repo: Repository) -> None:
+    for old, new in (["2 words", "2 Words such\na one"], ["2 words", "what Comes to"]):
+        assert len(faults(repo, old, new)) == 1, new
+    assert faults(repo, "2 words", "becomes tonight") == []
+
+
+def test_the_words_of_the_world_are_sorted() -> None:
+    listed = (ROOT / "tests" / "house" / "words.txt").read_text().split("\n")
+    assert listed == [*sorted(set(filter(None, listed))), ""]
