@@ -5,12 +5,14 @@ makes a source on a new file and times both in turn, with names and bodies made 
 the folder for the file: /dev/shm shows the time without the disk's syncs.
 """
 import os
+import shutil
 import statistics
 import subprocess
 import tempfile
 from pathlib import Path
 
-from bench import small
+from rattle.crates import below, crates_of
+from tests.program import ROOT
 
 PROGRAM = """//! Times single puts, and groups of as many, on a source on a new file.
 #![tactic(auto)]
@@ -95,12 +97,16 @@ fn main(rt: HostRuntime) -> anyhow::Result<()> {
 
 def build(root: Path) -> Path:
     """Prove and build the program, and return its path. Without a file as its argument, it does nothing."""
-    lines = small.standing_on(root, "rs_store", "rs_file")
+    uses, needed = crates_of(ROOT), ("rs_store", "rs_file")
+    names = [name for name in uses if name in {*needed, *(lower for name in needed for lower in below(uses, name))}]
+    for name in names:
+        shutil.copytree(ROOT / "crates" / name, root / "crates" / name,
+                        ignore=shutil.ignore_patterns("out", "must-fail"))
     crate = root / "crates" / "grouping"
     (crate / "src").mkdir(parents=True)
     (crate / "src" / "main.rt").write_text(PROGRAM)
-    below = [line.split(":")[0] for line in lines]
-    (root / "crates.txt").write_text("\n".join([*lines, f"grouping: {' '.join(below)} anyhow"]) + "\n")
+    lines = [f"{name}: {' '.join(uses[name])}\n" for name in names]
+    (root / "crates.txt").write_text("".join([*lines, f"grouping: {' '.join(names)} anyhow\n"]))
     done = subprocess.run(["rt", "run"], cwd=crate, capture_output=True, text=True, input="")
     program = crate / "out" / "grouping"
     if not program.exists():
