@@ -5,6 +5,7 @@ import contextlib
 import dataclasses
 import functools
 import hashlib
+import http.client
 import socket
 import ssl
 import struct
@@ -271,7 +272,8 @@ class Server(RawServer):
             fields |= {"ETag": tag} if self.has_tags else {}
             fields |= {"Last-Modified": MODIFIED} if self.has_dates else {}
         lines = [f"{name}: {value}\r\n" for name, value in (fields | dict(response.fields)).items()]
-        head = f"HTTP/1.1 {request.status} Scripted\r\n{''.join(lines)}\r\n".encode("latin-1")
+        reason = http.client.responses.get(request.status, "Scripted")
+        head = f"HTTP/1.1 {request.status} {reason}\r\n{''.join(lines)}\r\n".encode("latin-1")
         return Answer([head + body[:response.cut]], "keep" if response.cut is None else "close")
 
     def is_current(self, request: Request, response: Response, tag: str) -> bool:

@@ -8,7 +8,7 @@ import pytest
 
 from operations.tests.tools import nginx_site
 from operations.tests.tools.hostile_source import Liar
-from operations.tests.tools.static_source import Static, static
+from operations.tests.tools.static_source import Static
 
 
 @pytest.fixture
@@ -21,7 +21,7 @@ def liar() -> Iterator[Liar]:
 @pytest.fixture
 def site() -> Iterator[Static]:
     """Serve the files and lists of other software."""
-    with static() as running:
+    with Static() as running:
         yield running
 
 

@@ -4,22 +4,17 @@ nginx does.
 The styles are written from memory; none of the programs was run. They differ in the paths of lists, and in the moments,
 digests and lengths of entries.
 """
-import contextlib
+from __future__ import annotations
+
 import dataclasses
-import email.utils
 import gzip
 import hashlib
-import http.server
-import io
-import threading
-import time
-import zipfile
-from collections.abc import Iterator
-from xml.sax.saxutils import escape
+from collections.abc import Sequence
 
-SPACES = ('xmlns="http://www.sitemaps.org/schemas/sitemap/0.9" '
-          'xmlns:rs="http://www.openarchives.org/rs/terms/"')
-FIRST, SECOND, THIRD = "2013-01-03T09:00:00Z", "2013-01-03T10:00:00Z", "2013-01-03T11:00:00Z"
+from operations.tests.harness import documents
+from operations.tests.harness.server import Response, Server
+from operations.tests.harness.source import FIRST
+
 
 
 @dataclasses.dataclass
@@ -51,40 +46,33 @@ STYLES = {
 
 def md(**attributes: str) -> str:
     """Return an `rs:md` of the attributes that have a value."""
-    return "<rs:md" + "".join(f' {name}="{escape(text)}"' for name, text in attributes.items() if text) + "/>"
+    return documents.md(attributes)
 
 
-def urlset(head: str, entries: list[str], root: str = "urlset") -> bytes:
+def urlset(head: str, entries: Sequence[str]) -> bytes:
     """Return a document."""
-    front = f'<?xml version="1.0" encoding="UTF-8"?>\n<{root} {SPACES}>\n'
-    return f'{front}{head}\n{"".join(entries)}</{root}>\n'.encode()
+    return documents.document(entries, links=head)
 
 
-def url(loc: str, lastmod: str = "", inner: str = "", tag: str = "url") -> str:
+def url(loc: str, lastmod: str = "", inner: str = "") -> str:
     """Return an entry."""
-    modified = f"<lastmod>{lastmod}</lastmod>" if lastmod else ""
-    return f"<{tag}><loc>{escape(loc)}</loc>{modified}{inner}</{tag}>\n"
+    return documents.entry(loc, lastmod).replace("</url>", f"{inner}</url>")
 
 
 def facts(style: Style, body: bytes, **more: str) -> str:
     """Return the attributes of a body in a style."""
-    hashes = " ".join(f"{name}:{hashlib.new(name.replace('-', ''), body).hexdigest()}" for name in style.hashes)
-    return md(**more, hash=hashes, length=str(len(body)) if style.has_length else "", type=style.kind)
+    return md(**more, hash=documents.digests_of(body, style.hashes), length=str(len(body)) if style.has_length else "", type=style.kind)
 
 
 def archive(style: Style, base: str, files: dict[str, bytes], at: str = FIRST, kind: str = "resource",
             changes: dict[str, str] | None = None) -> bytes:
     """Return an archive of a dump: a manifest, and the files. `changes` has the words for changes of the files."""
-    packed, entries = io.BytesIO(), []
-    with zipfile.ZipFile(packed, "w", zipfile.ZIP_DEFLATED) as file:
-        for number, (name, body) in enumerate(files.items()):
-            more = {"change": changes[name], "datetime": at} if changes else {}
-            entries.append(url(f"{base}{style.resources}{name}", at,
-                               facts(style, body, path=f"/resources/{number}", **more)))
-            file.writestr(f"resources/{number}", body)
-        head = md(capability=f"{kind}dump-manifest", **{"at" if kind == "resource" else "from": at})
-        file.writestr("manifest.xml", urlset(head, entries))
-    return packed.getvalue()
+    more = lambda name: {"change": changes[name], "datetime": at} if changes else {}
+    entries = [url(f"{base}{style.resources}{name}", at, facts(style, body, path=f"/resources/{number}", **more(name)))
+               for number, (name, body) in enumerate(files.items())]
+    head = md(capability=f"{kind}dump-manifest", **{"at" if kind == "resource" else "from": at})
+    return documents.archive({f"resources/{number}": body for number, body in enumerate(files.values())},
+                             urlset(head, entries))
 
 
 def dump(style: Style, base: str, archives: dict[str, bytes], at: str = FIRST, kind: str = "resource",
@@ -122,19 +110,15 @@ def lists_of(style: Style, base: str, files: dict[str, bytes], at: str = FIRST,
     return texts | {style.resources + name: body for name, body in files.items()}
 
 
-class Static(http.server.ThreadingHTTPServer):
-    """Serve files by path, with `ETag` and `Last-Modified`, and with gzip of documents for clients that accept it."""
-
-    daemon_threads = True
+class Static(Server):
+    """Serve files by path, documents with gzip. `fields` has more header fields by path; a path with the field
+    `Location` has the status `redirect`.
+    """
 
     def __init__(self) -> None:
-        super().__init__(("127.0.0.1", 0), Handler)
-        self.base = f"http://127.0.0.1:{self.server_address[1]}"
+        super().__init__()
         self.files: dict[str, bytes] = {}
         self.fields: dict[str, list[tuple[str, str]]] = {}
-        self.requests: list[tuple[str, int]] = []
-        self.has_tags = self.has_dates = True
-        # Statuses of responses with a field `Location`.
         self.redirect = 302
 
     def hold(self, style: Style, files: dict[str, bytes], at: str = FIRST,
@@ -145,58 +129,16 @@ class Static(http.server.ThreadingHTTPServer):
     def statuses(self, front: str = "/") -> dict[str, int]:
         """Return the last status of every path requested since the last call."""
         requests, self.requests = self.requests, []
-        return {path: status for path, status in requests if path.startswith(front)}
+        return {request.path: request.status for request in requests if request.path.startswith(front)}
 
-    def handle_error(self, request: object, client_address: object) -> None:
-        """Ignore a client that disconnects early."""
-
-
-class Handler(http.server.BaseHTTPRequestHandler):
-    """Answer GET."""
-
-    server: Static
-    protocol_version = "HTTP/1.1"
-    # (send the header and the body together, else the body waits for an acknowledgement)
-    wbufsize = 65_536
-
-    def do_GET(self) -> None:
-        """Answer with a file, or with 304."""
-        body = self.server.files.get(self.path)
-        tag = '"' + hashlib.md5(body or b"").hexdigest() + '"'
-        is_same = self.server.has_tags and self.headers.get("If-None-Match") == tag
-        status = 404 if body is None else 304 if is_same else 200
-        fields = self.server.fields.get(self.path, [])
-        if any(name == "Location" for name, _ in fields):
-            body, status = None, self.server.redirect
-        self.server.requests.append((self.path, status))
-        self.send_response(status)
-        for name, text in fields:
-            self.send_header(name, text)
-        if body is not None and self.server.has_tags:
-            self.send_header("ETag", tag)
-        if body is not None and self.server.has_dates:
-            self.send_header("Last-Modified", email.utils.formatdate(time.time(), usegmt=True))
-        sent = b"" if body is None or status == 304 else body
-        if "gzip" in self.headers.get("Accept-Encoding", "") and sent.startswith(b"<?xml"):
-            sent = gzip.compress(sent)
-            self.send_header("Content-Encoding", "gzip")
-        self.send_header("Content-Length", str(len(sent)))
-        self.end_headers()
-        with contextlib.suppress(OSError):
-            self.wfile.write(sent)
-
-    def log_message(self, *_: object) -> None:
-        """Log nothing."""
-
-
-@contextlib.contextmanager
-def static() -> Iterator[Static]:
-    """Serve; stop with the block."""
-    with Static() as server:
-        thread = threading.Thread(target=server.serve_forever, args=(0.05,), daemon=True)
-        thread.start()
-        try:
-            yield server
-        finally:
-            server.shutdown()
-            thread.join(10)
+    def response_to(self, path: str) -> Response:
+        """Return the response for a path."""
+        fields = dict(self.fields.get(path, []))
+        if "Location" in fields:
+            return Response(b"", self.redirect, fields)
+        body = self.files.get(path)
+        if body is None:
+            return super().response_to(path)
+        if body.startswith(b"<?xml"):
+            return Response(gzip.compress(body, mtime=0), fields=fields | {"Content-Encoding": "gzip"})
+        return Response(body, fields=fields)

@@ -10,9 +10,9 @@ from typing import IO, cast
 
 import pytest
 
+from operations.tests.harness.source import FIRST, SECOND
 from operations.tests.tools.any_mirrored import BARE, FILES, WHOLE, holds, listed, mirrored
-from operations.tests.tools.static_source import (
-    FIRST, SECOND, STYLES, Static, archive, dump, facts, md, url, urlset)
+from operations.tests.tools.static_source import STYLES, Static, archive, dump, facts, md, url, urlset
 from ropepeach.changes import changes
 from ropepeach.faults import Unusable
 from ropepeach.resync import dumps

@@ -9,9 +9,10 @@ import pathlib
 
 import pytest
 
+from operations.tests.harness.source import FIRST, SECOND, THIRD
 from operations.tests.tools.any_mirrored import FILES, WHOLE, holds, listed, mirrored, place
 from operations.tests.tools.running import ropepeach, written
-from operations.tests.tools.static_source import FIRST, SECOND, STYLES, THIRD, Static, md, static, url, urlset
+from operations.tests.tools.static_source import STYLES, Static, md, url, urlset
 from ropepeach.changes import changes
 from ropepeach.faults import Misused
 from ropepeach.resync.lists import Dropped
@@ -63,7 +64,7 @@ def test_two_sets_of_a_description_are_one_folder_and_followed_by_their_own_chan
 
 def test_resources_of_another_host_are_passed_over_without_host(site: Static) -> None:
     """--host allows the host; an entry that is skipped again is no deletion."""
-    with static() as other:
+    with Static() as other:
         site.hold(WHOLE, FILES)
         other.hold(WHOLE, {"x": b"x"})
         theirs = b"<url>" + other.files["/rs/resourcelist.xml"].partition(b"<url>")[2]
@@ -83,7 +84,7 @@ def test_resources_of_another_host_are_passed_over_without_host(site: Static) ->
 
 def test_lists_of_another_host_are_refused_without_host(site: Static) -> None:
     """A Source Description or a link to lists of another host is refused."""
-    with static() as other:
+    with Static() as other:
         site.hold(WHOLE, FILES)
         mirrored(site)
         other.hold(WHOLE, {"x": b"x"})
@@ -141,7 +142,7 @@ def test_options_of_other_runs_continue_a_mirror(site: Static, words: list[str])
 def test_a_mirror_of_another_source_is_refused(site: Static) -> None:
     site.hold(WHOLE, FILES)
     mirrored(site)
-    with static() as other:
+    with Static() as other:
         other.hold(WHOLE, FILES)
         mirrored(other, status=3, says="is a mirror of")
 

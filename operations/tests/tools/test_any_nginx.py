@@ -11,12 +11,13 @@ import time
 
 import pytest
 
+from operations.tests.harness.documents import NAMESPACES
+from operations.tests.harness.source import FIRST, SECOND, THIRD
 from operations.tests.tools import running
 from operations.tests.tools.any_mirrored import entries
 from operations.tests.tools.nginx_site import Site, files_of, mirrored
 from operations.tests.tools.running import begun, ropepeach, wait_until
-from operations.tests.tools.static_source import (
-    FIRST, SECOND, SPACES, STYLES, THIRD, Style, facts, lists_of, md, url, urlset)
+from operations.tests.tools.static_source import STYLES, Style, facts, lists_of, md, url, urlset
 
 pytestmark = pytest.mark.needs("nginx")
 
@@ -71,7 +72,7 @@ def large(base: str, bodies: dict[str, bytes], style: Style) -> dict[str, bytes]
                    for name in names[first:first + 20_000]]
         texts[f"/part{number}.xml"] = urlset(head, listed)
         parts.append(f"<sitemap><loc>{base}/part{number}.xml</loc></sitemap>")
-    index = f'<?xml version="1.0"?><sitemapindex {SPACES}>{head}{"".join(parts)}</sitemapindex>'
+    index = f'<?xml version="1.0"?><sitemapindex {NAMESPACES}>{head}{"".join(parts)}</sitemapindex>'
     return texts | {f"{style.lists}resourcelist.xml": index.encode()}
 
 

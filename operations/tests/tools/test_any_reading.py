@@ -8,8 +8,8 @@ from collections.abc import Callable, Mapping
 
 import pytest
 
+from operations.tests.harness.documents import NAMESPACES
 from operations.tests.tools.any_values import moment, refused
-from operations.tests.tools.static_source import SPACES
 from ropepeach.resync.addresses import Hosts
 from ropepeach.resync.discovery import Discovery, Lists
 from ropepeach.resync.facts import Algorithm, Check, check_of, digest_of, fit, kind_of, length_of
@@ -20,7 +20,7 @@ from ropepeach.resync.sitemaps import LONGEST_UNPACKED, Document, Take, document
 
 SITE = "http://example.com"
 RESOURCE_LIST = f"""<?xml version="1.0" encoding="UTF-8"?>
-<urlset {SPACES}>
+<urlset {NAMESPACES}>
   <rs:ln rel="up" href="http://example.com/dataset1/capabilitylist.xml"/>
   <rs:md capability="resourcelist" at="2013-01-03T09:00:00Z" completed="2013-01-03T09:01:00Z"/>
   <url>
@@ -37,7 +37,7 @@ RESOURCE_LIST = f"""<?xml version="1.0" encoding="UTF-8"?>
   </url>
 </urlset>"""
 CHANGE_LIST = f"""<?xml version="1.0" encoding="UTF-8"?>
-<urlset {SPACES}>
+<urlset {NAMESPACES}>
   <rs:ln rel="up" href="http://example.com/dataset1/capabilitylist.xml"/>
   <rs:md capability="changelist" from="2013-01-03T00:00:00Z"/>
   <url>
@@ -55,7 +55,7 @@ CHANGE_LIST = f"""<?xml version="1.0" encoding="UTF-8"?>
   </url>
 </urlset>"""
 CAPABILITY_LIST = f"""<?xml version="1.0" encoding="UTF-8"?>
-<urlset {SPACES}>
+<urlset {NAMESPACES}>
   <rs:ln rel="describedby" href="http://example.com/info_about_set1_of_resources.xml"/>
   <rs:ln rel="up" href="http://example.com/resourcesync_description.xml"/>
   <rs:md capability="capabilitylist"/>
@@ -64,13 +64,13 @@ CAPABILITY_LIST = f"""<?xml version="1.0" encoding="UTF-8"?>
   <url><loc>http://example.com/dataset1/changelist.xml</loc><rs:md capability="changelist"/></url>
 </urlset>"""
 DESCRIPTION = f"""<?xml version="1.0" encoding="UTF-8"?>
-<urlset {SPACES}>
+<urlset {NAMESPACES}>
   <rs:md capability="description"/>
   <rs:ln rel="describedby" href="http://example.com/info_about_source.xml"/>
   <url><loc>http://example.com/dataset1/capabilitylist.xml</loc><rs:md capability="capabilitylist"/></url>
 </urlset>"""
 RESOURCE_INDEX = f"""<?xml version="1.0" encoding="UTF-8"?>
-<sitemapindex {SPACES}>
+<sitemapindex {NAMESPACES}>
   <rs:ln rel="up" href="http://example.com/dataset1/capabilitylist.xml"/>
   <rs:md capability="resourcelist" at="2013-01-03T09:00:00Z"/>
   <sitemap><loc>http://example.com/resourcelist1.xml</loc><rs:md at="2013-01-03T09:00:00Z"/></sitemap>
@@ -153,7 +153,7 @@ def test_the_change_list_of_the_standard_is_read_from_a_moment_on(text: str, sin
 @pytest.mark.parametrize(("text", "since", "says"), [
     (CHANGE_LIST, "2013-01-02T23:59:59Z", "begins at 2013-01-03T00:00:00Z"),
     (NO_FROM, "2013-01-03T10:59:59Z", "begins at 2013-01-03T11:00:00Z"),
-    (f'<urlset {SPACES}><rs:md capability="changelist"/></urlset>', "2013-01-03", "neither `from` nor a change")],
+    (f'<urlset {NAMESPACES}><rs:md capability="changelist"/></urlset>', "2013-01-03", "neither `from` nor a change")],
     ids=["from", "first change", "nothing"])
 def test_a_change_list_that_begins_after_a_moment_lacks_changes(text: str, since: str, says: str) -> None:
     with refused(says, Dropped):
@@ -180,7 +180,7 @@ def change(name: str, word: str, when: str, body: bytes = b"") -> str:
 
 def list_of(start: str, *changes: str) -> str:
     """Return a Change List."""
-    return f'<urlset {SPACES}><rs:md capability="changelist" from="{start}"/>{"".join(changes)}</urlset>'
+    return f'<urlset {NAMESPACES}><rs:md capability="changelist" from="{start}"/>{"".join(changes)}</urlset>'
 
 
 def entry_of(start: str, *changes: str) -> Entry:
@@ -255,7 +255,7 @@ def test_a_list_without_a_capability_list_that_names_it_is_mirrored_alone() -> N
     dump = RESOURCE_LIST.replace("resourcelist", "resourcedump").replace('"up"', '"x"')
     assert found_from("x", {"x": dump}) == [Lists(f"{SITE}/x.xml", dump=f"{SITE}/x.xml")]
     assert found_from("x", {"x": RESOURCE_LIST} | SET) == [Lists(f"{SITE}/x.xml")]
-    plain = f"<urlset {SPACES}><url><loc>{SITE}/a</loc></url></urlset>"
+    plain = f"<urlset {NAMESPACES}><url><loc>{SITE}/a</loc></url></urlset>"
     assert found_from("x", {"x": plain}) == [Lists(f"{SITE}/x.xml")]
 
 

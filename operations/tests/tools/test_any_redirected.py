@@ -3,9 +3,10 @@ import pathlib
 
 import pytest
 
+from operations.tests.harness.source import FIRST
 from operations.tests.tools.any_mirrored import FILES, WHOLE, holds, mirrored, place
 from operations.tests.tools.any_values import at
-from operations.tests.tools.static_source import FIRST, Static, static
+from operations.tests.tools.static_source import Static
 from ropepeach.http.client import Fields, Response
 from ropepeach.http.transfers import Transfers
 from ropepeach.resync.addresses import Hosts
@@ -46,7 +47,7 @@ def test_redirects_within_a_host_are_followed(site: Static, status: int) -> None
     pytest.param("/\x1b[2J", "not to this place", id="terminal")])
 def test_other_redirects_are_refused_and_the_rest_is_fetched(site: Static, to: str, says: str) -> None:
     """The mirror sends no request to the other host."""
-    with static() as other:
+    with Static() as other:
         name = other.base.removeprefix("http://")
         site.hold(WHOLE, FILES)
         site.fields["/data/a.txt"] = [("Location", to.replace("{other}", name))]
@@ -56,7 +57,7 @@ def test_other_redirects_are_refused_and_the_rest_is_fetched(site: Static, to: s
 
 
 def test_host_allows_a_redirect_to_another_host(site: Static) -> None:
-    with static() as other:
+    with Static() as other:
         other.files["/a"] = b"one"
         site.hold(WHOLE, FILES)
         site.fields["/data/a.txt"] = [("Location", f"{other.base}/a")]
@@ -74,7 +75,7 @@ def test_five_steps_are_followed(site: Static, steps: int, status: int) -> None:
 
 
 def test_a_description_that_redirects_to_another_host_is_refused(site: Static) -> None:
-    with static() as other:
+    with Static() as other:
         site.hold(WHOLE, FILES)
         site.fields["/.well-known/resourcesync"] = [("Location", f"{other.base}/x")]
         mirrored(site, status=1, says=f"--host {other.base.removeprefix('http://')} allows it")

@@ -7,9 +7,10 @@ import signal
 
 import pytest
 
+from operations.tests.harness.source import FIRST, SECOND, THIRD
 from operations.tests.tools.any_mirrored import BARE, FILES, WHOLE, entries, holds, listed, mirrored, place
 from operations.tests.tools.running import begun, ended, wait_until
-from operations.tests.tools.static_source import FIRST, SECOND, STYLES, THIRD, Static, md, url
+from operations.tests.tools.static_source import STYLES, Static, md, url
 
 pytestmark = pytest.mark.usefixtures("room")
 
@@ -184,8 +185,7 @@ def test_a_run_that_is_killed_ten_times_leaves_whole_files_and_is_resumed(site: 
     kills = 0
     for _ in range(10):
         run = begun("mirror", site.base, "m")
-        wait_until(lambda: run.poll() is not None or sum(1 for request in site.requests
-                                                         if request[0].startswith("/f/")) > count // 12, "requests")
+        wait_until(lambda: run.poll() is not None or len(site.paths("/f/")) > count // 12, "requests")
         run.send_signal(signal.SIGKILL)
         kills += ended(run)[0] == -signal.SIGKILL
         found = {str(path.relative_to("m")): path.read_bytes() for path in pathlib.Path("m").rglob("*")

@@ -11,8 +11,8 @@ import subprocess
 
 import pytest
 
+from operations.tests.harness.documents import NAMESPACES
 from operations.tests.tools.nginx_site import Site, files_of, mirrored
-from operations.tests.tools.static_source import SPACES
 
 PYTHON = "/usr/bin/python3"
 PACKAGE = "/usr/lib/python3/dist-packages/sphinx_sitemap"
@@ -49,7 +49,7 @@ def named(nginx: Site, has_line: bool) -> None:
     text = sitemap.read_text()
     assert text.count(PLAIN) == 1
     if has_line:
-        sitemap.write_text(text.replace(PLAIN, f"<urlset {SPACES}>{CAPABILITY}"))
+        sitemap.write_text(text.replace(PLAIN, f"<urlset {NAMESPACES}>{CAPABILITY}"))
     (nginx.room / "site/robots.txt").write_text(f"User-agent: *\nSitemap: {nginx.base}/sitemap.xml\n")
 
 

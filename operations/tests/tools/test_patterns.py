@@ -17,7 +17,7 @@ from operations.tests.tools.line_runs import collection_of_two
 from operations.tests.tools.pattern_trees import made, rules_for
 from operations.tests.tools.command_runs import run_command, status_of
 from operations.tests.tools.running import SECONDS, Server, files_of, within, written
-from operations.tests.tools.static_source import STYLES, static
+from operations.tests.tools.static_source import STYLES, Static
 from ropepeach.cli.statuses import Status
 from ropepeach.resync.filters import Filters, Rule
 
@@ -171,7 +171,7 @@ def places_of(files: dict[str, bytes]) -> set[str]:
 
 def test_a_mirror_of_any_source_has_the_included_files(room: Path) -> None:
     """Patterns are compared with the paths of files in the mirror."""
-    with static() as server:
+    with Static() as server:
         server.hold(STYLES["resync"], {"a": b"1", "b.tmp": b"2", "c/d.tmp": b"3"})
         server_of = Address(server.base)
         first = mirrored(server_of, 0, "fetched 1 ", "--exclude", "*.tmp")
