@@ -108,8 +108,8 @@ def test_a_copy_of_a_function(folder: Path) -> None:
         {"sample::next_tried_7"}, text.replace(function, f"{function}\n\n{copy}"))
     left_out = ("other", goals.NO_GOAL)
     added = "".join(f"\npub {goal} : goal.{goal}\n{goal} = {goals.NO_ANSWER}\n" for goal in left_out)
-    assert texts["proofs/next_tried_7/Answers.antt"] == answers.replace("proofs.next.",
-                                                                        "proofs.next_tried_7.") + added
+    copied = answers.replace("proofs.next.", "proofs.next_tried_7.")
+    assert texts["proofs/next_tried_7/Answers.antt"] == copied + added
 
 
 def test_what_is_left_out_of_a_trial(folder: Path) -> None:
@@ -140,5 +140,5 @@ def test_the_goals_that_a_function_has_as_it_is(folder: Path) -> None:
     sizes = ["returns-clause-size", "size", "size-clauses"]
     for head, wanted in ((f"--@ interface {exports}\n--@ body\n", sizes), (f"interface {exports}\n", []), ("", [])):
         write(f"--@ checked\n{head}", folder, "checked/Rattle-low-proofs.m.open.Proof.oantt")
-        assert (goals.of_function(folder, "low::m::open"), goals.of_function(folder,
-                                                                                  "low::m::opened")) == (wanted, [])
+        assert goals.of_function(folder, "low::m::open") == wanted
+        assert goals.of_function(folder, "low::m::opened") == []

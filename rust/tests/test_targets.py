@@ -83,9 +83,9 @@ def test_a_library_is_kept_by_the_compilers_version_and_whole(tmp_path: Path) ->
         assert list((tmp_path / "kept").iterdir()) == []
         with mock.patch.object(targets, "fetched", fetch):
             for _ in range(2):
-                assert targets.library(MACHINES["arm64"],
-                                       tmp_path / "kept") == tmp_path / "kept/arm64-1.2.3/usr"
-                assert (tmp_path / "kept/arm64-1.2.3/usr").is_dir()
+                kept = tmp_path / "kept/arm64-1.2.3/usr"
+                assert targets.library(MACHINES["arm64"], tmp_path / "kept") == kept
+                assert kept.is_dir()
     with mock.patch.object(targets, "output_of", lambda *words: "rustc 1.2.4 (abc)\n"), mock.patch.object(targets,
         "fetched", fetch):
         targets.library(MACHINES["arm64"], tmp_path / "kept")

@@ -44,5 +44,4 @@ def test_an_import_within_a_function_counts() -> None:
 
 
 def test_what_is_no_cycle_is_none() -> None:
-    assert found(a="from p import b, c", b="from p import c", c="import sys",
-                      __init__="from p import a") == set()
+    assert found(a="from p import b, c", b="from p import c", c="import sys", __init__="from p import a") == set()

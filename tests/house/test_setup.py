@@ -38,8 +38,8 @@ def test_each_part_that_is_left_out_is_named() -> None:
         assert installed == wanted
         assert output.startswith("== this machine lacks of Debian: none, file (packages.txt)\n")
         left_out = [("none", "no-such-command", "the tour"), ("file", "/no/such/file", "pages")]
-        assert output.endswith("".join(f"{line_of(name, f'there is no {what} here: {part}')}\n" for name, what,
-                                       part in left_out))
+        lines = [line_of(name, f"there is no {what} here: {part}") for name, what, part in left_out]
+        assert output.endswith("".join(f"{line}\n" for line in lines))
 
 
 def test_nothing_is_said_where_nothing_is_missing() -> None:
