@@ -1,6 +1,8 @@
 """Errors that end a command early: lines for the user, and the exit status."""
 from __future__ import annotations
 
+import os
+
 from ropepeach.cli.statuses import Status
 
 
@@ -48,5 +50,7 @@ class Long(Fault):
 
 def lines_of(why: BaseException) -> list[str]:
     """Return the lines that explain the end of a run."""
+    if isinstance(why, OSError) and why.filename is not None and why.strerror:
+        return [printable(f"{os.fsdecode(why.filename)}: {why.strerror}")]
     return why.lines() if isinstance(why, Fault) else [printable(why)]
 

@@ -64,7 +64,7 @@ TABLE = (
              ("--dry-run /srv/papers http://127.0.0.1:8080", "--max-delete 100 /srv/papers http://127.0.0.1:8080"), {
         Status.DONE: "the source holds the files of the folder",
         Status.ENDED_EARLY: ENDED_EARLY,
-        Status.UNUSABLE: "all was done, but some files were left out",
+        Status.UNUSABLE: "a file or folder cannot be read; or all was done, but some files were left out",
         Status.INTERRUPTED: GOES_ON,
     }),
     declared("mirror", "mirror a source into a folder", "mirror.command",
@@ -94,8 +94,8 @@ TABLE = (
     declared("size", "estimate the disk size for a folder", "disk.size",
              ("/srv/papers", "--base https://papers.example.org --links /srv/papers"), {
         Status.DONE: "the size is printed",
-        Status.ENDED_EARLY: "the folder is too large for one source, or cannot be listed",
-        Status.UNUSABLE: "the size is printed, but some files cannot be resources",
+        Status.ENDED_EARLY: "the folder is too large for one source",
+        Status.UNUSABLE: "a file or folder cannot be read; or the size is printed, but some files were left out",
     }),
     declared("why", "diagnose `Device` errors of a file and a port", "admin.why",
              ("/var/lib/ropepeach/source.disk", "/var/lib/ropepeach/source.disk 8080"), {

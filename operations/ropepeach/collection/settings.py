@@ -25,7 +25,7 @@ from urllib.parse import urlsplit
 from ropepeach.admin.site_text import LOOPBACK, SOURCE_NAME, WHOLE_ADDRESS, WHOLE_PATH, Permission, network
 from ropepeach.cli.numbers import MOST_PORT
 from ropepeach.collection.placement import Homes
-from ropepeach.faults import Misused
+from ropepeach.faults import Misused, Unusable
 
 KEYS = {"address", "name", "near", "certificate", "key", "depositors", "may", "source"}
 NEEDED = {"address", "source"}
@@ -160,6 +160,6 @@ def settings_in(path: str) -> dict[str, Any]:
         with open(path, "rb") as file:
             return tomllib.load(file)
     except OSError as fault:
-        raise Misused(f"{path}: cannot be read: {fault.strerror}") from None
+        raise Unusable(f"{path}: cannot be read: {fault.strerror}") from None
     except (tomllib.TOMLDecodeError, UnicodeDecodeError) as fault:
         raise Misused(f"{path}: is no TOML: {fault}") from None

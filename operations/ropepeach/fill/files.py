@@ -12,7 +12,7 @@ from collections.abc import Callable, Iterable, Iterator
 from typing import NamedTuple
 
 from ropepeach.disk.formula import LONGEST_BODY, LONGEST_NAME
-from ropepeach.faults import Fault, Misused
+from ropepeach.faults import Fault, Misused, Unusable
 from ropepeach.mirror.tree import Linked, Tree
 from ropepeach.resync.filters import Filters
 
@@ -110,7 +110,7 @@ class Files:
         try:
             self.tree = Tree(folder, os.open(folder, os.O_RDONLY | os.O_DIRECTORY))
         except OSError as fault:
-            raise Fault(f"a folder cannot be listed: {shown_path(folder)}: {fault.strerror}") from None
+            raise Unusable(f"a folder cannot be listed: {shown_path(folder)}: {fault.strerror}") from None
 
     def entries(self, front: str = "") -> list[str]:
         """Return the entries of a folder, in no order: the last segments of their names, with a `/` after a folder."""
@@ -275,5 +275,7 @@ def text_lines(path: str) -> list[str]:
     try:
         with open(path, encoding="utf-8") as file:
             return file.read().splitlines()
-    except (OSError, ValueError) as fault:
+    except OSError as fault:
+        raise Unusable(f"{path}: cannot be read: {fault.strerror}") from None
+    except ValueError as fault:
         raise Misused(f"{path}: cannot be read: {fault}") from None

@@ -5,7 +5,7 @@ import dataclasses
 import re
 from urllib.parse import urlsplit
 
-from ropepeach.faults import Misused
+from ropepeach.faults import Misused, Unusable
 from ropepeach.http.proxies import proxy_to
 
 # Visible ASCII, the characters of an address.
@@ -53,6 +53,8 @@ def usable(certificate: str | None) -> str | None:
 
         try:
             ssl.create_default_context().load_cert_chain(certificate)
+        except FileNotFoundError as fault:
+            raise Unusable(f"{certificate}: cannot be read: {fault.strerror}") from None
         except (OSError, ValueError) as fault:
             raise Misused(f"{certificate}: is no certificate with its key: {fault}") from None
     return certificate

@@ -171,7 +171,7 @@ def test_fill_refuses_before_it_changes_anything(program: str, room: pathlib.Pat
         host.settle(file={"s1": str(pathlib.Path("small").resolve())})
         refused("too small", "small is too small: it has 16,384 bytes")
         host.settle()
-        refused("no types", "s1: none: cannot be read", "--types", "none", status=2)
+        refused("no types", "s1: none: cannot be read", "--types", "none", status=3)
         assert host.run("fill", folder, "collection.tom")[0] == 2
         os.makedirs("folder/a/unlisted")
         library = interposed(room, "unlisted", UNLISTED)["LD_PRELOAD"]

@@ -104,7 +104,7 @@ def test_each_command_with_wrong_settings_ends_before_it_writes_or_asks(room: pa
 
 
 def test_missing_settings_and_settings_without_a_source_are_refused(room: pathlib.Path) -> None:
-    assert ropepeach("collection", "none.toml", "--into", "site")[0] == 2
+    assert ropepeach("collection", "none.toml", "--into", "site")[0] == 3
     pathlib.Path("c.toml").write_text(HEAD + "source = {}\n")
     assert ropepeach("collection", "c.toml", "--into", "site")[0] == 2
     assert not pathlib.Path("site").exists()

@@ -14,7 +14,7 @@ import pytest
 
 from operations.tests.harness.server import RawServer, answer
 from operations.tests.http.certificates import Certificates
-from ropepeach.faults import Fault, Misused, Silent
+from ropepeach.faults import Fault, Misused, Silent, Unusable
 from ropepeach.http.client import Client, error_text
 from ropepeach.http.transfers import Transfer, Transfers
 
@@ -187,11 +187,15 @@ def test_certificate_of_the_client_is_wanted(certificates: Certificates, trustin
         assert server.requests == []
 
 
-@pytest.mark.parametrize("text", ["", "no certificate", None])
-def test_certificate_of_the_client_that_is_none_is_refused(text: str | None, tmp_path: pathlib.Path) -> None:
-    if text is not None:
-        (tmp_path / "file").write_text(text)
+@pytest.mark.parametrize("text", ["", "no certificate"])
+def test_certificate_of_the_client_that_is_none_is_refused(text: str, tmp_path: pathlib.Path) -> None:
+    (tmp_path / "file").write_text(text)
     with pytest.raises(Misused, match="is no certificate with its key"):
+        Client("https://source.example", certificate=str(tmp_path / "file"))
+
+
+def test_missing_certificate_of_the_client_is_unusable(tmp_path: pathlib.Path) -> None:
+    with pytest.raises(Unusable, match="file: cannot be read: No such file"):
         Client("https://source.example", certificate=str(tmp_path / "file"))
 
 

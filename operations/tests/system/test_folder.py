@@ -244,7 +244,7 @@ def test_a_missing_or_empty_folder_deletes_nothing_unless_allowed(program: str, 
         assert publish(room, url)[0] == 0
         shutil.rmtree(Path(room, "folder"))
         status, output, complaint = publish(room, url)
-        assert (status, output, complaint[:41]) == (1, "", "ropepeach fill: a folder cannot be listed")
+        assert (status, output, complaint[:41]) == (3, "", "ropepeach fill: a folder cannot be listed")
         Path(room, "folder/empty").mkdir(parents=True)
         refusal = ("ropepeach fill: 1 of 1 resources would be deleted, more than half: "
                    "is FOLDER the right one? (--yes deletes them)\n")

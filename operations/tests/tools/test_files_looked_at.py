@@ -173,7 +173,8 @@ def test_a_file_system_without_room_for_a_sparse_file_is_a_warning(program: str,
     copy, lacking = sparse_copy(room, source_in(room, program))
     for free, is_trouble in ((lacking - 4_096 - lacking % 4_096, True), (lacking + 8_192, False)):
         finding = health_source.SourceHealth(health_source.Subject("http://127.0.0.1:1", copy))
-        with mock.patch.object(os, "statvfs", lambda _: mock.Mock(f_blocks=1 << 40, f_bfree=1 << 40, f_bavail=free // 4_096, f_frsize=4_096)):
+        system = mock.Mock(f_blocks=1 << 40, f_bfree=1 << 40, f_bavail=free // 4_096, f_frsize=4_096)
+        with mock.patch.object(os, "statvfs", lambda _: system):
             finding.look()
         words = [trouble.words for trouble in health_command.troubles_of_file(finding)]
         assert bool(words) == is_trouble, f"{free} bytes are free: {words}"

@@ -117,6 +117,20 @@ def test_help_needs_no_package_of_debian() -> None:
     assert done.stdout.split("\n")[:-1] == [f"ropepeach {name}" for name in SUBCOMMANDS], done.stderr
 
 
+@pytest.mark.parametrize("line", [
+    "fill none http://127.0.0.1:1", "fill . none.toml", "fill . http://127.0.0.1:1 --types none", "size none",
+    "fill . http://127.0.0.1:1 --certificate none", "size . --types none", "check none", "mirror --list none",
+    "mirror http://127.0.0.1:1 m --certificate none", "look none", "look --log none", "collection none.toml",
+    "collection none.toml --into m", "grow none.toml", "health none.toml", "takeover none 10.0.0.1"])
+def test_a_missing_file_or_folder_has_status_3(line: str, room: Path) -> None:
+    """One line names the file, and says that it is missing."""
+    assert not os.listdir(room)
+    done = here(*line.split())
+    assert (done.returncode, done.stdout) == (3, ""), done
+    assert re.search("none.*(No such file or directory|there is no such file)", done.stderr), done
+    assert done.stderr.count("\n") == 1 and "Errno" not in done.stderr, done
+
+
 @pytest.mark.parametrize("columns, limit", [(NARROW, NARROW), (200, WIDE)])
 @pytest.mark.parametrize("words", [[], *([name] for name in SUBCOMMANDS)], ids=str)
 def test_lines_of_help_fit_the_terminal(words: list[str], columns: int, limit: int) -> None:
@@ -198,7 +212,7 @@ def test_json_prints_one_object(program: str, room: Path) -> None:
 
 @pytest.mark.parametrize("name, status, words", [
     ("look", 3, ["none"]), ("mirror", 2, ["ftp://a", "m"]), ("health", 3, ["ftp://a"]),
-    ("health", 2, ["http://127.0.0.1:1"]), ("size", 1, ["none"]), ("grow", 2, ["none"]),
+    ("health", 2, ["http://127.0.0.1:1"]), ("size", 3, ["none"]), ("grow", 3, ["none"]),
     ("mirror", 1, ["http://127.0.0.1:1", "m", "--patience", "0"])], ids=str)
 def test_json_prints_an_object_of_a_failed_run(name: str, status: int, words: list[str], room: Path) -> None:
     """The object has the exit status, and its error names the cause."""

@@ -144,13 +144,13 @@ def test_more_than_a_source_holds_is_refused(room: Path) -> None:
 
 
 @pytest.mark.parametrize("name", ["none", "file"])
-def test_a_folder_that_cannot_be_listed_has_status_1(name: str, room: Path) -> None:
+def test_a_folder_that_cannot_be_listed_has_status_3(name: str, room: Path) -> None:
     """The folder is missing, or is a file."""
     (room / "file").write_text("")
-    status_of(run_command("size", name), 1, "cannot be listed")
+    status_of(run_command("size", name), 3, "cannot be listed")
 
 
-@pytest.mark.parametrize("words", [[], [".", "--changes", "50001"], [".", "--types", "none"]], ids=str)
+@pytest.mark.parametrize("words", [[], [".", "--changes", "50001"]], ids=str)
 def test_wrong_arguments_have_status_2(words: list[str], room: Path) -> None:
     """The folder is missing, or the value of an option is wrong."""
     assert run_command("size", *words).returncode == 2
