@@ -1,8 +1,8 @@
 """Write the sources as plain Rust: `make rust`.
 
 usage: python3 -m rust [--to FOLDER]
-FOLDER (out/rust) gets the Cargo workspace `ropepeach-plain-VERSION` and its tarball; what had these names there goes.
-Exit status 1 if a source has what the eraser does not know, or something is missing: it says what.
+Write the Cargo workspace `ropepeach-plain-VERSION` and its tarball into FOLDER (default: out/rust), and replace earlier
+ones. The exit status is 1, with a message, if a source has a form that the eraser does not know, or a file is missing.
 """
 import argparse
 import gzip
@@ -21,7 +21,7 @@ NAME = f"ropepeach-plain-{VERSION}"
 
 
 def packed(folder: Path, tarball: Path) -> None:
-    """Pack a folder: the same files make the same bytes."""
+    """Pack a folder into a tarball. The same files give the same bytes."""
     def settled(member: tarfile.TarInfo) -> tarfile.TarInfo:
         member.uid = member.gid = member.mtime = 0
         member.uname = member.gname = ""
@@ -46,12 +46,12 @@ def run(to: Path) -> int | str:
                 put(Path(room) / name, to / name)
     except (Missing, Refused, OSError, UnicodeDecodeError) as why:
         return f"rust: {why}"
-    print(f"rust: {summary}, each put together again to the byte\n{to / NAME}\n{to / NAME}.tar.gz", flush=True)
+    print(f"rust: {summary}; every source can be restored to the byte\n{to / NAME}\n{to / NAME}.tar.gz", flush=True)
     return 0
 
 
 def put(made: Path, target: Path) -> None:
-    """Move a file or a folder to its place. The build of an earlier one stays."""
+    """Move a file or a folder to its place. Keep the build folder of an earlier workspace."""
     if target.is_dir():
         if (target / "target").is_dir():
             (target / "target").rename(made / "target")
@@ -60,7 +60,7 @@ def put(made: Path, target: Path) -> None:
 
 
 def main() -> int | str:
-    """Write everything to the folder of the command line."""
+    """Write the workspace and the tarball to the folder on the command line."""
     words = argparse.ArgumentParser(prog="rust", description=__doc__.partition("\n")[0])
     words.add_argument("--to", type=Path, default=ROOT / "out/rust", metavar="FOLDER")
     return run(words.parse_args().to)

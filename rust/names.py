@@ -1,12 +1,12 @@
-"""The names that the eraser knows: renamed, kept, erased and refused ones."""
+"""The names that the eraser renames, keeps, erases and refuses."""
 
-# What becomes of a name in code. Rust has its own methods of the first three, with other arguments. Outside a derive
-# `Clone` is the kit's own, which answers a result.
+# Names in code, with their names in plain Rust. Rust has methods with the first three names and other arguments.
+# Outside a derive, `Clone` is the trait of the kit, whose method returns a result.
 RENAMED_METHODS = {"expect": "expect_by", "to_string": "to_string_by", "to_vec": "to_vec_by"}
 RENAMED_TRAITS = {"Clone": "TryClone"}
 STD = "rattle_std"
 
-# What the sources may name of the kit's `std`: rattle_std has each.
+# The names of the kit's `std` that the sources may use. rattle_std has all of them.
 STD_NAMES = frozenset("""
     alloc alloc::AllocError alloc::Allocator alloc::Global
     cell::Cell cmp::Ordering convert::AsSlice
@@ -30,7 +30,7 @@ STD_NAMES = frozenset("""
     time::Duration time::SystemTime time::UNIX_EPOCH
 """.split())
 
-# Each module has these names without a `use`.
+# These names need no `use` in a module.
 PRELUDE = ("#[allow(unused_imports)] use rattle_std::{assert, assert_eq, assert_ne, eprintln, format, panic, "
            "prelude::*, println, vec};")
 
@@ -39,17 +39,17 @@ KEPT_ATTRIBUTES = frozenset({"allow", "cfg", "error", "from", "inline", "must_us
 ERASED_DERIVES = frozenset({"Drop"})
 KEPT_DERIVES = frozenset({"Clone", "Copy", "Debug", "Default", "Eq", "Error", "Hash", "Ord", "PartialEq", "PartialOrd"})
 
-# A crate's own `macro_rules!` are known beside these.
+# The known macros, besides the `macro_rules!` of the crate itself.
 MACROS = frozenset("""
     assert assert_eq assert_ne eprintln format macro_rules matches panic println prove prove_eq unreachable vec write
 """.split())
 
-# Words of the language that no source needs here. `unsafe` is erased before a block: rattle_std checks what is called.
+# Keywords that no source of ours needs. `unsafe` is erased before a block, because rattle_std checks the calls.
 REFUSED_WORDS = frozenset("async await dyn extern union yield".split())
-# Methods of Rust's slices, texts and iterators that take memory which cannot be refused.
+# Methods of Rust's slices, texts and iterators that allocate memory and cannot report a failure.
 REFUSED_METHODS = frozenset("""
     concat into_boxed_slice into_string join repeat sort sort_by sort_by_cached_key sort_by_key to_lowercase to_owned
     to_uppercase
 """.split())
-# Traits that no source may implement by hand: `Drop` would run code where the kit runs none.
+# Traits that no source may implement by hand. The kit would not run the code of a `Drop`.
 REFUSED_IMPLS = frozenset({"Drop"})

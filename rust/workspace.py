@@ -8,27 +8,27 @@ from pathlib import Path
 from rust.crates import CHOICES, HERE, PORTS, ROOT, STAND_INS, VENDORED, VERSION, Crate, kit, listed, vendored
 from rust.eraser import macros_of, plain
 
-# The folder of a crate in the workspace: `vendor` has those of others.
+# The folders of the workspace: `vendor` has the crates of other authors.
 OURS, KIT, SHIM, VENDOR = "crates", "kit", "shim", "vendor"
 FEATURE = "upstream-digests"
 PROGRAM = "rs_source"
 RUST_VERSION = "1.89"
-# What rustc tells of our crates and is meant so, and why.
+# Warnings of rustc about our crates that are allowed, with the reason.
 ALLOWED_LINTS = {
-    "dead_code": "read by clauses alone",
-    "unused_imports": "named by clauses alone",
-    "unused_variables": "named by clauses alone",
+    "dead_code": "only clauses use it",
+    "unused_imports": "only clauses use it",
+    "unused_variables": "only clauses use it",
 }
-# What clippy tells and is meant so, and why.
+# Warnings of clippy that are allowed, with the reason.
 ALLOWED_BY_CLIPPY = {
-    "empty_line_after_doc_comments": "an erased line stays, empty",
-    "new_without_default": "the kit has no such trait for them",
-    "len_without_is_empty": "nobody asks",
-    "wrong_self_convention": "the name says what is made",
-    "enum_variant_names": "the names are those of RFC 9112",
-    "too_many_arguments": "each is a part of a contract",
-    "type_complexity": "as above",
-    # The proofs follow the shape of these.
+    "empty_line_after_doc_comments": "an erased line is left empty",
+    "new_without_default": "the kit has no Default for these types",
+    "len_without_is_empty": "no caller needs it",
+    "wrong_self_convention": "the name describes the result",
+    "enum_variant_names": "the names come from RFC 9112",
+    "too_many_arguments": "the contract names each argument",
+    "type_complexity": "the contract has the type",
+    # Proofs depend on the form of this code.
     "let_and_return": "a proof names the value",
     "manual_div_ceil": "a proof has the quotient",
     "manual_range_contains": "a clause has both bounds",
@@ -59,7 +59,7 @@ codegen-units = 1
 opt-level = 1
 """
 SETTINGS = """\
-# All that is needed lies in vendor/: nothing is asked of a network.
+# vendor/ has all dependencies, so a build needs no network.
 [source.crates-io]
 replace-with = "vendor"
 
@@ -72,7 +72,7 @@ offline = true
 
 
 def folder_of(name: str, ours: Iterable[str]) -> str:
-    """Return the folder of a crate of crates.txt, from the top of the workspace."""
+    """Return the folder of a crate of crates.txt, relative to the workspace."""
     if name in ours:
         return f"{OURS}/{name}"
     if name in CHOICES:
@@ -99,7 +99,7 @@ def manifest_of(crate: Crate, ours: Iterable[str]) -> str:
     needs = needs_of(crate, ours)
     lines = ["[package]", *head, ""]
     if crate.name == PROGRAM:
-        # Its `main` is C's, so that its name is kept; no test stands in it.
+        # Its `main` is the C entry point, whose name is kept; the file has no tests.
         lines += ["[[bin]]", f'name = "{PROGRAM}"', 'path = "src/main.rs"', "test = false", ""]
         lines += ["[features]", f'{FEATURE} = ["md5/upstream", "sha2/upstream"]', ""]
         needs += needs_of(Crate("", CHOICES), ours)[1:]
@@ -110,7 +110,7 @@ def manifest_of(crate: Crate, ours: Iterable[str]) -> str:
 
 
 def allowed(lints: dict[str, str]) -> list[str]:
-    """Return the lines of lints that are off."""
+    """Return the lines that allow these lints."""
     return [f'{name} = "allow" # {why}' for name, why in lints.items()]
 
 
@@ -123,12 +123,12 @@ def manifest_of_port(name: str) -> str:
                       f'rattle_std = {{ path = "../../{SHIM}/rattle_std" }}', "",
                       "[lints.rust]", 'unsafe_code = "forbid"', 'unused_braces = "allow"', 'unused_imports = "allow"',
                       'unused_labels = "allow"', 'unused_variables = "allow"', "", "[lints.clippy]",
-                      '# It is written as its proofs need it.', 'all = "allow"', "", "[lints.rustdoc]",
+                      '# The proofs determine the form of this code.', 'all = "allow"', "", "[lints.rustdoc]",
                       'bare_urls = "allow"', ""])
 
 
 def write_erased(source: Path, target: Path, name: str) -> int:
-    """Write the sources of a crate as plain Rust; return the number of lines."""
+    """Write the sources of a crate as plain Rust. Return the number of lines."""
     files = sorted(source.rglob("*.rt"))
     texts = {path: path.read_text(encoding="utf-8") for path in files}
     macros = frozenset[str]().union(*(macros_of(text) for text in texts.values()))
@@ -140,7 +140,7 @@ def write_erased(source: Path, target: Path, name: str) -> int:
 
 
 def write_ours(out: Path, root: Path) -> tuple[list[str], int]:
-    """Write our crates; return their folders, and the number of lines."""
+    """Write our crates. Return their folders and the number of lines."""
     crates = list(listed(root))
     ours = [crate.name for crate in crates]
     lines = 0
@@ -152,7 +152,7 @@ def write_ours(out: Path, root: Path) -> tuple[list[str], int]:
 
 
 def write_ports(out: Path, folder: Path) -> tuple[list[str], int]:
-    """Write the kit's ports with their licences."""
+    """Write the kit's ports with their licences. Return their folders and the number of lines."""
     lines = 0
     for name in PORTS:
         lines += write_erased(folder / name / "src", out / KIT / name / "src", f"kit/{name}")
@@ -163,7 +163,7 @@ def write_ports(out: Path, folder: Path) -> tuple[list[str], int]:
 
 
 def write_shim(out: Path) -> list[str]:
-    """Copy the stand-ins for the rest of the kit."""
+    """Copy the replacements for the rest of the kit. Return their folders."""
     folders = [*STAND_INS, *(f"{name}_choice" for name in CHOICES)]
     for name in folders:
         shutil.copytree(HERE / name, out / SHIM / name, ignore=shutil.ignore_patterns("target", "Cargo.lock"))
@@ -171,7 +171,7 @@ def write_shim(out: Path) -> list[str]:
 
 
 def write_vendored(out: Path) -> None:
-    """Copy the crates of others, with the sums that Cargo checks."""
+    """Copy the crates of other authors, with the checksums that Cargo verifies."""
     for folder in vendored():
         target = out / VENDOR / folder.name
         shutil.copytree(folder, target, symlinks=False,
@@ -183,7 +183,7 @@ def write_vendored(out: Path) -> None:
 
 
 def write(out: Path, root: Path = ROOT) -> str:
-    """Write the whole workspace into a new folder; return its summary."""
+    """Write the whole workspace into a new folder. Return a summary."""
     ports = kit()
     ours, lines = write_ours(out, root)
     kits, lines_of_ports = write_ports(out, ports)

@@ -1,8 +1,8 @@
-"""The picture of the crates in docs/ARCHITECTURE.md: of each its layer, what it is, and the crates that it stands on.
+"""Draw the picture of the crates in docs/ARCHITECTURE.md: each crate's layer, description and dependencies.
 
-Layers and crates are those of crates.txt. What a crate is stands in the page alone, and stays as it is.
+The layers and the dependencies are computed from crates.txt. The descriptions are kept from the page.
 
-usage: python3 -m tests.house.layers --write     draws the picture in the page anew
+usage: python3 -m tests.house.layers --write     rewrites the picture in the page
 """
 
 import re
@@ -14,7 +14,7 @@ from tests.program import ROOT
 
 PAGE = ROOT / "docs" / "ARCHITECTURE.md"
 MADE = Made("crates.txt", "tests.house.layers")
-# A line of the picture: the layer, the crate, and its meaning.
+# A line of the picture: the layer, the crate, and its description.
 LINE = re.compile(r"(?m)^ *\d+  (rs_\w+) +(\S.*?)(?:  +rs_\w+(?: rs_\w+)*)?$")
 # The layer of a crate, and the crates that it uses.
 Layer = tuple[int, list[str]]
@@ -34,7 +34,7 @@ def drawn(uses: dict[str, list[str]], meanings: dict[str, str]) -> str:
     """Return the lines of the picture, the highest layer first, and the crates of tests last."""
     parts: tuple[list[str], list[str]] = [], []
     for name, (layer, own) in sorted(layers(uses).items(), key=lambda each: -each[1][0]):
-        line = f"{layer:3}  {name:<19}{meanings.get(name, 'NOBODY SAYS WHAT IT IS'):<45}{' '.join(own)}"
+        line = f"{layer:3}  {name:<19}{meanings.get(name, 'NO DESCRIPTION'):<45}{' '.join(own)}"
         parts[name.endswith("_tests")].append(line.rstrip())
     return "\n".join(["```", "\n\n".join("\n".join(part) for part in parts if part), "```"])
 

@@ -23,10 +23,10 @@ def strays(crate: str, place: str, text: str) -> list[str]:
 def test_the_picture_is_that_of_the_crates() -> None:
     page, uses = layers.PAGE.read_text(), crates_of(ROOT)
     assert layers.with_picture(page, uses) == page, "python3 -m tests.house.layers --write"
-    assert "NOBODY SAYS" not in page
+    assert "NO DESCRIPTION" not in page
     for other in (page.replace(" 12  rs_source", " 11  rs_source"), page.replace("rs_http rs_script", "rs_http")):
         assert layers.with_picture(other, uses) == page
-    assert "NOBODY SAYS" in layers.with_picture(page, {**uses, "rs_new": ["rs_io"]})
+    assert "NO DESCRIPTION" in layers.with_picture(page, {**uses, "rs_new": ["rs_io"]})
 
 
 def test_what_stands_below_another_one_is_left_out() -> None:

@@ -69,7 +69,7 @@ def host(address: str) -> str:
 
 
 class CephFS:
-    """The CephFS of a file."""
+    """The CephFS that holds a file."""
 
     def __init__(self, path: str, sockets: str) -> None:
         self.path, self.sockets = path, sockets

@@ -145,7 +145,7 @@ def missing(path: str) -> Cause:
 
 
 def is_held_by_mount(path: str, processes: Processes) -> bool:
-    """Return whether the file system of a path is writable, and its mount here, as that of a unit, is not."""
+    """Return whether the file system of a path is writable but mounted read-only here, for example for a unit."""
     real, longest, is_so = os.path.realpath(path), -1, False
     for line in processes.lines("self/mountinfo"):
         words = line.split(" ")

@@ -1,4 +1,4 @@
-"""The command `ropepeach`: runs a subcommand, and turns its end into one line and an exit status."""
+"""The command `ropepeach`: run a subcommand, and report its end by one line and an exit status."""
 from __future__ import annotations
 
 import argparse

@@ -1,4 +1,4 @@
-"""Completion for a shell, by the command's own parsers.
+"""Complete words for a shell, from the command's own parsers.
 
 operations/install/ropepeach.bash and operations/install/_ropepeach call `ropepeach complete -- WORDS`, whose last
 word is the one to complete.

@@ -41,7 +41,7 @@ class Output:
         return MessageLevel.MESSAGE not in self.levels
 
     def note(self, kind: str, value: object) -> None:
-        """Record a result or a message for the object of JSON."""
+        """Record a result or a message for the JSON output."""
         if self.journal:
             import json
 
@@ -100,7 +100,7 @@ def result(text: str, **facts: object) -> None:
 
 
 def results(lines: Iterable[str], facts: Mapping[str, object]) -> None:
-    """Write a result of several lines; in JSON it is the object of the facts."""
+    """Write a result of several lines, or its facts as a JSON object."""
     if current.journal:
         current.note("result", facts)
         return

@@ -87,7 +87,7 @@ def indent_of(line: str) -> int:
 
 
 def wrapped(item: str, width: int) -> str:
-    """Wrap a paragraph, or an item of a list, whose later lines start below its text (after a mark of up to ten)."""
+    """Wrap a paragraph, or a list item with a mark of up to ten characters; indent later lines to the item's text."""
     from textwrap import fill
 
     front = re.match(r" +\S.{0,9}?  +| *", item)

@@ -80,7 +80,7 @@ class GrowPart:
         return len(self.resources), contents.astray()
 
     def compare(self, coming: list[Astray]) -> int:
-        """Refuse resources that are here with other bytes, or do not fit. Return the number of puts."""
+        """Refuse resources that this source has with other bytes or has no room for. Return the number of puts."""
         differing = [astray for astray in coming if self.resources.get(astray.name, astray.facts) != astray.facts]
         if differing:
             raise Fault(differing_line([(astray.name, astray.holder, self.name) for astray in differing]))

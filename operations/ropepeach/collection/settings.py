@@ -118,7 +118,7 @@ class CollectionSettings:
         return rule
 
     def member(self, name: str, table: Any) -> Member:
-        """Return the source of a table."""
+        """Return the source that a table describes."""
         where = f"source.{name}."
         if not SOURCE_NAME.fullmatch(name):
             raise self.wrong(f"source.{name}", "a name is 1 to 32 of a-z, 0-9 and -, and begins with a letter or digit")
@@ -155,7 +155,7 @@ class CollectionSettings:
 
 
 def settings_in(path: str) -> dict[str, Any]:
-    """Return the content of a file in TOML."""
+    """Return the content of a TOML file."""
     try:
         with open(path, "rb") as file:
             return tomllib.load(file)

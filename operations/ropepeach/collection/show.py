@@ -104,7 +104,7 @@ class SourceContents:
 
 
 def astray_lines(collection: CollectionSettings, astray: list[Astray], arguments: argparse.Namespace) -> list[str]:
-    """Return lines about names in a wrong source, and their remedy. Look for the first names in their right sources."""
+    """Return lines about names in a wrong source, with the remedy. Look up the first names in their right sources."""
     lines = [f"{len(astray):,} names are where they do not live; `ropepeach grow {collection.path}` moves them"]
     for name, holder, home, _ in astray[:NAMES_SHOWN]:
         holders = {holder, *(other.holder for other in astray if other.name == name)}

@@ -45,7 +45,7 @@ class Prefixed(io.TextIOBase):
         self.name, self.rest = name, ""
 
     def write(self, text: str) -> int:
-        """Write the complete lines."""
+        """Write the complete lines with the name; keep an incomplete line for later."""
         *lines, self.rest = (self.rest + text).split("\n")
         for line in lines:
             os.write(2, f"{self.name}: {line}\n".encode("utf-8", "backslashreplace"))
@@ -141,7 +141,7 @@ class Workers:
             return fault_with(lines_of(fault), Status.UNUSABLE)
 
     def heard(self, link: Any) -> Any:
-        """Return the next answer of a worker."""
+        """Wait for the next answer of a worker, and return it."""
         try:
             return link.recv()
         except (EOFError, OSError):

@@ -1,8 +1,8 @@
 """Read a source from its file, without writing or locking, even while the program serves it.
 
 The blocks of a root keep their bytes until there is a later root (docs/DISK.md, "How the root is changed"), and the
-directory and all pages have a SHA-256. So a complete reading is one consistent state, and an overwritten page is
-noticed: then the file has a later root, and is read again. A page is read once. Bodies are not read.
+directory and all pages have a SHA-256. So a complete reading gives one consistent state. If a page was overwritten
+meanwhile, the file has a later root and is read again. Each page is read once, and bodies are not read.
 """
 from __future__ import annotations
 

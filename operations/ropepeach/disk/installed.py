@@ -1,4 +1,4 @@
-"""The installed program of Ropepeach: the proved one of its package, the plain one, or another one."""
+"""The installed program of Ropepeach: the package's proved program, the plain program, or another program."""
 from __future__ import annotations
 
 import hashlib

@@ -214,7 +214,7 @@ class Files:
         return FileReading(body, is_same and not is_young, stamp_of(after), moment)
 
     def still(self, name: str) -> FileReading:
-        """Read a file, which must stay unchanged meanwhile, so that all bytes are of one version."""
+        """Read a file until it does not change meanwhile, so that all bytes are of one version."""
         for _ in range(MOST_READINGS):
             reading = self.read(name)
             if reading.is_still:

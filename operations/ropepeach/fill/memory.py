@@ -50,7 +50,7 @@ Digested = tuple[str, str]
 
 
 class Untrusted(Exception):
-    """The reason why the file of a memory cannot be used."""
+    """The reason why a file of remembered digests cannot be used."""
 
 
 class Damaged(Untrusted):
@@ -173,7 +173,7 @@ class Memory:
 
     @contextlib.contextmanager
     def guarded(self) -> Iterator[None]:
-        """Let the rest of the run do without the file if it fails in a `with` block."""
+        """If the database file fails in a `with` block, continue the run without it."""
         try:
             yield
         except (Untrusted, OSError, sqlite3.Error, ValueError, TypeError) as fault:
@@ -205,7 +205,7 @@ class Memory:
                     remove(self.path)
 
     def begin(self) -> None:
-        """Begin with the first row of a file."""
+        """Go to the first row of a file."""
         if self.database and not self.is_checking:
             self.rows = self.database.execute("SELECT name, size, mtime, ctime, inode, sha256 FROM files ORDER BY name")
             self.advance()

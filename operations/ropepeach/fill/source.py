@@ -68,7 +68,7 @@ class KnownSource(Source):
         wanted = take
 
         def keep(document: Document, listed: Listed) -> None:
-            """Note an entry for the next run, and pass it on."""
+            """Record an entry for the next run, and pass it to the caller."""
             rows.append(listed)
             wanted(document, listed)
 

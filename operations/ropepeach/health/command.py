@@ -216,7 +216,7 @@ def measured(finding: SourceHealth, status: Health) -> dict[str, float]:
 
 
 def all_found(arguments: argparse.Namespace) -> list[SourceHealth]:
-    """Examine the source, or all of several."""
+    """Examine the source, or all sources of a collection."""
     if arguments.url.endswith(".toml"):
         from ropepeach.collection.settings import CollectionSettings
 

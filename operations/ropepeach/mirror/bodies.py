@@ -23,7 +23,7 @@ class Fetch(Transfer):
     """The transfer of a body to a file in `#incoming`, with its length and digests.
 
     `known` is the row of a file that may still be current: the request is conditional then. Redirects are followed only
-    if there is a policy of them.
+    if there is a policy for them.
     """
 
     path, file = "", -1
@@ -113,6 +113,6 @@ def conditions_of(known: Row | None) -> dict[str, str]:
 
 
 def field_of(response: Response, name: str, form: re.Pattern[str]) -> str:
-    """Return a field of a response, if it has the form that it should have."""
+    """Return a field of a response, or an empty text if it has another form."""
     text = response.fields.get(name)
     return text if form.fullmatch(text) else ""

@@ -156,7 +156,7 @@ class Known:
         return filter(None, map(row_of, self.base.execute(f"{SELECT} ORDER BY place")))
 
     def put(self, row: Row) -> None:
-        """Note a row."""
+        """Record a row."""
         self.waiting[row.place] = row
         if len(self.waiting) >= ROW_BATCH:
             self.flush()

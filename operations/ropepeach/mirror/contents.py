@@ -32,7 +32,7 @@ class Contents:
         return name + ASIDE if self.tree.is_folder(name) else name
 
     def is_held(self, name: str) -> bool:
-        """Return whether there is something in the place of a name."""
+        """Return whether a file or a folder is in the place of a name."""
         return self.is_open and self.tree.is_there(self.place(name))
 
     def length(self, name: str) -> int:

@@ -57,7 +57,7 @@ class Engine:
         self.way, self.is_blank = "", False
 
     def go(self, is_baseline: bool) -> Aim:
-        """Do the run, and repeat it if changes that it needs were dropped. Return the aim of the last one."""
+        """Do the run, and repeat it if changes that it needs were dropped. Return the aim of the last run."""
         for _ in range(RUNS):
             try:
                 return self.once(is_baseline)
@@ -118,7 +118,7 @@ class Engine:
             self.folder.promise(state)
 
     def check_required(self, aim: Aim, wanted: Wanted) -> None:
-        """End a run whose lists have less than is required."""
+        """Raise a Fault if the lists do not have the required checks."""
         if self.required == EXACT:
             rule = self.failed_rule(aim, wanted)
             if rule is not None:

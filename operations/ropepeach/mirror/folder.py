@@ -165,7 +165,7 @@ class Folder(Contents):
         self.tree.back_to(0)
 
     def close(self) -> None:
-        """Release the folder, without the files that have no place yet."""
+        """Remove the files that have no place yet, and release the folder."""
         if self.is_open:
             with contextlib.suppress(OSError, Unusable):
                 if self.written or self.syncing or self.incoming is not None:
@@ -182,7 +182,7 @@ class Folder(Contents):
         return found
 
     def check_room(self, wanted: Callable[[], Iterable[tuple[str, int]]]) -> None:
-        """Refuse files, by their names and lengths, for which the file system has no room, as far as it says."""
+        """Refuse files of these names and lengths if the file system reports too little room for them."""
         # (a dry run may find no folder)
         parents = pathlib.Path(self.path).absolute().parents
         room = os.fstatvfs(self.lock) if self.is_open else os.statvfs(next(filter(pathlib.Path.exists, parents)))
@@ -277,7 +277,7 @@ class Folder(Contents):
         return is_there
 
     def drop_empty(self, path: str) -> None:
-        """Remove a folder if it is empty; the file that got a `#` for it loses it."""
+        """Remove a folder if it is empty. The file that got a `#` because of the folder gets its name back."""
         with contextlib.suppress(OSError):
             self.tree.remove_folder(path)
         if self.tree.is_file(path + ASIDE) and not self.tree.is_there(path):
@@ -328,7 +328,7 @@ class Folder(Contents):
         self.write_state(state)
 
     def remember(self, state: State) -> None:
-        """Write a state once all files, which are in their places, are synced."""
+        """Sync all files, which are in their places, and then write a state."""
         self.drop_incoming()
         sync_all(self.lock)
         self.write_state(state)

@@ -82,7 +82,7 @@ class Sources:
         self.trial: Trial | None = None
 
     def strict(self, is_tried: bool = False) -> Engine:
-        """Return the run of a Ropepeach. Raise Several if the address is that of several."""
+        """Return the run of a Ropepeach. Raise Several if the address is that of several sources."""
         client = client_of(self.arguments, self.base, self.limits)
         self.claim(client.address, False)
         source = Source(client, is_at_base=True, latest=latest_now(), is_tried=is_tried)
@@ -126,7 +126,7 @@ class Sources:
                       arguments.require)
 
     def claim(self, source: str, is_any: bool) -> None:
-        """Claim the folder for a source. Raise a Fault if a run would begin with a baseline that is not allowed."""
+        """Check that the folder may mirror a source. Raise a Fault if a run would begin with a forbidden baseline."""
         self.folder.claim(source, is_any)
         if self.arguments.incremental and (self.arguments.baseline or self.folder.until is None):
             raise Fault("there is no earlier run to go on from")

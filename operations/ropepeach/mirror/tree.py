@@ -101,7 +101,7 @@ class Tree:
         return found is not None and stat.S_ISDIR(found.st_mode)
 
     def is_file(self, path: str) -> bool:
-        """Return whether a path is a regular file, and no link to one."""
+        """Return whether a path is a regular file and not a symbolic link."""
         found = self.status(path)
         return found is not None and stat.S_ISREG(found.st_mode)
 

@@ -81,7 +81,7 @@ class Reading(Reader):
                      str(address), attributes.get("encoding", "")[:100])
 
     def change(self, document: Document, listed: Listed) -> Entry | None:
-        """Return an entry of a Change List. Refuse one without a moment or a known word."""
+        """Return an entry of a Change List. Refuse an entry without a moment or a known kind of change."""
         address = self.address_of(listed)
         if address is None:
             return None
