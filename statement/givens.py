@@ -1,13 +1,13 @@
 """The lines of promises.txt that name the giver of a premise.
 
 A line is `premise: NAME from: CLAUSE, ..`, `premise: NAME law: CLAUSE, ..`, `premise: NAME trust: sentence` or
-`premise: NAME case: sentence`. NAME is a relation, a field of one (`AnswersCopy.holds`), or a condition as it is
-written, with `*` for any text; several stand with `;` between them. Who trusts a record names its fields,
-`IsStop {from to left}`, so that one more is noticed. A case is no assumption: the arguments and the answer tell whether
-it is there, and the clause speaks of it alone.
+`premise: NAME case: sentence`. NAME is a relation, a field of a relation (`AnswersCopy.holds`), or a condition as
+it is written, with `*` for any text; `;` separates several names. A trusted record lists its fields, as in
+`IsStop {from to left}`, so that a further field is noticed. A case is no assumption: the arguments and the answer
+decide whether the case applies, and the clause covers this case only.
 
-A law concludes a relation from what that is made of. So its parts need what gives them too, and one part more is
-noticed twice: here, and by the proof of the law.
+A law concludes a relation from its parts, so the parts need givers too. A further part is noticed here and by the
+proof of the law.
 """
 
 import re

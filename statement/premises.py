@@ -1,12 +1,12 @@
 """The premises of promises and their givers: a clause of the promise concludes a premise, or it is trusted.
 
-A premise stands left of an arrow in a clause of the promise, or in what it ends in (`Reader.left_of`). It is taken
-apart until a line of promises.txt speaks of it: a relation into the relations of its cases, a record into its fields.
-What is left is a condition, as an equation is.
+A premise is a term to the left of an arrow in a clause of the promise, or in a definition in which the clause ends
+(`Reader.left_of`). A premise is taken apart until a line of promises.txt names it: a relation into the relations of its
+cases, a record into its fields. The rest are conditions, for example equations.
 
-What a function requires needs no line, since the prover checks it at each call. A relation that is assumed has to be
-there (`uninhabited`), as a promise that takes what nothing has would say nothing. An example has it, or a clause
-concludes it from relations that are there. So no clause shows what it takes itself.
+The preconditions of a function need no line, since the prover checks them at each call. An assumed relation must not be
+empty (`uninhabited`), because a promise with an empty premise would say nothing. So a computed example has the
+relation, or a clause concludes it from relations that have examples. No clause counts for its own premises.
 """
 
 from dataclasses import dataclass, replace

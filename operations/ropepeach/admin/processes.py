@@ -46,7 +46,7 @@ class Processes:
             return []
 
     def has_open(self, number: int, is_it: Callable[[pathlib.Path], bool]) -> bool:
-        """Return whether `is_it` holds for an open file of a process."""
+        """Return whether a process has an open file for which `is_it` is true."""
         for path in self.open_files(number):
             # (files are closed meanwhile)
             with contextlib.suppress(OSError):

@@ -96,8 +96,8 @@ class GrowPart:
         return len(self.coming)
 
     def take(self, _: object) -> int:
-        """Read resources from the sources that hold them, and put them here. Return how many, after all puts are
-        acknowledged. A resource that somebody else put here meanwhile is newer, and stays.
+        """Read resources from the sources that hold them, and put them here. Return the number of puts, after all
+        are acknowledged. A resource that another client put here meanwhile is newer, and stays.
         """
         holders: dict[str, Source] = {}
         for start in range(0, len(self.coming), MOST_GROUPED):

@@ -90,7 +90,7 @@ class CollectionSettings:
                 raise self.wrong(f"{where}{key}", "this key is missing")
 
     def text(self, where: str, value: Any, form: re.Pattern[str], why: str) -> str:
-        """Return a value that is a text of a form."""
+        """Return a value, which must be a text of a form."""
         if not isinstance(value, str) or not form.fullmatch(value):
             raise self.wrong(where, f"{value!r}: {why}")
         return value

@@ -39,7 +39,7 @@ def fault_with(lines: Iterable[str], status: int) -> Fault:
 
 
 class Prefixed(io.TextIOBase):
-    """Standard error of a worker: complete lines, after the name of the task and a colon; no terminal, so no bar."""
+    """Standard error of a worker: the name of the task and a colon begin every line. It shows no progress bar."""
 
     def __init__(self, name: object) -> None:
         self.name, self.rest = name, ""
@@ -140,7 +140,7 @@ class Workers:
         except OSError as fault:
             return fault_with(lines_of(fault), Status.UNUSABLE)
 
-    def heard(self, link: Any) -> Any:
+    def wait_for_answer(self, link: Any) -> Any:
         """Wait for the next answer of a worker, and return it."""
         try:
             return link.recv()
@@ -172,7 +172,7 @@ class Workers:
         while busy:
             for link in multiprocessing.connection.wait(list(busy)):
                 name = busy.pop(link)
-                answers[name] = self.heard(link)
+                answers[name] = self.wait_for_answer(link)
             give()
         return {name: answers.get(name, ENDED) for name in due}
 

@@ -180,7 +180,7 @@ class FieldReader:
         return form.unpack(self.taken(form.size))
 
     def ended(self) -> None:
-        """Check that all bytes were taken."""
+        """Check that all bytes were read."""
         hold(self.at == len(self.data), "nothing follows the last item of {}, and here bytes do", self.what)
 
 

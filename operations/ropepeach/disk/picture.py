@@ -54,7 +54,7 @@ def cells_of(extents: Sequence[Extent], total: int, each: int) -> list[list[int]
 
 
 def row(cells: Sequence[list[int]], columns: int, each: int, y: int) -> Iterator[str]:
-    """Yield the boxes of a row of cells, equal neighbours as one. In a cell the kinds are stacked by their shares."""
+    """Yield the boxes of a row of cells. Equal neighbours share a box. A cell stacks the kinds by their shares."""
     width, x = WIDTH / columns, float(LEFT)
     for counts, alike in itertools.groupby(cells):
         run = len(list(alike)) * width

@@ -87,7 +87,7 @@ def filled(arguments: argparse.Namespace, plan: FillPlan, source: KnownSource, m
     if arguments.dry_run:
         for line in [*(f"delete {name}" for name in plan.gone), *(f"put {name}" for name in plan.changed)]:
             output.result(line)
-        plan.tell(sending, f"{len(plan.changed):,} to put, {len(plan.gone):,} to delete")
+        plan.print_summary(sending, f"{len(plan.changed):,} to put, {len(plan.gone):,} to delete")
     plan.check_room(source.base, arguments.room)
     check_deletions(arguments, len(plan.gone), plan.resource_count, plan.files)
     if not arguments.dry_run:
@@ -95,7 +95,7 @@ def filled(arguments: argparse.Namespace, plan: FillPlan, source: KnownSource, m
             plan.send(sending)
             end = published(arguments, sending, is_published)
         except Fault:
-            plan.tell(sending, "ended early")
+            plan.print_summary(sending, "ended early")
             raise
-        plan.tell(sending, end)
+        plan.print_summary(sending, end)
     return Status.UNUSABLE if plan.missed else Status.DONE

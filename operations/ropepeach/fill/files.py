@@ -213,7 +213,7 @@ class Files:
         is_same = stamp_of(before) == stamp_of(after) and len(body) == after.st_size
         return FileReading(body, is_same and not is_young, stamp_of(after), moment)
 
-    def still(self, name: str) -> FileReading:
+    def read_unchanged(self, name: str) -> FileReading:
         """Read a file until it does not change meanwhile, so that all bytes are of one version."""
         for _ in range(MOST_READINGS):
             reading = self.read(name)

@@ -253,7 +253,7 @@ class Memory:
             return list(row[0].decode("ascii").splitlines()) if row else []
         return []
 
-    def settle(self, lines: Sequence[str]) -> None:
+    def remember_unchanged(self, lines: Sequence[str]) -> None:
         """Remember that a run found no changes."""
         if self.database and not self.is_dry:
             value = "\n".join(lines).encode("ascii")

@@ -123,7 +123,7 @@ class FillPlan:
         resources, at, is_published = held_by(source)
         self.compare(resources, memory)
         if is_published and not self.gone and not self.unfit and self.known == self.files:
-            memory.settle([digest, *(" ".join(document) for document in source.read)])
+            memory.remember_unchanged([digest, *(" ".join(document) for document in source.read)])
         return at, is_published
 
     def compare(self, resources: Held, memory: Memory | None = None) -> None:
@@ -221,7 +221,7 @@ class FillPlan:
             sending.flush()
             for name, size in zip(self.changed, self.sizes):
                 try:
-                    reading = self.folder.still(name)
+                    reading = self.folder.read_unchanged(name)
                     sending.add(PutOrDelete(name, reading.body, self.kinds.of(name), reading))
                 except Unfit as why:
                     self.leave_out(name, why)
@@ -234,7 +234,7 @@ class FillPlan:
             digest = hashlib.sha256(change.body).digest()
             self.memory.note(change.name, change.reading.stamp, digest, change.reading.moment)
 
-    def tell(self, sending: Sending, end: str) -> None:
+    def print_summary(self, sending: Sending, end: str) -> None:
         """Print the summary of the run, with its end."""
         output.summary(self.summary(sending, end), **self.figures(sending))
 

@@ -182,7 +182,7 @@ class Known:
         return dict(self.base.execute("SELECT compared, count(*) FROM resources GROUP BY compared"))
 
     def add(self, later: Known) -> None:
-        """Take the rows of `#known-later`."""
+        """Add the rows of `#known-later`."""
         self.flush()
         later.flush()
         self.base.executemany(PUT, later.base.execute(SELECT))

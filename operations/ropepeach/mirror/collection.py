@@ -129,7 +129,7 @@ class PartRun:
             self.engine.transfers.close()
             self.engine.catalogue.close()
             if self.folder.is_open:
-                self.folder.rest()
+                self.folder.release_all_but_lock()
 
     def is_baseline(self) -> bool:
         """Return whether the run begins with a baseline."""

@@ -137,7 +137,7 @@ class Engine:
             return StrictRule.COMPARED if any(row.place not in wanted for row in weak) else None
         return None
 
-    def going(self, wanted: Wanted) -> list[str]:
+    def names_to_delete(self, wanted: Wanted) -> list[str]:
         """Return the names of files to delete."""
         return [name for name, kept in wanted.items() if is_gone(kept) and self.folder.is_held(name)]
 
@@ -145,7 +145,7 @@ class Engine:
         """Refuse to remove more files of earlier runs than was allowed."""
         if not self.folder.file_count:
             return
-        self.lost += len(set(self.going(wanted)) - self.folder.absent)
+        self.lost += len(set(self.names_to_delete(wanted)) - self.folder.absent)
         self.limits.check_removals(self.lost, self.folder.file_count, self.removed)
 
     def bring(self, wanted: Wanted) -> dict[str, Unheld]:
@@ -245,7 +245,7 @@ class Engine:
 
     def note(self, entry: Entry, before: Row | None, length: int, sha256: bytes, kind: str, tag: str = "",
              last: str = "") -> None:
-        """Note the row of a file, by its entry, its bytes and their response. `before` is the earlier row, if known."""
+        """Record the row of a file from its entry, bytes and response. `before` is the earlier row, if known."""
         facts = entry.choices[0]
         row = Row(entry.name, entry.address, entry.moment, kind_of(facts) or kind, entry.encoding, length, sha256, tag,
                   last, check_of(facts).value)
@@ -280,7 +280,7 @@ class Engine:
 
     def save(self, is_end: bool = False) -> None:
         """Put fetched files in their places, report the changes, and write the catalogue, in this order."""
-        self.folder.settle()
+        self.folder.place_all()
         if not self.unsaved and not is_end:
             return
         self.events.report()

@@ -37,7 +37,7 @@ class Events:
     """The changes of a run, for a command or --json."""
 
     def __init__(self, folder: Folder, base: str, command: str | None) -> None:
-        """Take the settings. `base` is that of a Ropepeach, whose rows have no addresses."""
+        """Store the settings. `base` is the base of a Ropepeach, whose rows have no addresses."""
         self.folder, self.base, self.command = folder, base, command
         self.is_wanted = command is not None or output.current.journal is not None
         # Changes that are not reported yet.

@@ -54,7 +54,7 @@ class Folder(Contents):
     """A folder that one program at a time makes the mirror of one source."""
 
     def __init__(self, path: str, within: int | None = None, filters: Filters | None = None) -> None:
-        """Open the folder at a path, without changes. With `within` it is a subfolder of that one, and no link."""
+        """Open the folder at a path, without changes. With `within` it must be a subfolder of that folder, no link."""
         super().__init__()
         self.path, self.within, self.lock = os.path.abspath(path), within, -1
         self.name = self.path if within is None else os.path.basename(self.path)
@@ -156,7 +156,7 @@ class Folder(Contents):
             self.drop_incoming()
         self.is_ready = True
 
-    def rest(self) -> None:
+    def release_all_but_lock(self) -> None:
         """Release all but the lock."""
         if self.worker is not None:
             self.worker.shutdown()
@@ -170,7 +170,7 @@ class Folder(Contents):
             with contextlib.suppress(OSError, Unusable):
                 if self.written or self.syncing or self.incoming is not None:
                     self.drop_incoming()
-            self.rest()
+            self.release_all_but_lock()
             os.close(self.lock)
             self.lock = -1
 
@@ -213,7 +213,7 @@ class Folder(Contents):
         self.written.append((path, name))
         self.size += size
         if len(self.written) >= BATCH or self.size >= BATCH_BYTES:
-            self.turn()
+            self.place_synced()
 
     def enter_incoming(self) -> int:
         """Return the descriptor of `#incoming`, which is made if it is missing."""
@@ -229,7 +229,7 @@ class Folder(Contents):
             os.close(self.incoming)
             self.incoming = None
 
-    def turn(self) -> None:
+    def place_synced(self) -> None:
         """Put the synced files in their places, and begin to sync the files that were written since."""
         if self.synced is not None:
             self.synced.result()
@@ -244,10 +244,10 @@ class Folder(Contents):
         for path, name in synced:
             self.put_in_place(path, name)
 
-    def settle(self) -> None:
+    def place_all(self) -> None:
         """Wait until all written files are in their places."""
         while self.written or self.syncing:
-            self.turn()
+            self.place_synced()
 
     def put_in_place(self, path: str, name: str) -> None:
         """Rename a synced file to the place of its name; rename(2) finds a folder there, or a missing one."""
@@ -296,7 +296,7 @@ class Folder(Contents):
                 self.drop_empty(path)
 
     def drop_incoming(self) -> None:
-        """Remove `#incoming` with its files; a stopped write of the mirror's own leaves a file there."""
+        """Remove `#incoming` with its files, for example the file of an interrupted write of the mirror itself."""
         self.leave_incoming()
         if self.tree.is_folder(INCOMING):
             folder = self.tree.folder(INCOMING)

@@ -19,7 +19,7 @@ class Forecast:
         except Dropped:
             aim = engine.aims.aim(True)
         engine.check_required(aim, aim.wanted)
-        self.engine, self.aim, self.going = engine, aim, engine.going(aim.wanted)
+        self.engine, self.aim, self.going = engine, aim, engine.names_to_delete(aim.wanted)
         self.lacking = {entry.name: length_of(entry.choices[0]) for entry in entries_in(aim.wanted)
                         if engine.fitting(entry) is None}
 

@@ -25,7 +25,7 @@ def describe(engine: Engine, aim: Aim) -> None:
     words = {check.value for check in Check}
     compared = {Check(word): count for word, count in engine.catalogue.known.compared().items() if word in words}
     disorder = StrictRule.ORDERED.value if aim.rule is StrictRule.ORDERED else ""
-    sure = standing(compared, aim.passed, aim.moment, disorder)
+    sure = exactness(compared, aim.passed, aim.moment, disorder)
     is_exact = sure.startswith(EXACT)
     rule = None if is_exact else aim.rule or StrictRule.COMPARED
     output.summary(f"{work_of(engine, aim)}; compared {counted(compared)}; {sure}", **facts,
@@ -47,8 +47,8 @@ def work_of(engine: Engine, aim: Aim) -> str:
             f"removed {engine.removed:,}, read {engine.aims.asked.documents:,} documents, {seconds:.1f} seconds")
 
 
-def standing(compared: Mapping[Check, int], passed: Mapping[str, int], moment: str | None, more: str = "") -> str:
-    """Return whether a folder is exactly as its source's lists say, as of which moment; else why not.
+def exactness(compared: Mapping[Check, int], passed: Mapping[str, int], moment: str | None, more: str = "") -> str:
+    """Return that a folder is exactly as its source's lists say, with their moment, or why it is not.
 
     It is exact if the lists have a moment, every file was compared with a digest, no entry was skipped, and there is no
     other fault.

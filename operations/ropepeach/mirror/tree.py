@@ -62,11 +62,11 @@ class Tree:
             same += 1
         self.back_to(same)
         for name in segments[same:]:
-            self.way.append((name, self.entered(name)))
+            self.way.append((name, self.enter(name)))
         self.last = (path, self.way[-1][1] if self.way else self.top)
         return self.last[1]
 
-    def entered(self, segment: str) -> int:
+    def enter(self, segment: str) -> int:
         """Open the folder of a segment in the last folder of the way."""
         above = self.way[-1][1] if self.way else self.top
         try:

@@ -83,7 +83,7 @@ def bring(folder: mirror_folder.Folder, wanted: Mapping[str, bytes | None]) -> N
                 with open(number, "wb") as file:
                     file.write(body)
                 folder.take(path, name, len(body))
-    folder.settle()
+    folder.place_all()
     assert folder.state
     folder.remember(folder.state._replace(until=MOMENT, newest=MOMENT))
 

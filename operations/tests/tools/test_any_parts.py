@@ -9,7 +9,7 @@ import pytest
 
 from operations.tests.tools.any_values import at, moment, refused
 from operations.tests.tools.generating import st, tried
-from ropepeach.mirror.report import counted, standing
+from ropepeach.mirror.report import counted, exactness
 from ropepeach.resync.addresses import Address, Hosts, address_in
 from ropepeach.resync.facts import (
     Algorithm, Check, any_facts, check_of, digests_in, exact_facts, fit, has_length)
@@ -121,7 +121,7 @@ def test_files_are_counted_by_what_was_compared() -> None:
 def test_a_folder_is_exact_with_digests_of_all_files_and_a_moment_of_the_lists(
         compared: dict[Check, int], passed: dict[str, int], when: str | None, text: str) -> None:
     """A folder is exact if also no entry was skipped."""
-    assert standing(compared, passed, when) == text
+    assert exactness(compared, passed, when) == text
 
 
 @pytest.mark.parametrize("text", [

@@ -225,7 +225,7 @@ def test_a_file_that_is_being_written_is_put_whole(changes: int, wanted: bytes |
     os.utime(path, (now[0], now[0]))
     with mock.patch.object(time, "time", lambda: now[0]), mock.patch.object(time, "sleep", pause):
         try:
-            found: bytes | None = fill_files.Files("folder").still("a").body
+            found: bytes | None = fill_files.Files("folder").read_unchanged("a").body
         except fill_files.Unfit:
             found = None
     assert found == wanted

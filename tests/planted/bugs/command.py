@@ -21,7 +21,7 @@ OF_MIRROR = [
     tool(
         "a moment is remembered before a failed fetch is told", "mirror/engine",
         "        if wrong:\n            self.save()\n",
-        "        self.folder.settle()\n        self.folder.remember(aim.state)\n        if wrong:\n"
+        "        self.folder.place_all()\n        self.folder.remember(aim.state)\n        if wrong:\n"
         "            self.save()\n",
         MIRROR,
     ),

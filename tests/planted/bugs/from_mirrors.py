@@ -46,7 +46,7 @@ POWER_CUTS = [
     ),
     bug(
         "a moment is remembered before files are in their places", "engine",
-        "        self.folder.settle()\n        if not self.unsaved",
+        "        self.folder.place_all()\n        if not self.unsaved",
         "        if not self.unsaved",
     ),
     bug(
