@@ -37,11 +37,6 @@ class Crate:
     name: str
     needs: tuple[str, ...]
 
-    @property
-    def is_of_tests(self) -> bool:
-        """Return whether it has only tests."""
-        return self.name.endswith("_tests")
-
 
 def listed(root: Path = ROOT) -> Iterator[Crate]:
     """Return the crates of the project, the lowest first."""

@@ -1,15 +1,14 @@
 """Commands, requests and certificates that the tests of operations/install/ share."""
 import contextlib
 import http.client
-import http.server
 import pathlib
 import subprocess
-import threading
 import time
-from collections.abc import Iterator, Mapping
+from collections.abc import Mapping
 from types import MappingProxyType
 from typing import Any
 
+from operations.tests.harness.server import RawServer, answer
 from tests.program import Differs
 from tests.system.edge_runs import connected
 
@@ -56,27 +55,6 @@ def certified(room: str | pathlib.Path, name: str) -> str:
     return both
 
 
-@contextlib.contextmanager
-def answering(status: int, body: bytes) -> Iterator[int]:
-    """Run a server with one response for every GET; return its port."""
-    class Answers(http.server.BaseHTTPRequestHandler):
-        def do_GET(self) -> None:
-            self.send_response(status)
-            self.end_headers()
-            self.wfile.write(body)
-
-        def log_message(self, *words: object) -> None:
-            pass
-
-    class Server(http.server.HTTPServer):
-        def handle_error(self, request: object, client_address: object) -> None:
-            """Ignore a client that leaves early."""
-
-    with Server(("127.0.0.1", 0), Answers) as server:
-        thread = threading.Thread(target=server.serve_forever)
-        thread.start()
-        try:
-            yield server.server_port
-        finally:
-            server.shutdown()
-            thread.join()
+def answering(status: int, body: bytes) -> RawServer:
+    """Return a server in `with`, which has one response for every request."""
+    return RawServer(lambda _: answer(body, f"{status} Said", then="close"))

@@ -49,13 +49,13 @@ def test_closed_ends_with_status_75_for_a_closed_source_only(room: pathlib.Path)
     """For other faults `closed` prints a line and exits 0."""
     file = room / "a.disk"
     file.write_bytes(bytes(8192))
-    with answering(503, b"Closed\n") as port:
-        output, status = closed(file, port)
+    with answering(503, b"Closed\n") as server:
+        output, status = closed(file, server.port)
         assert status == 75 and output.startswith("<4>the source answers Closed")
-        output, status = closed(room / "none", port)
+        output, status = closed(room / "none", server.port)
         assert status == 0 and "is not there" in output
     for code, body in ((200, b"<urlset/>"), (503, b"NoMemory\n"), (500, b"Closed\n"), (404, b"")):
-        with answering(code, body) as port:
-            assert closed(file, port) == ("", 0), f"{code} {body!r}"
+        with answering(code, body) as server:
+            assert closed(file, server.port) == ("", 0), f"{code} {body!r}"
     output, status = closed(file, free_port())
     assert status == 0 and output.startswith("<4>the source does not answer")

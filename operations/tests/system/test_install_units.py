@@ -40,8 +40,8 @@ def test_publish_skips_a_publication_without_changes(program: str, room: pathlib
         request(port, "DELETE", "/resource/b")
         output, status = published(port)
         assert (output[:21], status) == ("nothing changed since", 0)
-    with answering(404, b"no\x1b[2J") as port:
-        output, status = published(port)
+    with answering(404, b"no\x1b[2J") as server:
+        output, status = published(server.port)
     assert (status, "404" in output and "\x1b" not in output, output.count("\n")) == (1, True, 1)
 
 
