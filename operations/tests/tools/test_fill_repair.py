@@ -58,7 +58,7 @@ def test_skip_unlawful_counts_links_pipes_and_long_names(program: str, room: pat
         assert (status, messages.count("left out ")) == (3, 3)
         status, printed, messages, _ = filled(server.url, "--skip-unlawful")
         assert (status, messages, "3 left out" in printed) == (0, "", True)
-        growing = mock.patch.object(files.Files, "still", side_effect=files.Unfit("it changes"))
+        growing = mock.patch.object(files.Files, "read_unchanged", side_effect=files.Unfit("it changes"))
         written("folder", {"more": b"x"})
         with growing:
             status, _, messages, _ = filled(server.url, "--skip-unlawful")
