@@ -82,9 +82,10 @@ def fillers(count: int) -> list[bytes]:
     return found
 
 
-def parts(filled: int) -> list[Part]:
-    """Return the parts of a disk: `filled` bodies of zeros in front, the slots, and all others in the last blocks."""
-    end, bodies, records = BLOCKS, [], fillers(filled)
+def parts(filled: int, end: int = BLOCKS) -> list[Part]:
+    """Return the parts of a disk: `filled` bodies of zeros in front, the slots, and all others in the blocks up to `end`.
+    """
+    bodies, records = list[Part](), fillers(filled)
     for at, (name, body) in enumerate(BODIES.items(), filled + 1):
         end -= blocks_of(body)
         bodies.append((end, body))

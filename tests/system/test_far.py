@@ -18,7 +18,9 @@ from tests.disks.far_disk import BLOCKS, BODIES, FILLERS, MOST_FILLERS, Holes
 from tests.program import Differs
 from tests.reading import disk_judge, disk_reader
 from tests.reading.disk_formats import BLOCK
+from tests.served_source import exchanged, served
 from tests.system import call_rules
+from tests.system.calls_of_commands import request
 from tests.system.noted_calls import Room, texts
 
 pytestmark = pytest.mark.needs("cc")
@@ -30,6 +32,8 @@ HALF = 1 << 31
 AT = b"at 951782400000\n"
 PUT, NAME, BODY = b"put new %s text/plain\n", b"new", b"n" * 700
 SHOW = b"show /resource/"
+# Bodies of zeros that end one body below 2 GiB.
+CROSSED = FILLERS - 1
 # Lost bits of read and written offsets (the highest, or the next), and the number of bodies of zeros that reveal it.
 WRONG = [
     ("READ_BITS", 0x7FFF_FFFF, 0),
@@ -194,6 +198,28 @@ def looked_at(room: Room, look: Look, filled: int) -> None:
 def test_offsets_beyond_2_gib_are_used(program: str, room: Path, look: Look, filled: int | None) -> None:
     count = random.randint(FILLERS, MOST_FILLERS) if filled is None else filled
     looked_at(Room(program, room), look, count)
+
+
+@pytest.mark.parametrize("part, filled", [(2, CROSSED - 1), (3, CROSSED - 1), (-2, 0)],
+                         ids=["directory", "page", "body"])
+def test_a_part_that_crosses_2_gib_is_read(program: str, room: Path, part: int, filled: int) -> None:
+    first, data = far_disk.parts(filled)[part]
+    end = BLOCKS + HALF // BLOCK - first - far_disk.blocks_of(data) // 2
+    calls = Room(program, room)
+    far_disk.written(room / DISK, far_disk.parts(filled, end))
+    for look in (look_at_bodies, look_at_copy):
+        look("a part across 2 GiB", calls, filled)
+
+
+def test_a_body_that_crosses_2_gib_is_written(program: str, room: Path) -> None:
+    """A body comes in pieces over HTTP, one of which begins below 2 GiB and ends behind it, and is shown."""
+    far_disk.written(room / DISK, far_disk.parts(CROSSED))
+    body = random.randbytes(far_disk.LARGEST * BLOCK)
+    with served(program, room / DISK, 2) as port:
+        assert exchanged(port, [request("PUT", "/resource/new", body)])[0].startswith(b"HTTP/1.1 201 ")
+        assert exchanged(port, [request("GET", "/resource/new")])[0].endswith(b"\r\n\r\n" + body)
+    assert run(Room(program, room), SHOW + NAME + b"\n") == shown(body)
+    look_at_file("a body across 2 GiB", Room(program, room), {**BODIES, NAME: body})
 
 
 @pytest.mark.parametrize("name, bits, filled", WRONG)
