@@ -15,8 +15,9 @@ BEGUN, GROWTHS, LINES = 12_288, 16, 8_192
 OF_FILE = 1_024
 # The bytes of an item, and of a page without its items: its entry, its place, and its part in three lists.
 ITEM, PAGE = 160, 208
-# The bytes of a page with one short record whose moments are not yet checked.
-OF_A_SHORT_PAGE = 1_100
+# The bytes of a page with one short record whose moments are not yet checked; four times they include its place, which
+# has 80 bytes in the proved program and 72 in the plain one.
+OF_A_SHORT_PAGE, PLACE, PLACES = 1_100, 80, 4
 # Read bytes are allocated once, and the texts in them once more.
 READ = 2
 # The bytes of the shortest item of a page, and of the header before the items.
@@ -69,6 +70,12 @@ def items_of(disk: bytes, entry: Entry) -> int:
     """Return the number of items that a page claims, limited by its bytes."""
     count = int.from_bytes(disk[entry.first * BLOCK + 1 : entry.first * BLOCK + HEAD], "big")
     return max(min(count, (entry.length - HEAD) // SHORTEST), 0)
+
+
+def of_short_pages(pages: int, largest: int) -> int:
+    """Return the limit for as many pages with one short record; the largest allocation is a list of their places."""
+    place = min(largest // (1 << (pages // 2 - 1).bit_length()), PLACE)
+    return BEGUN + pages * (OF_A_SHORT_PAGE - PLACES * (PLACE - place))
 
 
 def allowed(disk: bytes) -> int:

@@ -142,7 +142,7 @@ def test_a_source_of_many_resources_opens_within_bounds(program: str, room: Path
 
 def test_a_disk_of_wrong_moments_is_refused_before_its_blocks_cost_memory(program: str, room: Path) -> None:
     growths, opens = measure(program, room, pages_of_wrong_moments(PAGES))
-    limit = opening_memory.BEGUN + 2 * PAGES * opening_memory.OF_A_SHORT_PAGE
+    limit = opening_memory.of_short_pages(2 * PAGES, growths.largest)
     assert not opens
     assert growths.all <= limit
     assert growths.all + 2 * PAGES * ENTRY // 2 > limit, "one more list of the published pages has to exceed the limit"
