@@ -49,6 +49,11 @@ class Settings:
             raise Unusable(f"{path}: it has no FILE=/.. or no PORT=1 to {LAST_PORT}")
         return cls(Path(file), int(port))
 
+    @property
+    def address(self) -> str:
+        """Return the address of the source on this machine."""
+        return f"http://127.0.0.1:{self.port}"
+
     def text(self) -> str:
         """Return the text of the file."""
         return f"FILE={self.file}\nPORT={self.port}\n"

@@ -14,6 +14,7 @@ from typing import Any
 
 from ropepeach.cli import numbers, output
 from ropepeach.cli.files import write_file
+from ropepeach.cli.named import file_named
 from ropepeach.cli.statuses import Status
 from ropepeach.disk import file as disk_file, formula, installed, room as disk_room
 from ropepeach.disk.formats import MOST_ITEMS, USES, Image, NotRead, items_of
@@ -25,7 +26,9 @@ from ropepeach.resync.moments import moment_text
 
 def add_arguments(parser: argparse.ArgumentParser) -> None:
     """Add the arguments of the command."""
-    parser.add_argument("file", metavar="FILE", help="the file of a source, such as /var/lib/ropepeach/source.disk")
+    parser.add_argument("file", metavar="FILE",
+                        help="the file of a source, such as /var/lib/ropepeach/source.disk, or the name of a source "
+                             "here")
     parser.add_argument("--log", action="store_true",
                         help="read FILE as the site's log of changes: print each change and its client")
     parser.add_argument("--put", type=numbers.body_size, metavar="SIZE",
@@ -110,6 +113,7 @@ def run(arguments: argparse.Namespace) -> int:
         from ropepeach.disk import change_log
 
         return change_log.print_changes(arguments.file)
+    arguments.file = file_named(arguments.file)
     try:
         with disk_file.File(arguments.file) as file:
             source = file.read()

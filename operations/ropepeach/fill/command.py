@@ -20,6 +20,7 @@ import argparse
 import contextlib
 
 from ropepeach.cli import numbers, output
+from ropepeach.cli.named import address_named
 from ropepeach.cli.statuses import Status
 from ropepeach.collection import add_option_of_jobs, is_collection
 from ropepeach.faults import Fault
@@ -36,8 +37,8 @@ def add_arguments(parser: argparse.ArgumentParser) -> None:
     """Add the arguments of the command."""
     parser.add_argument("folder", metavar="FOLDER")
     parser.add_argument("url", metavar="URL",
-                        help="where the source is served, such as http://127.0.0.1:8080, or the file of a "
-                             "collection")
+                        help="where the source is served, such as http://127.0.0.1:8080, the name of a source "
+                             "here, or the file of a collection")
     parser.add_argument("--dry-run", action="store_true", help="print the changes, and make none")
     parser.add_argument("--check", action="store_true",
                         help="read all files, also those that did not change since the last run")
@@ -71,7 +72,7 @@ def run(arguments: argparse.Namespace) -> int:
         return fill.run(arguments)
     folder = files_of(arguments)
     plan = FillPlan(folder, Kinds(arguments.types), arguments.again, arguments.skip_unlawful)
-    client = client_of(arguments, arguments.url)
+    client = client_of(arguments, address_named(arguments.url))
     plan.scan(folder.names())
     source = KnownSource(client)
     with contextlib.closing(source.remember(arguments)) as memory:

@@ -21,6 +21,7 @@ from typing import NamedTuple
 
 from ropepeach.cli import numbers, output
 from ropepeach.cli.files import write_file
+from ropepeach.cli.named import source_named
 from ropepeach.cli.statuses import Health
 from ropepeach.faults import Fault
 from ropepeach.health.capacity import Quantity
@@ -37,7 +38,8 @@ AGE_UNITS = ((MS_PER_DAY, "day"), (3_600_000, "hour"), (60_000, "minute"), (MS_P
 def add_arguments(parser: argparse.ArgumentParser) -> None:
     """Add the arguments of the command."""
     parser.add_argument("url", metavar="URL",
-                        help="the address of the source, such as http://127.0.0.1:8080, or the file of a collection")
+                        help="the address of the source, such as http://127.0.0.1:8080, the name of a source here, "
+                             "or the file of a collection")
     parser.add_argument("--changes-warning", type=numbers.number, metavar="N",
                         help="warn from this many changes kept (45,000)")
     parser.add_argument("--changes-critical", type=numbers.number, metavar="N",
@@ -47,7 +49,8 @@ def add_arguments(parser: argparse.ArgumentParser) -> None:
                         help="warn if the last publication is older")
     parser.add_argument("--verification-age", type=numbers.positive, metavar="DAYS",
                         help="warn if the last verification is older")
-    parser.add_argument("--file", metavar="FILE", help="check the source's file too, its last verification and file system")
+    parser.add_argument("--file", metavar="FILE",
+                        help="check the source's file too, its last verification and file system")
     parser.add_argument("--max-time", type=numbers.positive, default=10, metavar="SECONDS",
                         help="timeout of a response (10)")
     parser.add_argument("--patience", type=numbers.seconds, default=0, metavar="SECONDS",
@@ -223,8 +226,10 @@ def all_found(arguments: argparse.Namespace) -> list[SourceHealth]:
         members = CollectionSettings(arguments.url).members.values()
         return side_by_side([Subject(member.address, member.file if os.path.lexists(member.file) else "")
                              for member in members], arguments)
+    here = source_named(arguments.url)
+    subject = Subject(here.address, str(here.file)) if here else Subject(arguments.url)
     try:
-        return [examined(Subject(arguments.url, arguments.file or ""), arguments)]
+        return [examined(subject._replace(file=arguments.file or subject.file), arguments)]
     except Several as several:
         return side_by_side([Subject(base) for base in several.bases], arguments)
 

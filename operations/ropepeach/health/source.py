@@ -73,8 +73,8 @@ class SourceHealth:
         self.begun, started = time.time(), time.monotonic()
         try:
             source = Source(Client(self.subject.url, arguments.patience, arguments.certificate, arguments.max_time))
-            self.change_count, changed = entries_in(source, "changelist", "datetime", "from")
-            self.published_count, published = entries_in(source, "resourcelist", "at", "at")
+            self.change_count, changed = entry_count(source, "changelist", "datetime", "from")
+            self.published_count, published = entry_count(source, "resourcelist", "at", "at")
             self.changed, self.published = milliseconds(changed), milliseconds(published)
             self.is_up = True
         except (Misused, Several):
@@ -117,14 +117,14 @@ def examined(subject: Subject, arguments: argparse.Namespace) -> SourceHealth:
     return finding
 
 
-def entries_in(source: Source, capability: str, last: str, front: str) -> tuple[int, str]:
+def entry_count(source: Source, capability: str, last: str, front: str) -> tuple[int, str]:
     """Return the number of entries of a list, and the moment in the attribute `last` of its last entry, or in the
     attribute `front` of its head.
     """
     for turn in range(LIST_READINGS):
         head = source.document(list_address(source.lists, capability))
         try:
-            return entries_once(source, head, last, front)
+            return entry_count_once(source, head, last, front)
         except Unheld:
             # A publication dropped this part meanwhile.
             if turn == LIST_READINGS - 1:
@@ -132,7 +132,7 @@ def entries_in(source: Source, capability: str, last: str, front: str) -> tuple[
     raise AssertionError
 
 
-def entries_once(source: Source, head: Document, last: str, front: str) -> tuple[int, str]:
+def entry_count_once(source: Source, head: Document, last: str, front: str) -> tuple[int, str]:
     """Count the entries of a list by its head: all parts but the last are as long as the first."""
     addresses = [part.loc for part in head.entries] if head.is_index else []
     entries = (source.document(addresses[-1]) if addresses else head).entries

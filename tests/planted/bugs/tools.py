@@ -246,3 +246,10 @@ OF_FULL = [
          "a_file_that_was_never_verified_counts_from_its_first_change"),
     ]
 ]
+NAMED_FILE = "cli/named.py"
+OF_NAMED = [
+    bug("a source precedes a file of its name", NAMED_FILE, "settings is not None and os.path.lexists(text)", "False",
+        "named::an_existing_file_precedes_the_source"),
+    bug("health of a named source has no file", "health/command.py", "arguments.file or subject.file",
+        'arguments.file or ""', "named::a_name_stands_for_the_source"),
+]
