@@ -12,7 +12,6 @@ const MARKS = { agrees: "✓ agrees", differs: "✗ differs", unasked: "not chec
 // What the columns are called where an order is said.
 const COLUMNS = { name: "name", type: "type", length: "bytes", moment: "moment" };
 
-/** @typedef {import("./model.js").Holding} Holding */
 /** @typedef {import("./model.js").Column} Column */
 /** @typedef {import("./source.js").Resource} Resource */
 
@@ -131,11 +130,11 @@ export class Listed {
   }
 
   /**
-   * Takes another reading; the reader's search, order and place stay.
-   * @param {Holding} holding
+   * Takes the resources of another reading; the reader's search, order and place stay.
+   * @param {Resource[]} resources
    */
-  show(holding) {
-    this.resources = holding.resources;
+  show(resources) {
+    this.resources = resources;
     this.choose(true);
   }
 
@@ -218,8 +217,9 @@ export class Listed {
     showFolders(part(this.root, "folders"), found, this.folder, (folder) => this.narrow({ folder }));
     const ofAnyType = this.type ? this.resources.filter(within({ ...filter, type: "" })) : found;
     showTypes(part(this.root, "types"), ofAnyType, this.type, (type) => this.narrow({ type }));
-    part(this.root, "nothing").hidden = found.length > 0 || !this.resources.length;
-    this.grid.hidden = part(this.root, "export").hidden = !found.length;
+    const isNothing = !found.length && this.resources.length > 0;
+    part(this.root, "nothing").hidden = !isNothing;
+    this.grid.hidden = part(this.root, "export").hidden = isNothing;
     const all = counted(this.resources.length, "resource");
     const isNarrow = filter.search || filter.folder || filter.type;
     const text = isNarrow ? `${count(found.length)} of ${all}` : all;

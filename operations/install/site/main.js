@@ -130,17 +130,17 @@ class Page {
     if (name !== undefined) panel.open(name);
   }
 
-  /** A source is read when it is looked at. */
+  /** A source is read when it is looked at, and each of them when the sums are. */
   tabShown() {
-    if (this.panelShown && !this.panelShown.isBegun) this.panelShown.read();
+    for (const it of this.panelShown ? [this.panelShown] : this.panels) {
+      if (!it.isBegun) it.read();
+    }
     this.navigation.note();
   }
 
-  /** Reads what is looked at again; the sums look at all that were read. */
+  /** Reads what is looked at again. */
   async read() {
-    for (const it of this.panelShown ? [this.panelShown] : this.panels) {
-      if (it.isBegun || it === this.panelShown) await it.read();
-    }
+    for (const it of this.panelShown ? [this.panelShown] : this.panels) await it.read();
   }
 }
 

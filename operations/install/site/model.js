@@ -158,7 +158,6 @@ export function sums(holdings) {
   const latest = (/** @type {(it: Holding) => string} */ figure) => read.map(figure).sort().at(-1) ?? "";
   return {
     read: read.length,
-    resources: of((it) => it.resources.length),
     bytes: of((it) => it.bytes),
     changes: of((it) => it.changes.length),
     changed: latest((it) => it.changed),

@@ -163,25 +163,44 @@ export class Panel {
     let trouble = null;
     try {
       if (this.isElsewhere) throw new Trouble("elsewhere", ELSEWHERE);
-      const holding = new Holding(await this.source.read((done, all) => this.progress(done, all)));
+      const holding = new Holding(await this.source.read((...parts) => this.progress(...parts)));
       performance.mark("read");
       this.readAt = Date.now();
       if (!this.holding?.isAs(holding)) this.show(holding);
       else this.timeline.passed();
     } catch (fault) {
       trouble = fault instanceof Trouble ? fault : new Trouble("wrong", `This page failed: ${fault}`);
+      if (!this.holding) this.forget();
     }
     this.trouble = trouble;
     this.showTrouble();
   }
 
   /**
-   * Shows how many parts came.
-   * @param {number} done
-   * @param {number} all
+   * Shows how many parts came; after 1, 2, 4, 8 .. also the resources listed in them.
+   * @type {import("./source.js").Progress}
    */
-  progress(done, all) {
-    if (!this.holding) tell(this.parts["state-more"], `: part ${count(done)} of ${count(all)}`);
+  progress(done, all, listed) {
+    if (this.holding) return;
+    tell(this.parts["state-more"], `: part ${count(done)} of ${count(all)}`);
+    Object.assign(this.parts.reading, { max: all, value: done });
+    if (done & (done - 1)) return;
+    const resources = listed();
+    if (!resources.length) return;
+    performance.mark("rows");
+    this.root.dataset.holds = "resources";
+    tell(this.parts.resources, count(resources.length));
+    tell(this.parts.since, "so far");
+    this.listed.show(resources);
+    this.changed();
+  }
+
+  /** Takes back the rows of a first reading that failed. */
+  forget() {
+    delete this.root.dataset.holds;
+    tell(this.parts.resources, "–");
+    tell(this.parts.since, "");
+    this.listed.show([]);
   }
 
   /** Shows the state, and says it where it is another one. */
@@ -206,13 +225,14 @@ export class Panel {
     this.checks.keep(holding);
     this.checks.draw(holding.resources);
     this.showFigures(holding);
-    this.listed.show(holding);
+    this.listed.show(holding.resources);
     this.timeline.show(holding.changes, holding.at);
     const { wanted } = this;
     this.wanted = null;
     if (wanted) this.goTo(wanted);
     else if (this.chosen !== null) this.showCard(this.chosen);
     if (wanted?.resource) this.parts.card.scrollIntoView({ block: "nearest" });
+    performance.mark("rows");
     performance.mark("shown");
   }
 
@@ -265,13 +285,13 @@ export class Panel {
    * @param {Place} place
    */
   goTo(place) {
+    const { listed, timeline } = this;
+    const isOther = Object.entries(listed.place()).some(([key, it]) => place[/** @type {keyof Place} */ (key)] !== it);
+    if (isOther) listed.goTo(place);
     if (!this.holding) {
       this.wanted = place;
       return;
     }
-    const { listed, timeline } = this;
-    const isOther = Object.entries(listed.place()).some(([key, it]) => place[/** @type {keyof Place} */ (key)] !== it);
-    if (isOther) listed.goTo(place);
     if (place.range !== timeline.range()) timeline.goTo(place.range);
     if (place.resource) this.choose(place.resource);
     else this.close();
@@ -282,6 +302,11 @@ export class Panel {
    * @param {string} name
    */
   open(name, rows = this.listed.rows) {
+    if (this.wanted) {
+      // (its facts are known once all parts came)
+      this.wanted = { ...this.wanted, resource: name };
+      return;
+    }
     this.cameFrom = rows;
     this.choose(name);
     this.moved();

@@ -27,6 +27,8 @@ const MOST_BYTES = 16_777_216;
  *   listed: Resource[], changes: Resource[]}} Reading
  */
 
+/** @typedef {(done: number, all: number, listed: () => Resource[]) => void} Progress */
+
 /**
  * The bases of the sources that the Source Description below this address names.
  * @param {string} address
@@ -54,8 +56,8 @@ export class Source {
   }
 
   /**
-   * Reads both lists; `progress` gets how many parts came, of how many.
-   * @param {(done: number, all: number) => void} progress
+   * Reads both lists; `progress` gets how many parts came, of how many, and the resources of those that came.
+   * @param {Progress} progress
    */
   async read(progress = () => {}) {
     let why = "";
@@ -73,7 +75,7 @@ export class Source {
 
   /**
    * Reads both lists once.
-   * @param {(done: number, all: number) => void} progress
+   * @param {Progress} progress
    * @returns {Promise<Reading>}
    */
   async once(progress) {
@@ -90,7 +92,7 @@ export class Source {
     await this.all([
       ...this.waiting(resources, listedParts, used, () => true),
       ...this.waiting(changes, changedParts, used, (it) => Boolean(said(it, "until"))),
-    ], progress);
+    ], (done, all) => progress(done, all, () => listedParts.flat().filter(Boolean)));
     this.kept = used;
     const at = momentOf(resources.said.at);
     const from = momentOf(changes.said.from);

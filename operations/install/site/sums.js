@@ -24,7 +24,6 @@ export class Sums {
     this.open = open;
     this.say = say;
     this.moved = moved;
-    this.isReading = false;
     this.words = "";
     this.read = 0;
     /** @type {HTMLElement} */
@@ -34,7 +33,6 @@ export class Sums {
       this.find();
       this.moved(true);
     });
-    part(this.root, "read-all").addEventListener("click", () => this.readAll());
     /** @type {Rows<Found>} */
     this.rows = new Rows(part(this.root, "found-grid"), {
       open: ({ panel, resource }) => this.open(panel, resource.name),
@@ -42,20 +40,6 @@ export class Sums {
       fill: (element, item) => fill(element, item),
     });
     this.show();
-  }
-
-  /** Reads each source that was not read yet, one after another. */
-  async readAll() {
-    if (this.isReading) return;
-    this.isReading = true;
-    const button = part(this.root, "read-all");
-    button.setAttribute("aria-disabled", "true");
-    for (const panel of this.panels) {
-      if (!panel.holding) await panel.read();
-    }
-    this.isReading = false;
-    button.removeAttribute("aria-disabled");
-    this.say(part(this.root, "read").textContent);
   }
 
   /** The place that is shown. */
@@ -73,12 +57,11 @@ export class Sums {
     this.find();
   }
 
-  /** Searches all sources; those that were not read yet are read for it. */
+  /** Searches all sources. */
   find() {
     const words = this.search.value.trim();
     part(this.root, "found-part").hidden = !words;
     if (!words) return;
-    if (this.panels.some((it) => !it.isBegun)) this.readAll();
     this.showFound(words);
   }
 
@@ -102,18 +85,18 @@ export class Sums {
   /** Shows the sums, and each source in its row. */
   show() {
     const all = sums(this.panels.map((it) => it.holding));
+    const resources = this.panels.reduce((sum, it) => sum + it.listed.resources.length, 0);
     const put = (/** @type {string} */ name, /** @type {string} */ text) => tell(part(this.root, name), text);
-    put("resources", all.read ? count(all.resources) : "–");
+    put("resources", count(resources));
     const sources = counted(this.panels.length, "source");
     put("read", all.read === this.panels.length ? `in ${sources}` : `in ${count(all.read)} of ${sources} that were read`);
-    put("size", all.read ? size(all.bytes) : "–");
+    put("size", size(all.bytes));
     put("bytes", all.bytes >= 1_000 ? `${count(all.bytes)} bytes` : "");
-    put("changes", all.read ? count(all.changes) : "–");
+    put("changes", count(all.changes));
     for (const name of /** @type {const} */ (["changed", "published"])) {
       if (all[name]) showMoment(part(this.root, name), all[name]);
       put(`${name}-age`, all[name] ? age(all[name]) : "");
     }
-    part(this.root, "read-all").hidden = this.panels.every((it) => it.isBegun);
     // (a row that stays keeps the focus of its button)
     const rows = this.panels.map((it) => this.row(it));
     const body = part(this.root, "sources");
@@ -126,16 +109,18 @@ export class Sums {
    * @param {Panel} panel
    */
   row(panel) {
-    const { holding, state, base } = panel;
-    const button = made("button", "quiet", given(base));
-    button.type = "button";
+    const { holding, state, base, label, listed } = panel;
+    const button = made("button", "quiet", given(label));
+    Object.assign(button, { type: "button", title: base });
     button.addEventListener("click", () => this.open(panel));
     const head = made("th", "", button);
     head.scope = "row";
     const word = made("td", "tone", state.word);
     word.dataset.tone = state.tone;
+    // (while parts come, the resources of those that came; a source that never answered has no figures)
+    const some = listed.resources.length ? count(listed.resources.length) : "";
     const figures = holding
-      ? [count(holding.resources.length), count(holding.bytes), moment(holding.changed)] : ["–", "–", "–"];
+      ? [count(holding.resources.length), count(holding.bytes), moment(holding.changed)] : [some, "", ""];
     return made("tr", "", head, word, ...figures.map((it) => made("td", "", it)));
   }
 }

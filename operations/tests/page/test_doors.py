@@ -163,7 +163,6 @@ def test_a_collection_below_one_host_is_shown(look: Looked) -> None:
                 assert look.chromium.text("resources") == "3"
             else:
                 look.chromium.until("return document.querySelector('.sums')", "the sums")
-                look.chromium.click("read-all")
                 both = "return document.querySelectorAll('.sums .tone[data-tone=good]').length === 2"
                 look.chromium.until(both, "both are open")
                 figures = look.chromium.text("resources"), look.chromium.text("size")

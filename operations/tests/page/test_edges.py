@@ -156,7 +156,7 @@ def test_a_list_has_at_most_50_000_entries(look: Looked) -> None:
     """The page refuses a list whose parts have more than 50,000 entries together."""
     browser = look.browser
     with look.fake(fakes.Fake) as shown:
-        for number, word in ((LARGEST, "Open"), (LARGEST + 1, "Unreadable")):
+        for number, word in ((LARGEST, "Full"), (LARGEST + 1, "Unreadable")):
             shown.server.answer = in_parts(shown.base, number)
             browser.open("about:blank")
             browser.open(f"{shown.base}/")

@@ -47,7 +47,7 @@ def opened(browser: Browser, shown: Shown) -> tuple[float, float]:
     """Reload the page; return the elapsed and the processor milliseconds until its rows are shown."""
     browser.forget()
     browser.open(f"{shown.base}/")
-    browser.state("Open")
+    browser.state("Full")
     browser.equals(["50,000", "50,000"], COUNTS)
     browser.until("return window.firstRow", "the first row")
     found, work = browser.run(scripts.SHOWN), browser.busy()

@@ -305,6 +305,37 @@ def test_controls_work_before_the_lists_arrive(look: Looked) -> None:
         look.is_well()
 
 
+def test_rows_and_figures_come_with_the_first_part(look: Looked) -> None:
+    """While later parts wait, the page shows the rows and figures of those that came, and a bar."""
+    browser, parts = look.chromium, threading.Event()
+    with look.fake(lambda base: dataclasses.replace(fakes.archive(base, 60), limit=20)) as shown:
+        right = shown.server.answer
+
+        def answer(path: str) -> fakes.Answer:
+            if not path.endswith(("list.xml", "resourcesync", "/0.xml")):
+                parts.wait(SECONDS)
+            return right(path)
+
+        shown.server.answer = answer
+        try:
+            browser.open(f"{shown.base}/")
+            browser.until("return document.querySelectorAll('.resources .row').length > 5", "the first rows")
+            browser.state("Reading")
+            assert (browser.text("resources"), browser.text("since")) == ("20", "so far")
+            bar = "const it = document.querySelector('[data-part=reading]'); return [it.checkVisibility(), it.value > 0]"
+            assert browser.run(bar) == [True, True]
+            name = browser.run("""
+                const row = document.querySelectorAll(".resources .row")[3];
+                row.click();
+                return row.querySelector("bdi").textContent;""")
+        finally:
+            parts.set()
+        browser.state("Open")
+        assert browser.text("resources") == "60"
+        assert browser.text("name") == name
+        look.is_well()
+
+
 def test_a_collection_has_a_tab_per_source_and_sums(look: Looked) -> None:
     """The page also shows sources on other hosts, and reports a missing one."""
     browser = look.chromium
@@ -320,19 +351,12 @@ def test_a_collection_has_a_tab_per_source_and_sums(look: Looked) -> None:
           look.fake(lambda base: fakes.archive(base, 25, 2), allowing) as other):
         text, sources = fakes.description(one.base, other.base).encode(), setting("sources", f"{one.base} {other.base}")
         with serving(only_described(text)) as server, look.site(int(server.url.rpartition(":")[2]), port, sources):
-            browser.open(f"{base}/")
-            browser.until("return document.querySelector('.sums')", "the sums")
-            assert one.server.paths() + other.server.paths() == []
-            assert (browser.text("resources"), browser.text("read")) == ("–", "in 0 of 2 sources that were read")
             one_is_gone(browser, base, one, other)
             both = "return document.querySelectorAll('.sums .tone[data-tone=good]').length === 2"
-            browser.run(scripts.TYPED, "search-all", "atlas")
-            browser.until(both, "a search reads both")
-            browser.open("about:blank")
-            browser.open(f"{base}/")
-            browser.until("return document.querySelector('.sums')", "the sums once more")
-            browser.click("read-all")
-            browser.until(both, "both are open")
+            browser.until(both, "both are read at once")
+            labels = browser.run("return [...document.querySelectorAll('.sums th button')].map((it) => it.textContent)")
+            assert labels == [shown.base.removeprefix("http://") for shown in (one, other)]
+            assert "–" not in browser.run("return document.querySelector('.sums').textContent")
             tabs = browser.run("return [...document.querySelectorAll('[role=tab]')].map((it) => it.textContent)")
             assert tabs == ["All", *(shown.base.removeprefix("http://") for shown in (one, other))]
             size = sum(entry.length for shown in (one, other) for entry in current(shown.fake))
@@ -356,7 +380,7 @@ def sums_stay(browser: Asking) -> None:
 def one_is_gone(browser: Asking, base: str, one: Shown, other: Shown) -> None:
     """Check that a source that is down from the beginning counts neither as read nor as searched."""
     right, other.server.answer = other.server.answer, always(404, b"x", "text/html")
-    browser.click("read-all")
+    browser.open(f"{base}/")
     browser.until("return document.querySelectorAll('.sums .tone[data-tone=bad]').length === 1", "one is gone")
     assert browser.text("resources") == f"{len(current(one.fake))}"
     assert browser.text("read") == "in 1 of 2 sources that were read"

@@ -26,6 +26,12 @@ def test_the_scripts_have_no_type_errors() -> None:
     assert (process.stdout + process.stderr, process.returncode) == ("", 0)
 
 
+def test_the_page_preloads_every_module() -> None:
+    """All modules load in one step: the page names each that `main.js` needs."""
+    preloaded = re.findall(r'rel="modulepreload" href="site/([a-z]+\.js)"', (PAGE / "index.html").read_text())
+    assert sorted([*preloaded, "main.js"]) == sorted(path.name for path in PAGE.glob("*.js"))
+
+
 def test_functions_and_classes_of_the_scripts_have_jsdoc() -> None:
     assert [f"{path.name}: {line.strip()}" for path in sorted(PAGE.glob("*.js"))
             for line in BARE.findall(path.read_text())] == []
