@@ -3,6 +3,7 @@
 
 import { Navigation } from "./address.js";
 import { aboutAt, showAbout } from "./about.js";
+import { describe } from "./described.js";
 import { Trouble } from "./documents.js";
 import { tell } from "./elements.js";
 import { Panel } from "./panel.js";
@@ -71,9 +72,15 @@ class Page {
       key: this.isCollection ? label : "",
       // A source that is the only one is asked at its own address, and not at another one that leads to it.
       isElsewhere: !this.isCollection && !isBelow,
-      changed: () => this.sums?.show(),
+      changed: () => this.changed(),
       moved: (isTyping) => this.navigation.note(isTyping),
     });
+  }
+
+  /** Shows the sums again, and describes the sources for search engines. */
+  async changed() {
+    this.sums?.show();
+    describe(here, head.title || head.host, await about, this.panels);
   }
 
   /** The sums over all sources. */
@@ -176,6 +183,7 @@ document.addEventListener("keydown", (event) => {
   if (shown) event.preventDefault();
   shown?.focus();
 });
+place("reads").hidden = false;
 showHead({});
 about.then((it) => {
   showAbout(place("about"), it);

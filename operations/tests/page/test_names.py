@@ -1,4 +1,5 @@
 """Test the names that the page shows, and the addresses of resources, searches, orders, ranges and tabs."""
+import json
 from urllib.parse import quote
 
 from operations.tests.page import fake as fakes, scripts
@@ -254,6 +255,25 @@ FILES = [
     ('{"title": "%s"}' % ("x" * 201), ["", [], []]),
     ('{"keeper": "A", "more": "%s"}' % ("x" * 10_000), ["", [], []]), (None, ["", [], []]),
 ]
+
+
+def test_the_page_describes_the_source_for_search_engines(look: Looked) -> None:
+    """JSON-LD has the operator's texts and the lists' figures as a Dataset; no text of it ends the element."""
+    browser = look.browser
+    texts = {"title": "</script><b>Letters</b>", "keeper": "A library", "contact": "a@b.example", "licence": "CC BY 4.0"}
+    look.edit = lambda page: [page.parent.joinpath(ABOUT).write_text(json.dumps(texts))] and None
+    with look.fake(lambda base: fakes.archive(base, 30)) as shown:
+        browser.open(f"{shown.base}/")
+        browser.state("Open")
+        text = browser.until("return document.head.querySelector('[type=\"application/ld+json\"]')?.textContent", "JSON-LD")
+        found = json.loads(text)
+        size = sum(entry.length for entry in fakes.current(shown.fake))
+        assert "<" not in text
+        assert (found["@type"], found["name"], found["url"]) == ("Dataset", texts["title"], f"{shown.base}/")
+        assert found["publisher"] == {"@type": "Organization", "name": "A library", "email": "a@b.example"}
+        assert (found["license"], found["size"]) == ("CC BY 4.0", f"30 resources, {size} bytes")
+        assert found["distribution"]["contentUrl"] == f"{shown.base}/resourcelist.xml"
+        look.is_well()
 
 
 def test_the_operator_is_shown(look: Looked) -> None:

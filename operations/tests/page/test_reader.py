@@ -129,6 +129,23 @@ def test_the_time_line_counts_the_changes_in_view(look: Looked) -> None:
                 assert (number, kinds, [sum(row) for row in zip(*table)]) == (len(shown.fake.changes), every, every)
 
 
+def test_without_javascript_the_page_says_how_to_mirror(look: Looked) -> None:
+    """Without JavaScript the page has a title, its purpose, links to the four documents and a command."""
+    browser = look.chromium
+    with look.fake(lambda base: fakes.archive(base, 30)) as shown:
+        browser.tell("Emulation.setScriptExecutionDisabled", value=True)
+        try:
+            browser.open(f"{shown.base}/")
+            text = browser.driver.find_element("tag name", "body").text
+            links = [it.get_attribute("href") for it in browser.driver.find_elements("css selector", "noscript a")]
+        finally:
+            browser.tell("Emulation.setScriptExecutionDisabled", value=False)
+    documents = [".well-known/resourcesync", "capabilitylist.xml", "resourcelist.xml", "changelist.xml"]
+    assert links == [f"{shown.base}/{path}" for path in documents]
+    assert "A source to mirror" in text and "ropepeach mirror" in text
+    assert "Reading" not in text and "This page reads" not in text
+
+
 LOOKS = """
 const look = (it) => ["backgroundColor", "color", "borderLeftWidth"].map((name) => getComputedStyle(it)[name]).join();
 const pair = (selector, other) => [selector, other].map((it) => look(document.querySelector(it)));
