@@ -110,6 +110,12 @@ TABLE = (
         Health.CRITICAL: "critical",
         Health.UNKNOWN: "unknown: wrong arguments, or the file of --prometheus cannot be written",
     }, Health.UNKNOWN),
+    declared("status", "report the state of every source of this machine", "health.status", ("--json", "--max-time 60"), {
+        Health.OK: "every source is good",
+        Health.WARNING: "the worst state is a warning",
+        Health.CRITICAL: "the worst state is critical",
+        Health.UNKNOWN: "unknown: wrong arguments, or this machine has no source",
+    }, Health.UNKNOWN),
     declared("new", "create a source on this machine: file, units and site", "admin.new",
              ("papers --base https://a.example.org --for /srv/papers", "try --base http://localhost:8000 --http"), {
         Status.DONE: "the source is served",
@@ -172,5 +178,5 @@ TABLE = (
 )
 # The parts of the overview, and the names of their commands.
 GROUPS = {"serve": "new remove site size collection grow takeover", "fill": "fill", "mirror": "mirror check",
-          "look after": "health look why backup restore"}
+          "look after": "status health look why backup restore"}
 SUBCOMMANDS: Mapping[str, Subcommand] = {subcommand.name: subcommand for subcommand in TABLE}

@@ -175,14 +175,28 @@ def figures_of(finding: SourceHealth, arguments: argparse.Namespace, ages: Seque
     return " ".join([*figures, f"time={finding.seconds:.3f}s"])
 
 
-def reported(finding: SourceHealth, arguments: argparse.Namespace) -> Health:
-    """Print the line of a source; return its status."""
+class Verdict(NamedTuple):
+    """The status of a source, its ages, the texts of its problems, and its state as text, if it is up."""
+
+    status: Health
+    ages: list[Age]
+    words: list[str]
+    state: list[str]
+
+
+def verdict_on(finding: SourceHealth, arguments: argparse.Namespace) -> Verdict:
+    """Judge the state of a source."""
     ages = ages_of(finding, arguments)
     found = list(troubles(finding, arguments, ages))
-    status = max((trouble.status for trouble in found), default=Health.OK)
     # (the figures follow a bar)
-    words = [trouble.words.replace("|", "/") for trouble in found]
-    state = [state_text(finding, ages)] if finding.is_up else []
+    return Verdict(max((trouble.status for trouble in found), default=Health.OK), ages,
+                   [trouble.words.replace("|", "/") for trouble in found],
+                   [state_text(finding, ages)] if finding.is_up else [])
+
+
+def reported(finding: SourceHealth, arguments: argparse.Namespace) -> Health:
+    """Print the line of a source; return its status."""
+    status, ages, words, state = verdict_on(finding, arguments)
     figures = f" | {figures_of(finding, arguments, ages)}" if finding.is_up else ""
     output.result(f"{status.name}: {finding.subject.url}: {'; '.join([*words, *state])}{figures}",
                   source=finding.subject.url, health=status.name, troubles=words, figures=measured(finding, status))

@@ -47,7 +47,7 @@ def surroundings(room: Path, program: str) -> Iterator[dict[str, Sequence[str]]]
             "fill": [str(folder), server.url], "mirror": [server.url, "m"], "look": ["a.disk"],
             "check": ["checked"],
             "size": [str(folder)],
-            "why": ["a.disk", str(server.port)], "health": [server.url], "site": ["https://a.example"],
+            "why": ["a.disk", str(server.port)], "health": [server.url], "status": [], "site": ["https://a.example"],
             "collection": ["collection.toml", "--into", "into"],
             "grow": ["collection.toml", "--dry-run", "--patience", "0"],
             "new": ["try", "--base", "http://a.example", "--http", "--no-site", "--dry-run"],

@@ -149,7 +149,7 @@ def test_options_are_not_abbreviated(name: str) -> None:
     shortened = {option[:-1] for option in options} - options
     for word in [*sorted(shortened), "--nothing", "-x"]:
         done = here(name, word, "a", "a")
-        assert (done.returncode, done.stdout) == (3 if name == "health" else 2, ""), word
+        assert (done.returncode, done.stdout) == (SUBCOMMANDS[name].misused, ""), word
         first, second = done.stderr.splitlines()
         assert first.startswith(f"ropepeach {name}: error: "), word
         assert second == f"Try 'ropepeach {name} --help'.", word
@@ -179,7 +179,8 @@ def test_commands_declare_their_statuses() -> None:
     assert len(SUBCOMMANDS) == len(TABLE), "two declarations of one name"
     for name, declared in SUBCOMMANDS.items():
         assert {0, Status.INTERRUPTED, declared.misused} <= set(declared.statuses), f"{name}: {declared.statuses}"
-    assert list(Health) == [0, 1, 2, 3] and SUBCOMMANDS["health"].misused == 3, "the statuses of monitoring plugins"
+    plugins = [SUBCOMMANDS[name].misused for name in ("health", "status")]
+    assert (list(Health), plugins) == ([0, 1, 2, 3], [3, 3]), "the statuses of monitoring plugins"
 
 
 @pytest.mark.parametrize("name", SUBCOMMANDS)

@@ -1,6 +1,7 @@
 """Test that the name of a source of this machine stands for its file and its address."""
 from __future__ import annotations
 
+import json
 from collections.abc import Iterator
 from pathlib import Path
 from unittest import mock
@@ -28,6 +29,25 @@ def test_a_name_stands_for_the_source(papers: Server, room: Path) -> None:
     status_of(here("look", "papers"), 0, f"{papers.disk}: a source at ", "resources: 2 of 50,000")
     status_of(here("health", "papers"), 0, f"OK: {papers.url}: ", "2 resources held of 50,000")
     papers.holds(folder)
+
+
+def test_status_reports_every_source(papers: Server, room: Path) -> None:
+    """The exit status is the worst one; settings of other units are no source."""
+    status_of(here("status"), 0, "papers: OK: 0 changes kept of 50,000, 0 resources held of 50,000, ")
+    machine.Place("fill-papers").settings.write_text("FOLDER=/srv\n")
+    machine.Place("gone").settings.write_text(f"FILE={room}/gone.disk\nPORT=1\n")
+    done = here("status")
+    status_of(done, 2, "gone: CRITICAL: ", f"{room}/gone.disk can't be looked at", "papers: OK: ")
+    assert done.stdout.count("\n") == 2, done.stdout
+    results = json.loads(here("status", "--json").stdout)["results"]
+    assert [(result["name"], result["health"]) for result in results] == [("gone", "CRITICAL"), ("papers", "OK")]
+    assert results[1]["figures"]["resources_held"] == 0 and results[1]["source"] == papers.url, results
+
+
+def test_a_machine_without_a_source_is_unknown(room: Path) -> None:
+    """One line says so."""
+    with mock.patch.object(machine, "SETTINGS_FOLDER", room):
+        status_of(here("status"), 3, "ropepeach status: there is no source here: ")
 
 
 def test_an_existing_file_precedes_the_source(papers: Server, room: Path) -> None:

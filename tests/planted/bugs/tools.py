@@ -139,8 +139,8 @@ OF_LINE = [
     bug(what, file, old, new, f"line::{test}") for what, file, old, new, test in [
         ("a command does nothing", "cli/command.py", "return dispatch(", "return 0 and (", VERSION),
         ("an option may be abbreviated", "cli/parser.py", "allow_abbrev=False", "allow_abbrev=True", ABBREVIATED),
-        ("wrong arguments of health are critical", "cli/subcommands.py", "}, Health.UNKNOWN),", "}, Health.CRITICAL),",
-         ABBREVIATED),
+        ("wrong arguments of health are critical", "cli/subcommands.py", 'written",\n    }, Health.UNKNOWN),',
+         'written",\n    }, Health.CRITICAL),', ABBREVIATED),
         ("an example has a wrong option", "cli/subcommands.py", '"--put 4096', '"--none 4096',
          "examples_of_help_are_valid"),
         ("a status has another meaning", "cli/subcommands.py", '"the file holds a source"', '"it holds a source"',
@@ -250,6 +250,8 @@ NAMED_FILE = "cli/named.py"
 OF_NAMED = [
     bug("a source precedes a file of its name", NAMED_FILE, "settings is not None and os.path.lexists(text)", "False",
         "named::an_existing_file_precedes_the_source"),
+    bug("the best state of several sources counts", "health/status.py", "max(verdicts)", "min(verdicts)",
+        "named::status_reports_every_source"),
     bug("health of a named source has no file", "health/command.py", "arguments.file or subject.file",
         'arguments.file or ""', "named::a_name_stands_for_the_source"),
 ]
