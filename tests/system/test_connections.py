@@ -10,13 +10,15 @@ import struct
 import subprocess
 import time
 from collections.abc import Callable, Iterator
+from email.utils import formatdate
 from pathlib import Path
 
 import pytest
 
 from tests.program import Differs, compare, interposed
+from tests.served_source import with_clock
 from tests.system.edge_runs import HOST, PUT, SECONDS, SYSTEM, TOO_LONG, ask, connected, ends_with
-from tests.system.edge_runs import formatted, is_read_from, peak, read_to_end, run, served
+from tests.system.edge_runs import formatted, is_read_from, peak, put_of, read_to_end, run, served
 
 pytestmark = [pytest.mark.plain, pytest.mark.needs("cc")]
 
@@ -26,6 +28,8 @@ LONGEST_REST, MARGIN = 2, 4
 MOST_REST, ENDLESS, AT_ONCE = 64 << 20, 96 << 20, 1 << 20
 # The number of connections, plus a random number; and the limit in KiB of the memory growth in their second half.
 MANY, GROWN = 4_000, 64
+# The time of day before the first connection, and the last one, in seconds.
+FIRST_DAY, LAST_DAY = 951_782_400, 253_402_300_799
 # A body longer than the send buffer, and a line that puts it.
 LARGE = b"x" * 100_000
 PUT_LARGE = b"put b %s a/b\n" % LARGE.hex().encode()
@@ -144,8 +148,10 @@ def test_a_refused_body_may_be_sent_before_the_response_is_read(program: str, ro
 
 @contextlib.contextmanager
 def served_in_time(program: str, room: Path, count: int) -> Iterator[tuple[int, subprocess.Popen[bytes]]]:
-    """Yield the port and the process of a server of this many connections, with the system's clocks."""
-    with subprocess.Popen([program, "serve", "a.disk", "0", str(count)], cwd=room, stdout=subprocess.PIPE) as server:
+    """Yield the port and the process of a server of this many connections, whose time of day stands still."""
+    env = with_clock(room) | {"CLOCK": "951782400000", "STEP": "0"}
+    words = [program, "serve", "a.disk", "0", str(count)]
+    with subprocess.Popen(words, cwd=room, stdout=subprocess.PIPE, env=env) as server:
         try:
             assert server.stdout
             yield int(server.stdout.readline().removeprefix(b"listening 127.0.0.1:")), server
@@ -155,7 +161,7 @@ def served_in_time(program: str, room: Path, count: int) -> Iterator[tuple[int, 
 
 
 def waited(port: int, refused: socket.socket, is_slow: bool) -> float:
-    """Return the seconds that the next client waits after a refused one that stays silent or sends a byte at times."""
+    """Return the seconds that the next client waits after a refused one that stays silent or sends bytes at times."""
     started = time.monotonic()
     with connected(port) as next_one:
         next_one.sendall(b"GET /resource/zz " + HOST + b"\r\n")
@@ -165,7 +171,7 @@ def waited(port: int, refused: socket.socket, is_slow: bool) -> float:
                 ends_with(next_one.recv(65_536), b"\r\n\r\nNotHeld\n")
                 return time.monotonic() - started
             with contextlib.suppress(ConnectionError):
-                refused.sendall(b"x" if is_slow else b"")
+                refused.sendall(b"x" * random.randint(1, 8_192) if is_slow else b"")
     raise Differs(f"the next client waits for more than {LONGEST_REST + MARGIN} seconds")
 
 
@@ -195,18 +201,24 @@ def test_a_connection_that_cannot_be_accepted_counts(program: str, room: Path, *
         compare(f"the clients that are answered, where connection {at} fails", b"2", b"%d" % answered)
 
 
-def test_thousands_of_connections_are_served_without_more_memory(program: str, room: Path) -> None:
-    """The server answers the last of thousands of connections as the first, and its memory does not grow."""
-    formatted(program, room)
-    count = random.randint(MANY, MANY + MANY // 4)
-    with served(program, room, count) as (port, server):
-        for at in range(count - 1):
+@pytest.mark.parametrize("most", [MANY, pytest.param(100_000, marks=pytest.mark.long)])
+def test_thousands_of_connections_are_served_without_more_memory(program: str, room: Path, most: int) -> None:
+    """The server answers the last of thousands of connections as the first, each at the time of its connection; its
+    memory does not grow, and it does not write its file.
+    """
+    disk = Path(room, formatted(program, room))
+    content, count = disk.read_bytes(), random.randint(most, most + most // 4)
+    with served(program, room, count, DAYS="1") as (port, server):
+        for at in range(1, count):
             if at == count // 2:
                 before = peak(server)
-            compare(f"response {at + 1} of {count}", b"HTTP/1.1 200 OK\r\n", ask(port, GET_LIST)[:17])
+            date = formatdate(min(FIRST_DAY + at * 86_400, LAST_DAY), usegmt=True)
+            compare(f"response {at} of {count}", b"HTTP/1.1 200 OK\r\nDate: %s\r\n" % date.encode(),
+                    ask(port, GET_LIST)[:54])
         grown = peak(server) - before
         ask(port, GET_LIST)
     compare(f"{grown} KiB more are at most {GROWN}", b"True", str(grown <= GROWN).encode())
+    compare("the file", content, disk.read_bytes())
 
 
 def test_an_interrupted_read_is_a_fault(program: str, room: Path, **settings: str) -> None:
@@ -249,6 +261,24 @@ def test_a_write_that_takes_no_byte_is_tried_once(program: str, room: Path, **se
         ends_with(found, b"\r\n\r\n")
         assert server.stderr
         compare("over HTTP", b"1 took none\n", server.stderr.read())
+
+
+@pytest.mark.long
+@pytest.mark.parametrize("pause", [15, 70])
+def test_a_paused_upload_goes_on(program: str, room: Path, pause: int) -> None:
+    """A client may pause within the head, within the body, and before it reads the response."""
+    formatted(program, room, size="40000000")
+    put = put_of(16_000_000)
+    with served_in_time(program, room, 2) as (port, _):
+        with connected(port) as connection:
+            for piece in (put[:20], put[20:8_000_000], put[8_000_000:]):
+                connection.sendall(piece)
+                time.sleep(pause)
+            compare("the response", b"HTTP/1.1 201 Created\r\n", read_to_end(connection)[:22])
+        with connected(port) as connection:
+            connection.sendall(b"GET /resource/c " + HOST + b"\r\n")
+            time.sleep(pause)
+            ends_with(read_to_end(connection), put[-16_000_000:])
 
 
 @pytest.mark.parametrize("edge, settings", [
