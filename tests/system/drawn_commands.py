@@ -1,7 +1,8 @@
 """Run every kind of command on sources of every thousand and of random numbers of resources, and groups of every size.
 
 A group has puts of new names, second puts of a name, and deletions, in random order; names have random lengths. The
-test counts resources and changes itself to predict the answers, and publishes twice.
+test counts resources and changes itself to predict the answers, and publishes twice. Then it copies the source, or puts
+a resource over HTTP.
 """
 import math
 import pathlib
@@ -13,6 +14,8 @@ from dataclasses import dataclass, field
 from tests.disks import counted_disk, paged_disk
 from tests.program import CLOCK
 from tests.reading.crash_model import moment_text
+from tests.served_source import exchanged, served
+from tests.system.calls_of_commands import request
 
 MOST, MOST_IN_GROUP, STEP, LONGEST_NAME = 50_000, 16, 1_000, 240
 SECONDS = 300
@@ -52,12 +55,16 @@ class Count:
         self.dropped = max(self.dropped, self.published // counted_disk.LIMIT * counted_disk.LIMIT)
         self.published = self.made
 
+    def asked(self, line: str, answer: str) -> None:
+        """Add a line that changes nothing, and its answer."""
+        self.lines.append(line)
+        self.answers.append(f"{answer}\n")
+
     def status(self) -> None:
         """Ask for the counts."""
         last = moment_text(self.moment - 1)
-        self.lines.append("status")
-        self.answers.append(f"resources {self.resources} changes {self.made - self.dropped} "
-                            f"publication {self.publication} last {last}\n")
+        self.asked("status", f"resources {self.resources} changes {self.made - self.dropped} "
+                             f"publication {self.publication} last {last}")
 
 
 def items(draw: random.Random, count: int, resources: list[str]) -> tuple[list[str], int]:
@@ -93,18 +100,31 @@ def script(draw: random.Random, count: Count, resources: int, size: int) -> None
     count.status()
     count.publish()
     count.status()
+    count.asked("show /resource/made", "bytes 0\n")
+    count.asked("verify", f"verified {count.resources}")
     count.publish()
     count.status()
+
+
+def other_run(program: str, file: pathlib.Path, is_copy: bool) -> bytes:
+    """Copy the source, or put a resource over HTTP; return the beginning of the answer."""
+    if is_copy:
+        copy, size = file.with_suffix(".copy"), file.stat().st_size
+        copy.unlink(missing_ok=True)
+        finished = subprocess.run([program, "copy", file, copy, str(size)], capture_output=True, timeout=SECONDS)
+        return (finished.stdout + finished.stderr)[:7]
+    with served(program, file, 1) as port:
+        return exchanged(port, [request("PUT", "/resource/served", b"x")])[0][:13]
 
 
 def look(program: str, file: pathlib.Path, draw: random.Random, compare: Compare, part: int) -> None:
     """Run the commands on sources of every thousand of this part, and on some of random sizes."""
     thousands = [*range(STEP, MOST, STEP)][part::PARTS]
-    counts = sorted({*thousands, *(between(draw, MOST - MOST_IN_GROUP - 2) + 1 for _ in range(MOST_IN_GROUP // PARTS))})
+    counts = sorted({*thousands, *(between(draw, MOST - MOST_IN_GROUP - 3) + 1 for _ in range(MOST_IN_GROUP // PARTS))})
     sizes = draw.sample(range(1, MOST_IN_GROUP + 1), MOST_IN_GROUP)
     for number, resources in enumerate(counts):
         size = sizes[number % MOST_IN_GROUP]
-        limit = min(resources, MOST - size - 2)
+        limit = min(resources, MOST - size - 3)
         changes = limit if number % 4 else draw.randint(0, limit)
         file.write_bytes(counted_disk.spelled(resources, changes, MOST))
         count = Count(resources, changes, published=changes)
@@ -113,3 +133,5 @@ def look(program: str, file: pathlib.Path, draw: random.Random, compare: Compare
         finished = subprocess.run([program, "run", file], input=text.encode(), capture_output=True, timeout=SECONDS)
         what = f"{resources} resources, {changes} changes, a group of {size}"
         compare(what, "".join(["ok\n", *count.answers]).encode(), finished.stdout + finished.stderr)
+        wanted = b"copied " if number % 2 else b"HTTP/1.1 201 "
+        compare(f"{what}: another run", wanted, other_run(program, file, bool(number % 2)))

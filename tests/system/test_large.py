@@ -27,7 +27,7 @@ from tests.system.noted_calls import Room
 
 pytestmark = [pytest.mark.plain, pytest.mark.needs("cc"), pytest.mark.timeout(900)]
 
-COUNT, DAMAGED, GROUPED, LINE, BODY = 6_000, 25, 15, 5_000, 10_485_761
+COUNT, DAMAGED, GROUPED, LINE, BODY = 6_000, 2_900, 15, 5_000, 10_485_761
 # Room for two longest bodies.
 ROOM = 2 * BODY + 4_000_000
 SECONDS = 300
@@ -148,7 +148,7 @@ def test_many_damaged_bodies_are_named(program: str, room: Path) -> None:
     spoilt = bytearray(spelled()[0])
     for number in range(DAMAGED):
         # The bodies follow from block 2 on, ordered by name.
-        spoilt[(2 + 7 * number) * disk_judge.BLOCK] ^= 1
+        spoilt[(2 + 2 * number) * disk_judge.BLOCK] ^= 1
     file = room / "source.disk"
     file.write_bytes(spoilt)
     wanted = disk_runs.verified(state_on(bytes(spoilt)))

@@ -3,7 +3,9 @@
 Every line of a script is one packet of standard input, so that the program reads it by one call.
 """
 import contextlib
+import os
 import re
+import signal
 import socket
 import subprocess
 from collections.abc import Sequence
@@ -124,12 +126,18 @@ def served(program: str, file: str, requests: Sequence[bytes], failure: Failure 
     A request that finds no server has an empty response.
     """
     words = [*words_of(program, failure), "serve", file, "0", str(len(requests))]
-    with subprocess.Popen(words, stdout=subprocess.PIPE, stderr=subprocess.PIPE, env=env) as server:
-        assert server.stdout
-        line, responses = server.stdout.readline(), list[bytes]()
-        for request in requests if line else []:
-            with contextlib.suppress(ConnectionError):
+    with subprocess.Popen(words, stdout=subprocess.PIPE, stderr=subprocess.PIPE, env=env,
+                          start_new_session=True) as server:
+        try:
+            assert server.stdout
+            line, responses = server.stdout.readline(), list[bytes]()
+            for request in requests if line else []:
                 responses.append(b"")
-                responses[-1] = ask(int(line.rpartition(b":")[2]), request)
-        output, messages = server.communicate(timeout=SECONDS)
+                with contextlib.suppress(ConnectionError):
+                    responses[-1] = ask(int(line.rpartition(b":")[2]), request)
+            output, messages = server.communicate(timeout=SECONDS)
+        finally:
+            # (the program goes on without strace)
+            with contextlib.suppress(ProcessLookupError):
+                os.killpg(server.pid, signal.SIGKILL)
     return Run(server.returncode, line + output, messages, calls_of(Path("trace").read_text())), responses
