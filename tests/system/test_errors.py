@@ -34,7 +34,7 @@ LINES = [b"at 951782400000\n", b"put a 616263 text/plain\n", b"put b %s a/b\n" %
          b"show /resource/b\n", b"group 2\nput c 63 a/b\nput kept - a/b\n", b"delete a\n", b"publish\n",
          b"show /changelist.xml\n", b"status\n"]
 QUESTIONS = b"status\nshow /changelist.xml\nverify\n"
-# The calls that are made again if they are interrupted. A call of these other names does not wait.
+# The calls that are made again if they are interrupted.
 AGAIN = {"openat", "ftruncate", "fsync", "pread64", "pwrite64", "write", "sendto", "accept4"}
 # Calls on files.
 OF_FILES = {"openat", "statx", "flock", "ftruncate", "fsync", "fadvise64", "pread64", "pwrite64"}

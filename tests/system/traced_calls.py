@@ -16,12 +16,12 @@ from tests.program import SECONDS
 from tests.system.edge_runs import ask
 
 # The errors of each call: those of its manual page, and those that file systems and devices return. 0 is a call that
-# transfers no byte.
+# transfers no byte. (A signal interrupts no lock that does not wait.)
 ERRORS = {name: errors.split() for name, errors in {
     "openat": "EACCES EBADF EBUSY EDQUOT EEXIST EFAULT EFBIG EINTR EINVAL EIO EISDIR ELOOP EMFILE ENAMETOOLONG ENFILE "
               "ENODEV ENOENT ENOMEM ENOSPC ENOTDIR ENXIO EOPNOTSUPP EOVERFLOW EPERM EROFS ETXTBSY EAGAIN",
     "statx": "EACCES EBADF EFAULT EINVAL EIO ELOOP ENOENT ENOMEM ENOTDIR",
-    "flock": "EBADF EINTR EINVAL EIO ENOLCK EAGAIN EOPNOTSUPP",
+    "flock": "EBADF EINVAL EIO ENOLCK EAGAIN EOPNOTSUPP",
     "ftruncate": "EACCES EBADF EDQUOT EFBIG EINTR EINVAL EIO ENOSPC EPERM EROFS ETXTBSY",
     "fsync": "EBADF EDQUOT EINTR EINVAL EIO ENOSPC EROFS",
     "fadvise64": "EBADF EINVAL EIO ESPIPE",
