@@ -67,6 +67,12 @@ TABLE = (
         Status.UNUSABLE: "a file or folder cannot be read; or all was done, but some files were left out",
         Status.INTERRUPTED: GOES_ON,
     }),
+    declared("publish", "publish what a source holds, if something changed", "fill.publish",
+             ("papers", "--dry-run http://127.0.0.1:8080"), {
+        Status.DONE: "the Resource List has what the source holds",
+        Status.ENDED_EARLY: UNHELPFUL_SOURCE,
+        Status.UNUSABLE: "a file cannot be read",
+    }),
     declared("mirror", "mirror a source into a folder", "mirror.command",
              ("https://source.example.org /srv/mirror", "--dry-run https://source.example.org /srv/mirror"), {
         Status.DONE: "the folder equals the source at the printed moment",
@@ -177,6 +183,6 @@ TABLE = (
     }),
 )
 # The parts of the overview, and the names of their commands.
-GROUPS = {"serve": "new remove site size collection grow takeover", "fill": "fill", "mirror": "mirror check",
+GROUPS = {"serve": "new remove site size collection grow takeover", "fill": "fill publish", "mirror": "mirror check",
           "look after": "status health look why backup restore"}
 SUBCOMMANDS: Mapping[str, Subcommand] = {subcommand.name: subcommand for subcommand in TABLE}

@@ -31,6 +31,15 @@ def test_a_name_stands_for_the_source(papers: Server, room: Path) -> None:
     papers.holds(folder)
 
 
+def test_publish_publishes_what_changed(papers: Server, room: Path) -> None:
+    """A dry run publishes nothing; without a change there is no publication."""
+    status_of(here("fill", str(written(room / "folder", {"a": b"1"})), "papers", "--no-publish"), 0)
+    for _ in range(2):
+        status_of(here("publish", "papers", "--dry-run"), 0, "a publication of 1 resources is due; ")
+    status_of(here("publish", "papers"), 0, "published 1 ")
+    status_of(here("publish", papers.url), 0, "nothing changed since the publication of ")
+
+
 def test_status_reports_every_source(papers: Server, room: Path) -> None:
     """The exit status is the worst one; settings of other units are no source."""
     status_of(here("status"), 0, "papers: OK: 0 changes kept of 50,000, 0 resources held of 50,000, ")

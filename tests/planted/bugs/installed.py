@@ -59,13 +59,13 @@ OF_UNITS_AND_SITE = [
         "install::the_verification_fails_on_a_damaged_body",
     ),
     bug(
-        "publish always publishes", "operations/install/publish",
+        "publish always publishes", "operations/ropepeach/fill/publish.py",
         "if is_published:",
         "if False:",
         "install_units::publish_skips_a_publication_without_changes",
     ),
     bug(
-        "publish never publishes", "operations/install/publish",
+        "publish never publishes", "operations/ropepeach/fill/publish.py",
         "if is_published:",
         "if True:",
         "install_units::publish_skips_a_publication_without_changes",

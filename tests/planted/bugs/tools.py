@@ -250,6 +250,8 @@ NAMED_FILE = "cli/named.py"
 OF_NAMED = [
     bug("a source precedes a file of its name", NAMED_FILE, "settings is not None and os.path.lexists(text)", "False",
         "named::an_existing_file_precedes_the_source"),
+    bug("a dry run publishes", "fill/publish.py", "elif arguments.dry_run:", "elif False:",
+        "named::publish_publishes_what_changed"),
     bug("the best state of several sources counts", "health/status.py", "max(verdicts)", "min(verdicts)",
         "named::status_reports_every_source"),
     bug("health of a named source has no file", "health/command.py", "arguments.file or subject.file",
