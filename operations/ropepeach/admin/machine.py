@@ -12,6 +12,7 @@ from dataclasses import dataclass
 from pathlib import Path
 
 from ropepeach.admin import USER
+from ropepeach.admin.programs import run_to_end
 from ropepeach.admin.site_text import SOURCE_NAME
 from ropepeach.disk import formula
 from ropepeach.faults import Fault, Misused, Unusable
@@ -27,6 +28,8 @@ FIRST_PORT, LAST_PORT = 8080, 65_535
 TIMERS, ALL_TIMERS = ("health", "verify"), ("health", "verify", "publish", "fill")
 # The folders of units: those of the administrator, and those of this package.
 UNIT_FOLDERS = (Path("/etc/systemd/system"), Path(__file__).resolve().parents[3] / "systemd/system")
+# The drop-in of units that closes a port to other users: the administrator's, and that of this package.
+GUARDS = (SETTINGS_FOLDER / "guard.conf", Path(__file__).resolve().parents[4] / "share/ropepeach/guard.conf")
 
 
 @dataclass(frozen=True)
@@ -67,6 +70,11 @@ class Place:
             raise Misused(f"{name!r}: a name is 1 to 32 of a-z, 0-9 and -, and begins with a letter or digit")
         self.name, self.settings, self.cache = name, SETTINGS_FOLDER / f"{name}.env", CACHES / f"ropepeach-{name}"
         self.site, self.enabled_site = SITES_FOLDER / f"ropepeach-{name}", ENABLED_SITES / f"ropepeach-{name}"
+
+    @property
+    def guard(self) -> Path:
+        """Return the path of the drop-in that closes the port to other users."""
+        return UNIT_FOLDERS[0] / f"{self.unit()}.d/guard.conf"
 
     def unit(self, kind: str = "", ending: str = "service") -> str:
         """Return the name of a unit of this source, such as ropepeach-health@NAME.timer."""
@@ -116,6 +124,15 @@ def other_settings(name: str) -> dict[str, Settings]:
             with contextlib.suppress(Unusable):
                 others[path.stem] = Settings.read(path)
     return others
+
+
+def guard_text() -> str | None:
+    """Return the drop-in that closes a port to other users, or None without nftables or the drop-in."""
+    nft = shutil.which("nft", path=f"{os.environ.get('PATH', os.defpath)}:/usr/sbin")
+    # (only root may ask the kernel, which may lack nftables)
+    if nft is None or not os.geteuid() and run_to_end(nft, "list", "tables").returncode:
+        return None
+    return next((path.read_text() for path in GUARDS if path.is_file()), None)
 
 
 def is_free(port: int) -> bool:

@@ -43,6 +43,8 @@ def add_arguments(parser: argparse.ArgumentParser) -> None:
     parser.add_argument("--certificate", metavar="FILE", help="the certificate of the host (found by its name)")
     parser.add_argument("--key", metavar="FILE", help="its key (found by its name)")
     site.add_access_arguments(parser)
+    parser.add_argument("--no-guard", action="store_true",
+                        help="leave its port open to all users of this machine, and 127.0.0.0/8 a near network")
     parser.add_argument("--no-site", action="store_true", help="do not configure nginx")
     add_dry_run(parser)
 
@@ -63,6 +65,22 @@ def file_steps(path: Path, size: int, base: str, items: int) -> list[Action]:
         Program("its own name", as_user(user, "mv", "-n", "-T", fresh, file)),
         Program("the name on the disk", as_user(user, "sync", folder)),
     ]
+
+
+def guard_steps(place: machine.Place, is_wanted: bool) -> list[Action]:
+    """Return the steps that close the port of a new source to other users, or open it again."""
+    reload = Program("systemd, which takes it", ("systemctl", "daemon-reload"))
+    if not is_wanted:
+        opened = Program("its port, open to all users", ("rm", str(place.guard)))
+        return [opened, reload] if place.guard.exists() else []
+    # (an older source keeps its users)
+    if place.guard.exists() or place.known() is not None:
+        return []
+    text = machine.guard_text()
+    if text is None:
+        output.message("other users of this machine can change the source: there is no nftables here (or --no-guard)")
+        return []
+    return [Write("its port, closed to other users", place.guard, text), reload]
 
 
 def site_steps(place: machine.Place, text: str) -> list[Action]:
@@ -139,11 +157,12 @@ def settings_for(place: machine.Place, wanted_port: int | None) -> machine.Setti
     return machine.Settings(file, port)
 
 
-def site_text_of(settings: machine.Settings, arguments: argparse.Namespace) -> str | None:
-    """Return the text of the nginx site."""
+def site_text_of(settings: machine.Settings, arguments: argparse.Namespace, is_guarded: bool) -> str | None:
+    """Return the text of the nginx site. All users of this machine share its addresses: a guarded source has none."""
     if arguments.no_site:
         return None
-    made = site.site_for(argparse.Namespace(**vars(arguments) | {"port": settings.port}))
+    near = ["none"] if arguments.near is None and is_guarded else arguments.near
+    made = site.site_for(argparse.Namespace(**vars(arguments) | {"port": settings.port, "near": near}))
     if made.tls:
         certificate, key = tls_for(made.host, arguments.certificate, arguments.key)
         made = dataclasses.replace(made, tls=Tls(certificate, key, made.tls.depositors))
@@ -154,7 +173,8 @@ def plan_of(place: machine.Place, arguments: argparse.Namespace) -> tuple[machin
     """Check all requirements; return the settings of the source, and the steps that remain."""
     check_address(arguments.base, arguments.http)
     settings = settings_for(place, arguments.port)
-    text = site_text_of(settings, arguments)
+    guard = guard_steps(place, not arguments.no_guard)
+    text = site_text_of(settings, arguments, bool(guard or place.guard.exists()) and not arguments.no_guard)
     base = machine.base_of(settings.file)
     if base not in (None, arguments.base):
         raise Unusable(f"{settings.file}: the source there has the base {base}, which can't change: take another name")
@@ -167,6 +187,7 @@ def plan_of(place: machine.Place, arguments: argparse.Namespace) -> tuple[machin
         machine.check_room(folder, size + SPARE, "make room, or take a smaller --size")
         # (a source of this name that was removed may have left parts)
         steps += [*cache_steps(place.cache), *file_steps(settings.file, size, arguments.base, arguments.items)]
+    steps += guard
     if settings != place.known():
         steps.append(Write("the settings of its units", place.settings, settings.text()))
     # (this does not affect running units)

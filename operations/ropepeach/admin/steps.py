@@ -56,7 +56,8 @@ class Write:
 
     def shell(self) -> str:
         """Return the step as shell."""
-        return f"cat > {shlex.quote(str(self.path))} <<'{HEREDOC_END}'\n{self.text}{HEREDOC_END}"
+        folder, path = shlex.quote(str(self.path.parent)), shlex.quote(str(self.path))
+        return f"mkdir -p {folder}\ncat > {path} <<'{HEREDOC_END}'\n{self.text}{HEREDOC_END}"
 
     def do(self) -> None:
         """Do it. Raise a fault that names its purpose."""

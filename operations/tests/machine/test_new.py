@@ -32,7 +32,7 @@ def test_new_makes_a_source_behind_tls(machine: Machine) -> None:
     """The units run, all bytes of the file are reserved, and a second run makes no change."""
     certify(machine)
     started = time.monotonic()
-    machine.output("ropepeach", "new", "papers", "--base", BASE, "--size", "4MiB")
+    machine.output("ropepeach", "new", "papers", "--base", BASE, "--size", "4MiB", "--near", "127.0.0.0/8")
     machine.until(lambda: f"{BASE}/" in machine.run("curl", "-fsS", "--cacert", CERTIFICATE,
                                                     f"{BASE}/.well-known/resourcesync").stdout,
                   "the site answers")

@@ -109,7 +109,7 @@ class Machine:
     def tree(self) -> dict[str, tuple[int, int, bytes | str]]:
         """Return all files that may be changed, by path: mode, owner, and bytes or link target."""
         found: dict[str, tuple[int, int, bytes | str]] = {}
-        for folder in ("etc/ropepeach", "etc/nginx", "lib/ropepeach"):
+        for folder in ("etc/ropepeach", "etc/nginx", "etc/systemd", "lib/ropepeach"):
             for path in sorted((self.room / folder).rglob("*")):
                 status = path.lstat()
                 content: bytes | str = os.readlink(

@@ -72,6 +72,44 @@ def test_a_source_with_the_name_of_a_removed_one_has_an_empty_cache(program: str
                 (made.room / "lib/ropepeach/one.disk").unlink()
 
 
+def test_new_closes_the_port_to_other_users(program: str, room: Path) -> None:
+    """Where nftables is, a new source has the guard and no near address; an older source keeps its users."""
+    with machine(room / "m", program) as made:
+        drop_in = made.room / "etc/systemd/system/ropepeach@one.service.d/guard.conf"
+        site = made.room / "etc/nginx/sites-available/ropepeach-one"
+        make_nft(made, 0)
+        status_of(made.command(*TRY, "--dry-run"), 0, "daemon-reload", str(drop_in).removeprefix(str(made.room)))
+        status_of(made.command(*TRY), 0, "is served")
+        assert (drop_in.read_text(), near_of(site)) == ("[Service]\n", [])
+        calls = made.calls()
+        assert calls.index("daemon-reload") < next(n for n, call in enumerate(calls) if call.startswith("enable"))
+        status_of(made.command(*TRY, "--no-guard"), 0, "is served")
+        assert not drop_in.exists()
+        status_of(made.command(*TRY), 0, "is served")
+        assert not drop_in.exists(), "an older source is closed"
+
+
+def make_nft(made: Machine, status: int) -> None:
+    """Make an nft that ends with a status, and the drop-in of the guard."""
+    (made.room / "etc/ropepeach/guard.conf").write_text("[Service]\n")
+    (made.room / "bin/nft").write_text(f"#!/bin/sh\nexit {status}\n")
+    (made.room / "bin/nft").chmod(0o755)
+
+
+def near_of(site: Path) -> list[str]:
+    """Return the near addresses of a site."""
+    return [line.split()[0] for line in site.read_text().partition("}")[0].splitlines() if line.endswith(" 1;")]
+
+
+def test_new_without_nftables_says_that_other_users_can_change_the_source(program: str, room: Path) -> None:
+    """The source is made; --no-guard leaves the line out."""
+    with machine(room / "m", program) as made:
+        make_nft(made, 1)
+        assert "other users" not in status_of(made.command(*TRY, "--dry-run", "--no-guard"), 0)
+        status_of(made.command(*TRY), 0, "is served", "other users of this machine can change the source")
+        assert near_of(made.room / "etc/nginx/sites-available/ropepeach-one") == ["127.0.0.0/8", "::1"]
+
+
 def test_new_for_a_folder_makes_the_size_that_size_prints(program: str, room: Path) -> None:
     """The option is `--for FOLDER`."""
     folder = room / "folder"
@@ -194,6 +232,8 @@ def test_a_site_that_nginx_refuses_is_removed(program: str, room: Path) -> None:
 def test_the_script_of_a_dry_run_makes_the_same_source(program: str, room: Path) -> None:
     """`--dry-run` prints the script, and leaves the machine unchanged."""
     with machine(room / "a", program) as made, machine(room / "b", program) as other:
+        make_nft(made, 0)
+        make_nft(other, 0)
         before = made.tree()
         script = status_of(made.command(*TRY, "--dry-run"), 0)
         assert made.tree() == before and not made.calls(), "something was changed"
