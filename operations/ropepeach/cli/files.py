@@ -4,7 +4,9 @@ other file is opened; it is synced before it gets its name, so that readers see 
 from __future__ import annotations
 
 import contextlib
+import errno
 import os
+import stat
 from collections.abc import Iterator
 from typing import IO
 
@@ -59,9 +61,16 @@ def replaced(folder: int, name: str, fresh: str, within: int | None = None, is_n
 
 @contextlib.contextmanager
 def file_at(path: str | os.PathLike[str], is_new: bool = False, mode: int = 0o666) -> Iterator[IO[bytes]]:
-    """Yield a new file, which gets the path at the end of the `with` block, in place of an older file or link."""
+    """Yield a new file, which gets the path at the end of the `with` block, in place of an older file or link.
+
+    It replaces no device, pipe or folder.
+    """
     above, name = os.path.split(os.path.abspath(path))
     with opened_folder(above) as folder:
+        with contextlib.suppress(FileNotFoundError):
+            mode_there = os.stat(name, dir_fd=folder, follow_symlinks=False).st_mode
+            if not stat.S_ISREG(mode_there) and not stat.S_ISLNK(mode_there):
+                raise FileExistsError(errno.EEXIST, "there is something else than a file", name)
         with replaced(folder, name, f"{name}.{os.urandom(8).hex()}.new", is_new=is_new, mode=mode) as file:
             yield file
 

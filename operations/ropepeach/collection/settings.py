@@ -163,3 +163,5 @@ def settings_in(path: str) -> dict[str, Any]:
         raise Unusable(f"{path}: cannot be read: {fault.strerror}") from None
     except (tomllib.TOMLDecodeError, UnicodeDecodeError) as fault:
         raise Misused(f"{path}: is no TOML: {fault}") from None
+    except RecursionError:
+        raise Misused(f"{path}: its lists are too deep") from None

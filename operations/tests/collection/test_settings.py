@@ -260,6 +260,13 @@ def test_the_manual_page_has_the_options_and_statuses_of_its_command(name: str) 
     page_of(name)
 
 
+def test_a_file_of_deep_lists_is_refused(room: pathlib.Path) -> None:
+    """The message is one line."""
+    pathlib.Path("c.toml").write_text("a = " + "[" * 100_000)
+    status, _, messages = ropepeach("collection", "c.toml")
+    assert (status, messages) == (2, "ropepeach collection: c.toml: its lists are too deep\n")
+
+
 def test_a_folder_that_nginx_would_not_take_is_refused(room: pathlib.Path) -> None:
     """Its path is in the site."""
     pathlib.Path("c.toml").write_text(settings(1))

@@ -6,7 +6,7 @@ import re
 import stat
 import subprocess
 import tempfile
-from collections.abc import Iterator
+from collections.abc import Callable, Iterator
 from pathlib import Path
 
 import pytest
@@ -140,6 +140,17 @@ def test_a_picture_replaces_a_planted_link(program: str, room: Path) -> None:
         status_of(here("look", "a.disk", "--picture", "map.svg"), 0)
         assert Path("victim").read_text() == "root's"
         assert (Path("map.svg").is_symlink(), Path("map.svg.new").is_symlink()) == (False, True)
+
+
+@pytest.mark.parametrize("make", [os.mkfifo, os.mkdir])
+def test_a_pipe_or_a_folder_is_not_replaced(program: str, room: Path, make: Callable[[str], None]) -> None:
+    """Nor is a device, such as /dev/null."""
+    with surroundings(room, program):
+        make("map.svg")
+        before = os.stat("map.svg")
+        done = here("look", "a.disk", "--picture", "map.svg")
+        assert (done.returncode, done.stderr.count("\n")) == (3, 1), done
+        assert os.path.samestat(before, os.stat("map.svg"))
 
 
 def test_a_failed_write_leaves_the_old_file_and_no_other(room: Path) -> None:
