@@ -149,6 +149,28 @@ def test_no_resource_replaces_a_file_of_the_page(look: Looked) -> None:
         assert request(port, "POST", "/")[0] == 405
 
 
+def test_a_person_gets_a_page_where_nothing_is_held(look: Looked) -> None:
+    """A client that names text/html gets a page with the name and a search for it; others get the program's word."""
+    name = "a%22%3Cb/%C3%BC'&c"
+    with look.source(lambda port: put(port, "held.txt", b"held")) as (base, _, _):
+        port = int(base.rpartition(":")[2])
+        for accept in ("*/*", ""):
+            status, fields, body = request(port, "GET", f"/resource/{name}", Accept=accept)
+            assert (status, body, fields["Vary"]) == (404, b"NotHeld\n", "Accept"), accept
+        status, fields, body = request(port, "GET", f"/resource/{name}", Accept="text/html,*/*;q=0.8")
+        assert (status, fields["Content-Type"].partition(";")[0], fields["Vary"]) == (404, "text/html", "Accept")
+        page = body.decode()
+        assert "a%22%3Cb/%C3%BC" in page and "'&c" not in page
+        assert "default-src 'none'" in (fields["Content-Security-Policy"] or "")
+        status, fields, body = request(port, "GET", "/resource/held.txt", Accept="text/html")
+        assert (status, body, fields["Content-Security-Policy"], fields["Vary"]) == (200, b"held", "sandbox", None)
+        assert request(port, "GET", "/site/missing.html")[0] == 404
+        look.chromium.driver.get(f"{base}/resource/none/M%C3%BCller")
+        look.chromium.run("document.querySelector('a').click()")
+        look.chromium.equals("#search=none/M%C3%BCller", "return location.hash")
+        look.chromium.equals("none/Müller", "return document.querySelector('[data-part=search]')?.value ?? ''")
+
+
 def test_changes_and_the_end_of_a_source_are_shown(look: Looked) -> None:
     """The page polls: it shows new changes, and keeps the last figures after the program ends."""
     browser = look.chromium

@@ -279,14 +279,14 @@ OF_DOORS = [
     ),
     bug(
         "a visitor gets five bodies at a time", "operations/install/ropepeach.nginx",
-        "rp_source_visitors 4;",
-        "rp_source_visitors 5;",
+        "retry)\n        limit_conn            rp_source_visitors 4;",
+        "retry)\n        limit_conn            rp_source_visitors 5;",
         "install_doors::a_visitor_gets_four_bodies_at_a_time",
     ),
     bug(
         "a visitor gets three bodies at a time", "operations/install/ropepeach.nginx",
-        "rp_source_visitors 4;",
-        "rp_source_visitors 3;",
+        "retry)\n        limit_conn            rp_source_visitors 4;",
+        "retry)\n        limit_conn            rp_source_visitors 3;",
         "install_doors::a_visitor_gets_four_bodies_at_a_time",
     ),
     bug(

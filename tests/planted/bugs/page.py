@@ -96,6 +96,8 @@ OF_SOURCES = [
         "default                  \"\";", "program::no_body_runs_in_the_browser"),
     bug("the policy of the page allows inline scripts", "ropepeach.nginx", "script-src $own;",
         "script-src $own 'unsafe-inline';", "program::no_body_runs_in_the_browser"),
+    bug("every client gets a page where nothing is held", "ropepeach.nginx", "    default                       0;\n    \"~*^(GET",
+        "    default                       1;\n    \"~*^(GET", "program::a_person_gets_a_page_where_nothing_is_held"),
     bug("the site takes a decoded name for the page", "ropepeach.nginx", "map $request_uri $rp_source_page {",
         "map $uri $rp_source_page {", "program::no_resource_replaces_a_file_of_the_page"),
     bug("the page does not read the lists of an open source again", "main.js", ": this.panels) await it.read();",
