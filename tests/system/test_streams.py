@@ -28,11 +28,16 @@ class Talk(NamedTuple):
     process: subprocess.Popen[bytes]
     output: IO[bytes]
 
+    def send(self, data: bytes) -> None:
+        """Send bytes, of which a script that has ended reads none."""
+        assert self.process.stdin
+        with contextlib.suppress(BrokenPipeError):
+            self.process.stdin.write(data)
+            self.process.stdin.flush()
+
     def ask(self, lines: bytes) -> bytes:
         """Send lines and then `status`; return all output up to its answer, or before a wait of SECONDS."""
-        assert self.process.stdin
-        self.process.stdin.write(lines + b"status\n")
-        self.process.stdin.flush()
+        self.send(lines + b"status\n")
         found = b""
         while not found.rpartition(b"\n")[0].rpartition(b"\n")[2].startswith(b"resources "):
             is_ready = select.select([self.output], [], [], SECONDS)[0]
@@ -58,9 +63,8 @@ def talk(program: str, *words: str) -> Iterator[Talk]:
 def test_a_script_of_300_mib_is_read_to_its_end(program: str, room: Path) -> None:
     file = formatted(program, room)
     with talk(program, "run", file) as conversation:
-        assert conversation.process.stdin
         for _ in range(300):
-            conversation.process.stdin.write(b"x" * MIB)
+            conversation.send(b"x" * MIB)
         found = conversation.ask(b"\nput a 61 a/b\n")
     assert [line.split(b" ")[0] for line in found.splitlines()] == [b"refused", b"created", b"resources"]
 
