@@ -61,6 +61,10 @@ class Transfer:
     def take(self, piece: bytes) -> None:
         """Take the next bytes of the body, up to 1.6 MiB. A `Fault` ends this transfer."""
 
+    def longest(self, response: Response) -> int:
+        """Return the most bytes of a body with this head, as they are sent."""
+        return self.limit
+
     def redirect(self, response: Response) -> str | None:
         """Return the URL to follow, or None if the redirect is the result. A `Fault` ends this transfer."""
         return None
@@ -87,6 +91,7 @@ class Job:
         """Begin an attempt."""
         self.response: Response | None = None
         self.size, self.streamed, self.sent, self.started = 0, 0, 0, time.monotonic()
+        self.limit = self.transfer.limit
         self.handle.begin(self.transfer, self.url, route)
 
     def has_come(self) -> bool:
@@ -110,17 +115,17 @@ class Job:
         if self.response is None:
             self.response = self.handle.response()
             if self.response.status < 300:
-                length = self.handle.length()
-                if length > self.transfer.limit and self.transfer.method != "HEAD":
-                    raise Long(f"{self.what}: the answer has {length:,} bytes, more than {self.transfer.limit:,}")
+                length, self.limit = self.handle.length(), self.transfer.longest(self.response)
+                if length > self.limit and self.transfer.method != "HEAD":
+                    raise Long(f"{self.what}: the answer has {length:,} bytes, more than {self.limit:,}")
                 self.transfer.begin(self.response)
         return self.response
 
     def take(self) -> None:
         """Take the head, and the received bytes of the body."""
         if self.head().status < 300:
-            if self.size > self.transfer.limit:
-                raise Long(f"{self.what}: the answer has more than {self.transfer.limit:,} bytes")
+            if self.size > self.limit:
+                raise Long(f"{self.what}: the answer has more than {self.limit:,} bytes")
             if self.size > self.streamed and not self.transfer.is_kept:
                 self.streamed = self.size
                 self.transfer.take(self.handle.taken())

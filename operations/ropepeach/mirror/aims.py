@@ -7,14 +7,14 @@ a baseline if no Change List has all changes since the last run, or if a source 
 from __future__ import annotations
 
 import dataclasses
-from collections.abc import Iterable, Iterator, Mapping
+from collections.abc import Iterable, Iterator, Mapping, Sequence
 from typing import TYPE_CHECKING, cast
 
 from ropepeach.faults import Fault
 from ropepeach.mirror.folder import Folder
 from ropepeach.mirror.state import State
 from ropepeach.resync.facts import Check, Facts, check_of, date_of
-from ropepeach.resync.lists import Changes, Entry, Source, StrictRule, kept
+from ropepeach.resync.lists import Changes, Entry, Gone, Source, StrictRule, kept
 from ropepeach.resync.moments import moment_text
 
 if TYPE_CHECKING:
@@ -37,7 +37,8 @@ class Aim:
     """The aim of a run: baseline or increment, the wanted entry of every name, and the state at its end.
 
     `moment` is that of the folder, if the lists have one. `passed` counts the skipped entries; `spared` has the names
-    of files that stay, because their entries may be among these. `rule` is the first broken rule.
+    of files that stay, because their entries may be among these. `rule` is the first broken rule. `dead` has the
+    faults of lists that are gone, while the run goes by the others.
     """
 
     way: str
@@ -47,6 +48,7 @@ class Aim:
     passed: Mapping[str, int] = dataclasses.field(default_factory=dict)
     spared: set[str] = dataclasses.field(default_factory=set)
     rule: StrictRule | None = None
+    dead: Sequence[Gone] = ()
 
 
 class Aims:
@@ -82,8 +84,10 @@ class Aims:
         """
         raise NotImplementedError
 
-    def supplies(self) -> Iterator[tuple[bool, Iterator[Archive]]]:
-        """Return the dumps of bodies: whether a dump is the list, and its archives."""
+    def supplies(self) -> Iterator[tuple[bool | None, Iterator[Archive]]]:
+        """Return the dumps of bodies: the archives, and whether the dump is the list of changes (True), of resources
+        (False), or neither (None).
+        """
         return iter(())
 
     def patterns(self) -> str:

@@ -3,15 +3,17 @@ from __future__ import annotations
 
 import os
 import re
+import zlib
 from collections.abc import Sequence
 
 from ropepeach.faults import Fault, Long
+from ropepeach.http.coding import CODINGS, Decoder, coding_of
 from ropepeach.http.response import Response, error_text
 from ropepeach.http.transfers import Result, Transfer
 from ropepeach.mirror.catalogue import Row
 from ropepeach.mirror.folder import Folder
 from ropepeach.resync.asking import LONGEST_RESOURCE, NOT_MODIFIED, Redirects
-from ropepeach.resync.facts import Facts, Measure, algorithms_for, has_length, length_of
+from ropepeach.resync.facts import Facts, Measure, algorithms_for, has_digest, has_length, length_of
 from ropepeach.resync.lists import Entry, Unheld
 
 # The forms of an `ETag` and a `Last-Modified` that later requests send back to the source (RFC 9110).
@@ -27,6 +29,9 @@ class Fetch(Transfer):
     """
 
     path, file = "", -1
+    # The measure of a coded body as it is sent, while its file gets the unpacked bytes.
+    coded: Measure | None = None
+    decoder: Decoder | None = None
 
     def __init__(self, url: str, entry: Entry, folder: Folder, redirects: Redirects | None = None,
                  known: Row | None = None) -> None:
@@ -39,17 +44,58 @@ class Fetch(Transfer):
         """Begin with an empty file."""
         self.drop()
         self.path, self.file = self.folder.incoming_file()
-        self.measure = Measure(algorithms_for(self.choices))
+        self.measure, self.coded, self.decoder = Measure(algorithms_for(self.choices)), None, None
+        coding = coding_of(response) if response is not None and self.redirects is not None else ""
+        if coding in CODINGS:
+            self.coded, self.decoder = Measure(algorithms_for(self.choices)), Decoder(coding)
+        elif coding and not all(map(has_digest, self.choices)):
+            raise Unheld(f"{self.url}: refused, as its Content-Encoding is {coding[:100]!r}: gzip and deflate are read")
+
+    def longest(self, response: Response) -> int:
+        """Return the most bytes of a body; a packed form of few bytes is longer than they are."""
+        return self.limit + (self.limit // 1_000 + 1_024 if self.redirects is not None and coding_of(response) else 0)
 
     def take(self, piece: bytes) -> None:
         """Take the next piece of the body."""
+        if self.coded is None or self.decoder is None:
+            self.write(piece)
+            return
+        if not self.coded.size and not piece.startswith(self.decoder.front):
+            # (it only claims to be packed)
+            self.coded = None
+            self.write(piece)
+            return
+        self.coded.take(piece)
+        try:
+            for unpacked in self.decoder.pieces(piece):
+                self.write(unpacked)
+                if self.measure.size > LONGEST_RESOURCE:
+                    raise Unheld(f"{self.url}: refused, as it unpacks to more than {LONGEST_RESOURCE:,} bytes")
+        except zlib.error as fault:
+            raise Unheld(f"{self.url}: can't be unpacked: {fault}") from None
+
+    def write(self, piece: bytes) -> None:
+        """Write bytes to the file."""
         self.measure.take(piece)
         while piece:
             piece = piece[os.write(self.file, piece):]
 
+    def end(self) -> None:
+        """Write the last unpacked bytes of a coded body."""
+        if self.coded is not None and self.coded.size and self.decoder is not None:
+            try:
+                self.write(self.decoder.rest())
+            except zlib.error as fault:
+                raise Unheld(f"{self.url}: can't be unpacked: {fault}") from None
+
     def fits(self) -> bool:
         """Return whether the body fits its entry."""
-        return any(map(self.measure.fits, self.choices))
+        return any(map(self.measure.fits, self.choices)) or self.is_listed_coded()
+
+    def is_listed_coded(self) -> bool:
+        """Return whether the entry has the length and the digests of the coded body, and not of the unpacked one."""
+        return (self.coded is not None and any(map(self.coded.fits, self.choices))
+                and not any(map(self.measure.fits, self.choices)))
 
     def keep(self) -> None:
         """Give the resource this body."""
@@ -95,6 +141,7 @@ class Fetch(Transfer):
             self.redirects.checked(result)
         elif result.status != 200:
             raise Unheld(f"{self.url}: {error_text(result)}")
+        self.end()
         if not self.fits():
             raise Unheld(f"{self.url}: has other bytes than listed")
         return result

@@ -213,7 +213,10 @@ def run(arguments: argparse.Namespace, address: str, limits: Limits) -> int:
         if arguments.dry_run:
             return foretold(arguments, parts, whole, limits)
         whole = whole or Whole(path, client.address)
-        status = once(arguments, client, parts, whole, limits)
+        try:
+            status = once(arguments, client, parts, whole, limits)
+        finally:
+            whole.drop_if_empty()
         if status is not None:
             return status
     raise Fault("the Source Description names other sources again and again")

@@ -33,6 +33,7 @@ from ropepeach.resync import filters
 from ropepeach.resync.lists import DESCRIPTION_PATH
 
 if TYPE_CHECKING:
+    from ropepeach.mirror.aims import Aim
     from ropepeach.mirror.engine import Engine
 
 # The values of --require, the strongest last (facts.py, report.py).
@@ -83,6 +84,8 @@ def add_arguments(parser: argparse.ArgumentParser) -> None:
     parser.add_argument("--host", action="append", default=[], metavar="HOST",
                         help="take also lists and resources of this host, as example.org or example.org:8080 "
                              "(only those of the URL's host)")
+    parser.add_argument("--ignore-missing", action="store_true",
+                        help="exit with status 0 although listed resources of a source of other software are gone")
     parser.add_argument("--dumps", action="store_true",
                         help="take bodies from the source's dumps, where the lists have a digest of them")
     # (accepted as before; the form of the source decides)
@@ -171,9 +174,20 @@ def brought(engine: Engine, arguments: argparse.Namespace) -> int:
         raise
     describe(engine, aim)
     engine.events.hand_over()
+    return status_after(engine, aim, arguments.ignore_missing)
+
+
+def status_after(engine: Engine, aim: Aim, ignores_missing: bool) -> int:
+    """Name the lists and resources that are gone, and the files that stay. Return the exit status."""
+    faults = [*aim.dead, *engine.missing.values()]
+    for why in faults[:NAMED_SPARED]:
+        output.message(str(why))
+    if len(faults) > NAMED_SPARED:
+        output.message(f"and {len(faults) - NAMED_SPARED:,} more")
+    is_missing = aim.dead or (engine.missing and not ignores_missing)
     if not aim.spared:
-        return Status.DONE
+        return Status.ENDED_EARLY if is_missing else Status.DONE
     more = f" and {len(aim.spared) - NAMED_SPARED:,} more" if len(aim.spared) > NAMED_SPARED else ""
-    output.message(f"{len(aim.spared):,} files stay, as entries of theirs may be among those that were passed over: "
+    output.message(f"{len(aim.spared):,} files stay, as their entries may be among those that were not read: "
                    f"{', '.join(sorted(aim.spared)[:NAMED_SPARED])}{more}")
     return Status.ENDED_EARLY

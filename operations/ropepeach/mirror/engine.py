@@ -6,7 +6,7 @@ rows of files before the moment that covers them. It looks up missing resources 
 from __future__ import annotations
 
 import time
-from collections.abc import Iterator
+from collections.abc import Iterator, Mapping
 
 from ropepeach.cli import output
 from ropepeach.cli.progress import Progress
@@ -31,6 +31,8 @@ from ropepeach.resync.lists import Dropped, Entry, Gone, StrictRule, Unheld
 RUNS = 10
 # The number of changes after which the catalogue is saved, and the most resources that a fault names.
 UNSAVED, NAMED_FAULTS = 2_000, 20
+# The most missing resources that a state remembers.
+MOST_MISSING = 1_000
 # The checks of rows that no digest proves.
 WEAK = {Check.NOTHING.value, Check.LENGTH.value}
 # The cause and the remedy of a resource that is not as listed.
@@ -53,6 +55,8 @@ class Engine:
         # How many files of earlier runs go; the changes since the catalogue was saved, and how many may be.
         self.lost = self.unsaved = self.saved = 0
         self.wanted: Wanted = {}
+        # The faults of the resources that are gone, which the next run requests again.
+        self.missing: Mapping[str, Fault] = {}
         # Whether the folder had no files, and has no files of a first pass.
         self.way, self.is_blank = "", False
 
@@ -296,15 +300,18 @@ class Engine:
                 output.message(f"{self.folder.path}: the last files have no records: {why}")
 
     def end(self, aim: Aim, wrong: dict[str, Unheld]) -> None:
-        """Write the new state; a run that lacks a resource keeps the old one."""
-        if wrong:
+        """Write the new state; a run that lacks a resource keeps the old one, unless a lenient run remembers it."""
+        is_lenient = self.hosts is not None and len(wrong) <= MOST_MISSING
+        if wrong and not (is_lenient and all(isinstance(why, Gone) for why in wrong.values())):
             self.save()
             more = [f"and {len(wrong) - NAMED_FAULTS:,} more"] if len(wrong) > NAMED_FAULTS else []
             raise Fault(*list(wrong.values())[:NAMED_FAULTS], *more, MEANWHILE)
         if aim.way == BASELINE:
             self.forget_others(aim)
         self.save(is_end=True)
-        self.folder.remember(aim.state)
+        self.missing = wrong
+        missing = {name: kept for name in wrong if isinstance(kept := self.wanted[name], Entry)}
+        self.folder.remember(aim.state._replace(missing=missing or None))
 
     def forget_others(self, aim: Aim) -> None:
         """Forget the rows of files that are neither in a baseline's lists nor in the folder."""
@@ -322,7 +329,7 @@ class Engine:
         for is_list, archives in self.aims.supplies():
             lacking = dict[str, Fetch]()
             for entry in entries_in(due):
-                if entry.name not in done and (is_list or has_digest(entry.choices[0])):
+                if entry.name not in done and (bool(entry.change) is is_list or has_digest(entry.choices[0])):
                     fetch = self.request(entry)
                     if fetch is None:
                         done.add(entry.name)

@@ -209,7 +209,7 @@ class Folder(Contents):
             os.remove(path, dir_fd=self.enter_incoming())
 
     def take(self, path: str, name: str, size: int) -> None:
-        """Give a name a file of `#incoming` that is closed; `settle` puts it in its place."""
+        """Give a name a file of `#incoming` that is closed; `place_all` puts it in its place."""
         self.written.append((path, name))
         self.size += size
         if len(self.written) >= BATCH or self.size >= BATCH_BYTES:

@@ -6,7 +6,7 @@ have come. Several Capability Lists make one folder, and every Change List has i
 from __future__ import annotations
 
 import collections
-from collections.abc import Iterator
+from collections.abc import Iterator, Sequence
 
 from ropepeach.cli import output
 from ropepeach.faults import Fault
@@ -19,7 +19,7 @@ from ropepeach.resync.asking import Asking
 from ropepeach.resync.discovery import Discovery, Lists
 from ropepeach.resync.dumps import Archive, Dumps
 from ropepeach.resync.facts import has_digest
-from ropepeach.resync.lenient import LatestChanges, Reading, earliest
+from ropepeach.resync.lenient import LatestChanges, Reading, earliest, end_of
 from ropepeach.resync.lists import Dropped, Entry, Gone, StrictRule, Unheld
 from ropepeach.resync.moments import Moment, clamped, moment_in
 
@@ -39,6 +39,7 @@ class LenientAims(Aims):
         self.claimed = claimed
         self.address, self.asking, self.catalogue, self.has_dumps = address, asking, catalogue, has_dumps
         self.dumps, self.found = Dumps(asking), list[Lists]()
+        self.discovery = Discovery(asking)
 
     def positions(self) -> dict[str, Position]:
         """Return the positions in the Change Lists; they are empty if the records of the files were lost."""
@@ -54,7 +55,7 @@ class LenientAims(Aims):
         return self.catalogue.known.passed() if state.lists is None else dict(state.passed or {})
 
     def aim(self, is_baseline: bool) -> Aim:
-        lists = self.found = Discovery(self.asking).lists_at(self.address)
+        lists = self.found = self.discovery.lists_at(self.address)
         if not is_baseline:
             try:
                 return self.increment(lists)
@@ -66,15 +67,17 @@ class LenientAims(Aims):
         """Return the changes since the last run. Raise Dropped if no list has them."""
         before = self.positions()
         names = [group.changes for group in lists if group.changes is not None]
-        if len(names) < len(lists) or set(names) != set(before):
+        has_all = set(names) <= set(before) if self.discovery.dead else set(names) == set(before)
+        if len(names) < len(lists) or not has_all:
             raise Dropped("not every set of resources has a Change List that was read before")
         reading, read = Reading(self.asking), dict[str, LatestChanges]()
-        wanted: Wanted = {}
-        for name in names:
+        wanted: Wanted = dict(self.state.missing or {})
+        for group in lists:
+            name = str(group.changes)
             since, latest = moment_in(before[name].since), moment_in(before[name].latest)
             if since is None:
                 raise Dropped("the state has a malformed moment")
-            changes = read[name] = reading.changes(name, since)
+            changes = read[name] = self.changes(group, since, reading)
             if latest is not None and (changes.latest is None or changes.latest.is_before(latest)):
                 raise Dropped(f"{name}: has lost changes since it was read")
             merge(wanted, changes.entries)
@@ -86,14 +89,19 @@ class LenientAims(Aims):
         return self.aimed(INCREMENTAL, self.filtered(wanted), read, moment, passed, rule)
 
     def aimed(self, way: str, wanted: Wanted, read: dict[str, LatestChanges], moment: Moment | None,
-              passed: collections.Counter[str], rule: StrictRule | None, spared: set[str] | None = None) -> Aim:
+              passed: collections.Counter[str], rule: StrictRule | None, spared: set[str] | None = None,
+              dead: Sequence[Gone] = ()) -> Aim:
         """Return the aim with these positions in Change Lists."""
         lists = {name: Position(str(clamped(changes.newest)), str(changes.latest or ""))
                  for name, changes in read.items()}
+        dead = [*self.discovery.dead, *dead]
+        if dead and lists:
+            # (the files of these lists stay)
+            lists = self.positions() | lists
         text = None if moment is None else str(moment)
         state = self.state._replace(until=text, newest=text, mark=None, filters=self.patterns(), lists=lists,
                                     passed=dict(passed))
-        return Aim(way, wanted, state, text, passed, spared or set(), rule)
+        return Aim(way, wanted, state, text, passed, spared or set(), rule or (StrictRule.HELD if dead else None), dead)
 
     def baseline(self, lists: list[Lists]) -> Aim:
         """Return the entries of the Resource Lists, with the changes after them."""
@@ -110,33 +118,66 @@ class LenientAims(Aims):
         """Return the entries of all lists. Raise Dropped or Gone if lists do not meet and `has_more` readings follow;
         the last reading leaves out the changes.
         """
-        reading, read = Reading(self.asking), dict[str, LatestChanges]()
-        wanted: Wanted = {}
+        reading, read = Reading(self.asking, is_baseline=True), dict[str, LatestChanges]()
+        reading.dead = None if has_more else []
+        merged = Merged()
         moments: list[Moment | None] = []
         for group in lists:
-            at, entries = (self.dumps.resources(group.resources, reading) if group.is_dump
-                           else reading.resources(group.resources))
             try:
-                changes = None if group.changes is None or at is None else reading.changes(group.changes, at)
+                at, entries = (self.dumps.resources(group.resources, reading) if group.is_dump
+                               else reading.resources(group.resources))
+            except Gone as why:
+                if reading.dead is None or len(lists) == 1:
+                    raise
+                reading.dead.append(why)
+                continue
+            try:
+                since = at or self.newest(group, entries)
+                changes = None if group.changes is None or since is None else self.changes(group, since, reading)
             except (Dropped, Gone) as why:
                 if has_more:
                     raise
                 output.message(f"{why}: the run goes by the Resource List")
                 changes = None
+            merged.add(entries, at)
             if group.changes is not None and changes is not None:
                 read[group.changes] = changes
-                entries |= changes.entries
-            moments.append(at if changes is None else clamped(changes.newest))
-            merge(wanted, entries)
+                merged.add(changes.entries, changes.newest)
+            moments.append(at if changes is None or at is None else clamped(changes.newest))
             self.check_claim(entries)
+        self.check_passed(reading, merged.wanted)
         if None in moments:
             reading.fail(StrictRule.DATED)
         moment = None if None in moments else earliest(moments)
-        if len(read) < len(lists) or reading.rule is StrictRule.ORDERED:
+        if len(read) + len(reading.dead or ()) < len(lists) or reading.rule is StrictRule.ORDERED:
             read = {}
-        wanted = self.filtered(wanted)
+        wanted = self.filtered(merged.wanted)
         spared = self.spared(reading, wanted)
-        return self.aimed(BASELINE, wanted, read, moment, reading.passed, reading.rule, spared)
+        return self.aimed(BASELINE, wanted, read, moment, reading.passed, reading.rule, spared, reading.dead or ())
+
+    def newest(self, group: Lists, entries: dict[str, Entry]) -> Moment | None:
+        """Return the newest moment of the entries of a list without `at`, whose changes are taken from then on."""
+        moments = [moment for entry in entries.values() if (moment := moment_in(entry.moment)) is not None]
+        if not moments or group.changes is None:
+            return None
+        self.asking.note(group.resources, "has no `at`: the run takes the changes since its newest moment, and "
+                                          "the next run is a baseline")
+        return max(moments, key=lambda moment: moment.first)
+
+    def changes(self, group: Lists, since: Moment, reading: Reading) -> LatestChanges:
+        """Return the changes of a set since a moment."""
+        assert group.changes is not None
+        if group.is_change_dump:
+            return self.dumps.changes(group.changes, since, reading)
+        return reading.changes(group.changes, since)
+
+    def check_passed(self, reading: Reading, wanted: Wanted) -> None:
+        """End a run that would skip all entries."""
+        if wanted or not reading.passed.total():
+            return
+        reasons = ", ".join(f"{count:,} {why}" for why, count in sorted(reading.passed.items()))
+        remedy = f"; --host {reading.first_elsewhere} allows the first host" if reading.first_elsewhere else ""
+        raise Fault(f"{self.address}: all entries of its lists were passed over: {reasons}{remedy}")
 
     def check_claim(self, entries: dict[str, Entry]) -> None:
         """End a run whose lists have the form of a Ropepeach again."""
@@ -152,8 +193,9 @@ class LenientAims(Aims):
         for name in self.all_others():
             if name in wanted:
                 continue
-            is_unread = reading.passed["no address"] and self.catalogue.known.row(name) is not None
-            if name in reading.elsewhere or is_unread:
+            is_doubtful = reading.passed["no address"] or reading.dead or self.discovery.dead
+            is_unread = is_doubtful and self.catalogue.known.row(name) is not None
+            if end_of(name) in reading.elsewhere or is_unread:
                 spared.add(name)
             else:
                 wanted[name] = None
@@ -177,13 +219,33 @@ class LenientAims(Aims):
         return state._replace(lists={name: Position(since.since, lists[name].latest) for name, since in before.items()},
                               passed=self.passed())
 
-    def supplies(self) -> Iterator[tuple[bool, Iterator[Archive]]]:
+    def supplies(self) -> Iterator[tuple[bool | None, Iterator[Archive]]]:
         before = {name: moment_in(position.since) for name, position in self.positions().items()}
         for group in self.found:
             since = before.get(group.changes or "")
-            dump = group.dump if since is None or group.is_dump else group.change_dump
-            if dump is not None and (self.has_dumps or group.is_dump):
-                yield group.is_dump, self.dumps.of(dump, None if dump == group.dump else since)
+            if since is None and group.dump is not None and (self.has_dumps or group.is_dump):
+                yield False if group.is_dump else None, self.dumps.of(group.dump, None)
+            if group.change_dump is not None and (self.has_dumps or group.is_change_dump):
+                yield True if group.is_change_dump else None, self.dumps.of(group.change_dump, since)
+
+
+class Merged:
+    """The entries of several sets of lists. Of two entries of one resource the newer one counts, by their moments; if
+    one has no moment, by those of their lists.
+    """
+
+    def __init__(self) -> None:
+        self.wanted: Wanted = {}
+        self.dates: dict[str, Moment | None] = {}
+
+    def add(self, entries: dict[str, Entry], at: Moment | None) -> None:
+        """Add the entries of a list of a moment."""
+        for name, entry in entries.items():
+            other = self.wanted.get(name)
+            if isinstance(other, Entry) and (is_older(entry, other) if entry.moment and other.moment
+                                             else is_earlier(at, self.dates[name])):
+                continue
+            self.wanted[name], self.dates[name] = entry, at
 
 
 def merge(wanted: Wanted, entries: dict[str, Entry]) -> None:
@@ -193,7 +255,12 @@ def merge(wanted: Wanted, entries: dict[str, Entry]) -> None:
             wanted[name] = entry
 
 
+def is_earlier(one: Moment | None, other: Moment | None) -> bool:
+    """Return whether a moment is before another one, as far as both are known."""
+    return one is not None and other is not None and one.is_before(other)
+
+
 def is_older(entry: Entry, other: Kept) -> bool:
     """Return whether one entry is of an earlier moment than another."""
     one, two = moment_in(entry.moment), moment_in(other.moment) if isinstance(other, Entry) else None
-    return one is not None and two is not None and one.is_before(two)
+    return is_earlier(one, two)

@@ -24,10 +24,12 @@ def describe(engine: Engine, aim: Aim) -> None:
         return
     words = {check.value for check in Check}
     compared = {Check(word): count for word, count in engine.catalogue.known.compared().items() if word in words}
-    disorder = StrictRule.ORDERED.value if aim.rule is StrictRule.ORDERED else ""
-    sure = exactness(compared, aim.passed, aim.moment, disorder)
+    faults = [StrictRule.ORDERED.value] if aim.rule is StrictRule.ORDERED else []
+    faults += [f"{len(engine.missing):,} resources are gone"] if engine.missing else []
+    faults += [f"{len(aim.dead):,} lists are gone"] if aim.dead else []
+    sure = exactness(compared, aim.passed, aim.moment, "; ".join(faults))
     is_exact = sure.startswith(EXACT)
-    rule = None if is_exact else aim.rule or StrictRule.COMPARED
+    rule = None if is_exact else aim.rule or (StrictRule.HELD if engine.missing else StrictRule.COMPARED)
     output.summary(f"{work_of(engine, aim)}; compared {counted(compared)}; {sure}", **facts,
                    compared={check.value: count for check, count in compared.items()}, passed=dict(aim.passed),
                    exact=is_exact, rule=None if rule is None else {"name": rule.word, "text": rule.value})

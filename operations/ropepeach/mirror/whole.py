@@ -61,6 +61,11 @@ class Whole:
         with replaced(self.lock, COLLECTION_FILE, INCOMING) as file:
             file.write(json.dumps({"collection": address}).encode())
 
+    def drop_if_empty(self) -> None:
+        """Remove the mark of a folder that has no more, so that it may become the mirror of another source."""
+        if os.listdir(self.lock) == [COLLECTION_FILE]:
+            self.tree.remove(COLLECTION_FILE)
+
     def others(self, parts: dict[str, str]) -> list[str]:
         """Return the entries of the folder that are no part of the collection now."""
         return [name for name in sorted(os.listdir(self.lock)) if name not in parts and not name.startswith("#")]

@@ -16,6 +16,8 @@ ADDRESS_FORM = re.compile(r"""(?P<scheme>[Hh][Tt][Tt][Pp][Ss]?)://
     (?P<path>/[!-"$->@-~]*)?
     (?P<query>\?[!-"$-~]*)?""", re.VERBOSE)
 PORTS = {"http": 80, "https": 443}
+# Control characters, which no name has; characters that a URI cannot have.
+CONTROL, INVISIBLE = re.compile(r"[\x00-\x1f\x7f-\x9f]"), re.compile(r"[^!-~]+")
 # Sitemap 0.9 allows 2,048 characters.
 LONGEST_ADDRESS = 2_048
 
@@ -63,6 +65,21 @@ def source_at(text: str) -> Address:
     if address is None:
         raise Misused(f"{text}: an address is http:// or https://, a host, and its path if there is one")
     return address
+
+
+def encoded(base: Address, text: str) -> Address | None:
+    """Return the address of a name that is no URI, or None: an IRI is encoded (RFC 3987, section 3.1), a relative
+    reference resolved, a fragment dropped.
+    """
+    if not text or text.startswith("#") or CONTROL.search(text):
+        return None
+    try:
+        parts = urllib.parse.urlsplit(text)
+        if not (parts.hostname or "").isascii():
+            text = text.replace(parts.hostname or "", (parts.hostname or "").encode("idna").decode(), 1)
+    except (ValueError, UnicodeError):
+        return None
+    return joined(base, INVISIBLE.sub(lambda found: urllib.parse.quote(found[0]), text))
 
 
 def joined(base: Address, text: str) -> Address | None:

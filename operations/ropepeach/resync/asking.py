@@ -5,6 +5,7 @@ import dataclasses
 from collections.abc import Callable, Iterable, Mapping
 from typing import IO
 
+from ropepeach.cli import output
 from ropepeach.faults import Fault
 from ropepeach.http.client import LONGEST_DOCUMENT, Client
 from ropepeach.http.response import Response, error_text
@@ -12,13 +13,15 @@ from ropepeach.http.transfers import REDIRECTS, Transfer, Transfers
 from ropepeach.resync.addresses import Address, Hosts, joined, source_at
 from ropepeach.resync.facts import Algorithm, Measure
 from ropepeach.resync.lists import Gone, Unheld
-from ropepeach.resync.sitemaps import Document, Take, document_in, unpacked
+from ropepeach.resync.sitemaps import Document, Take, document_in, is_text_sitemap, text_sitemap, unpacked
 
 # The longest resource that is listed without a length, in bytes.
 LONGEST_RESOURCE = 256 << 20
 NOT_MODIFIED, GONE_STATUSES = 304, (404, 410)
 # How many redirects of one request are followed.
 MOST_REDIRECTS = 5
+# The characters before an XML declaration that are skipped.
+BLANKS = b" \t\r\n"
 
 
 class DamagedDump(Fault):
@@ -84,6 +87,14 @@ class Asking:
         self.documents = 0
         # Earlier responses, by their addresses.
         self.known: dict[str, Fault | tuple[Address, Response]] = {}
+        # The deviations that were reported.
+        self.noted = set[str]()
+
+    def note(self, address: str, deviation: str, example: str = "") -> None:
+        """Report a deviation from the standard, once for each kind."""
+        if deviation not in self.noted:
+            self.noted.add(deviation)
+            output.message(f"{address[:300]}: {deviation}{example and f', as {example[:200]!r}'}")
 
     def to(self, address: Address) -> Client:
         """Return the connection to the host of an address, if it is allowed."""
@@ -113,7 +124,9 @@ class Asking:
         """Return a document of a source; `take` gets the entries of a list as they come."""
         place, answer = self.text(source_at(address))
         self.documents += 1
-        return document_in(str(place), answer.body, take)
+        if is_text_sitemap(answer.body):
+            return text_sitemap(str(place), answer.body, take)
+        return document_in(str(place), answer.body.lstrip(BLANKS), take, has_type=True)
 
     def download(self, address: Address, limit: int, file: IO[bytes], algorithms: Iterable[Algorithm]) -> Measure:
         """Fetch the body of an address to a file, and return its measure."""

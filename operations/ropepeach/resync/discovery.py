@@ -7,24 +7,25 @@ robots.txt of the host names sitemaps.
 from __future__ import annotations
 
 import dataclasses
+from collections.abc import Iterable
 from typing import NamedTuple
 
 from ropepeach.faults import Fault
 from ropepeach.http.response import Response
 from ropepeach.resync.addresses import Address, joined, source_at
-from ropepeach.resync.asking import Asking, refused
-from ropepeach.resync.lists import DESCRIPTION_PATH, Unheld
-from ropepeach.resync.sitemaps import Document, document_in, is_markup
+from ropepeach.resync.asking import BLANKS, Asking, refused
+from ropepeach.resync.lists import DESCRIPTION_PATH, Gone, Unheld
+from ropepeach.resync.sitemaps import Document, document_in, is_markup, is_text_sitemap
 
 DESCRIPTION, CAPABILITIES, RESOURCES, CHANGES = "description", "capabilitylist", "resourcelist", "changelist"
-DUMP, CHANGE_DUMP = "resourcedump", "changedump"
+DUMP, CHANGE_DUMP, CHANGE_MANIFEST = "resourcedump", "changedump", "changedump-manifest"
 # The most Capability Lists, links or sitemaps that are followed.
 MOST_LISTS = 1_000
 
 
 class Lists(NamedTuple):
     """The addresses of the lists of one set of resources, and of its dumps. Without a Resource List, the manifests of
-    the Resource Dump are the list.
+    the Resource Dump are the list; without a Change List, those of the Change Dump.
     """
 
     resources: str
@@ -37,17 +38,24 @@ class Lists(NamedTuple):
         """Return whether the Resource Dump is the list."""
         return self.resources == self.dump
 
+    @property
+    def is_change_dump(self) -> bool:
+        """Return whether the Change Dump is the list of changes."""
+        return self.changes is not None and self.changes == self.change_dump
+
 
 class Discovery:
     """Looks for the lists of a source."""
 
     def __init__(self, asking: Asking) -> None:
         self.asking = asking
+        # The faults of lists that are gone, while others lead on.
+        self.dead: list[Gone] = []
 
     def lists_at(self, address: Address) -> list[Lists]:
         """Return the lists that an address leads to."""
         first, second = (self.well_known, self.at) if address.target == "/" else (self.at, self.well_known)
-        reasons = []
+        reasons, self.dead = [], []
         for step in (first, second, self.by_robots):
             try:
                 lists = step(address)
@@ -68,12 +76,14 @@ class Discovery:
     def at(self, address: Address) -> list[Lists]:
         """Return the lists that the document or the page of an address leads to."""
         place, answer = self.asking.text(address)
+        if is_text_sitemap(answer.body):
+            return [Lists(str(place))]
         return self.of_answer(place, answer) if is_markup(answer.body) else self.of_page(place, answer)
 
     def of_answer(self, place: Address, answer: Response) -> list[Lists]:
         """Return the lists that the document in a response leads to."""
         self.asking.documents += 1
-        return self.of_document(document_in(str(place), answer.body))
+        return self.of_document(document_in(str(place), answer.body.lstrip(BLANKS), has_type=True))
 
     def of_page(self, address: Address, answer: Response) -> list[Lists]:
         """Return the lists that the links of a page lead to."""
@@ -91,8 +101,21 @@ class Discovery:
 
     def of_links(self, address: Address, targets: list[str]) -> list[Lists]:
         """Return the lists that links lead to."""
-        return [lists for target in targets
-                for lists in self.of_document(self.asking.document(followed(str(address), target)))]
+        found = self.living(followed(str(address), target) for target in targets)
+        return [lists for document in found for lists in self.of_document(document)]
+
+    def living(self, addresses: Iterable[str]) -> list[Document]:
+        """Return the documents at some addresses; those that are gone are noted. Raise Gone if all are."""
+        found, dead = list[Document](), list[Gone]()
+        for address in addresses:
+            try:
+                found.append(self.asking.document(address))
+            except Gone as why:
+                dead.append(why)
+        if dead and not found:
+            raise dead[0]
+        self.dead += dead
+        return found
 
     def of_document(self, document: Document) -> list[Lists]:
         """Return the lists that a document names, or is one of."""
@@ -112,15 +135,14 @@ class Discovery:
         if len(document.entries) > MOST_LISTS:
             raise refused(document.address, f"it names {len(document.entries):,} lists, more than {MOST_LISTS:,}")
         lists = []
-        for entry in document.entries:
-            if document.is_index or entry.attributes.get("capability") == CAPABILITIES:
-                target = self.asking.document(followed(document.address, entry.loc))
-                if target.capability == DESCRIPTION and not target.is_index and document.is_index:
-                    lists += self.of_description(target)
-                elif target.capability == CAPABILITIES:
-                    lists.append(of_capabilities(target))
-                else:
-                    raise refused(target.address, "it is no Capability List, as the Source Description says")
+        for target in self.living(followed(document.address, entry.loc) for entry in document.entries
+                                  if document.is_index or entry.attributes.get("capability") == CAPABILITIES):
+            if target.capability == DESCRIPTION and not target.is_index and document.is_index:
+                lists += self.of_description(target)
+            elif target.capability == CAPABILITIES:
+                lists.append(of_capabilities(target))
+            else:
+                raise refused(target.address, "it is no Capability List, as the Source Description says")
         return lists
 
     def above(self, document: Document) -> Document | None:
@@ -162,7 +184,7 @@ def of_capabilities(document: Document) -> Lists:
                                              for word in (RESOURCES, CHANGES, DUMP, CHANGE_DUMP))
     if resources is None and dump is None:
         raise refused(document.address, "it names no Resource List and no Resource Dump")
-    return Lists(resources or dump or document.address, changes, dump, change_dump)
+    return Lists(resources or dump or document.address, changes or change_dump, dump, change_dump)
 
 
 def followed(base: str, text: str) -> str:

@@ -15,11 +15,13 @@ from collections.abc import Container, Iterator
 from typing import IO
 
 from ropepeach.faults import Fault, Long, Unusable
-from ropepeach.resync.addresses import Address, address_in, joined, source_at
+from ropepeach.http.coding import UNPACKED_PIECE
+from ropepeach.resync.addresses import Address, address_in, encoded, joined, source_at
 from ropepeach.resync.asking import LONGEST_RESOURCE, Asking, DamagedDump
-from ropepeach.resync.discovery import CHANGE_DUMP, DUMP
+from ropepeach.resync.discovery import CHANGE_DUMP, CHANGE_MANIFEST, DUMP
 from ropepeach.resync.facts import Facts, algorithms_of, any_facts, has_length, kind_of, length_of
-from ropepeach.resync.lenient import Reading, document_moment, earliest, is_over
+from ropepeach.resync.lenient import (
+    LatestChanges, Reading, check_start, dated_entries, document_moment, earliest, is_over)
 from ropepeach.resync.lists import Entry
 from ropepeach.resync.moments import Moment
 from ropepeach.resync.places import place_of
@@ -32,8 +34,6 @@ LONGEST_ARCHIVE, LONGEST_DIRECTORY, MOST_UNPACKED = LONGEST_RESOURCE, 8 << 20, 8
 MOST_KEPT = 64 << 20
 # The end of an archive: its mark, its bytes, and the mark of a longer form before it.
 END, END_SIZE, LONG_END, LONG_END_SIZE = b"PK\5\6", 22, b"PK\6\7", 20
-# The bytes of a file that are unpacked at once.
-UNPACKED_PIECE = 1 << 20
 KINDS, ENCRYPTED = (zipfile.ZIP_STORED, zipfile.ZIP_DEFLATED), 1
 # The exceptions of the library for a malformed archive.
 UNREADABLE = (zipfile.BadZipFile, zlib.error, struct.error, NotImplementedError, RuntimeError, EOFError, OSError,
@@ -81,12 +81,15 @@ class Archive:
         return found
 
     def files(self, names: Container[str]) -> Iterator[tuple[str, str, str]]:
-        """Yield the files of the archive for these names: the name, the path in the archive, and the media type."""
+        """Yield the last files of the archive for these names: the name, the path in it, and the media type."""
+        found = dict[str, tuple[str, str, str]]()
         for listed in self.manifest().entries:
-            found = address_in(listed.loc.strip())
-            name = "" if found is None else place_of(found)
-            if name in names:
-                yield name, listed.attributes.get("path", "").lstrip("/"), kind_of(any_facts(listed.attributes))
+            text = listed.loc.strip()
+            address = address_in(text) or encoded(source_at(self.address), text)
+            name = "" if address is None else place_of(address)
+            if name in names and "path" in listed.attributes:
+                found[name] = name, listed.attributes["path"].lstrip("/"), kind_of(any_facts(listed.attributes))
+        yield from found.values()
 
 
 def opened(address: str, file: IO[bytes]) -> Archive:
@@ -113,7 +116,8 @@ class Dumps:
         self.files, self.kept = dict[str, IO[bytes]](), 0
 
     def of(self, address: str, since: Moment | None) -> Iterator[Archive]:
-        """Yield the archives of a dump; of a Change Dump those that may have changes since a moment, or at it.
+        """Yield the archives of a dump; of a Change Dump those that may have changes since a moment, or at it, the
+        newest first.
 
         The next step closes an archive.
         """
@@ -124,8 +128,9 @@ class Dumps:
         if head.is_index:
             reading = Reading(self.asking)
             parts = [reading.part(head, part, None) for part in head.entries if is_wanted(address, part, since)]
-        for document in parts:
-            for listed in document.entries:
+        step = -1 if head.capability == CHANGE_DUMP else 1
+        for document in parts[::step]:
+            for listed in document.entries[::step]:
                 if is_wanted(address, listed, since):
                     with self.archive(document, listed) as archive:
                         yield archive
@@ -177,6 +182,20 @@ class Dumps:
                     reading.keep(archive.address, entry, entries)
         moments = [document_moment(document.address, document.attributes.get("at")) for document in documents]
         return earliest(moments), entries
+
+
+    def changes(self, address: str, since: Moment, reading: Reading) -> LatestChanges:
+        """Return the changes of a Change Dump that may be after a moment, or at it."""
+        read = list[Entry]()
+        for archive in self.of(address, since):
+            manifest = archive.manifest()
+            if manifest.capability != CHANGE_MANIFEST:
+                raise Unread(f"{archive.address}: refused, as its {MANIFEST} is none of a Change Dump")
+            read += [entry for listed in manifest.entries if (entry := reading.entry(manifest, listed)) is not None]
+        dated = dated_entries(read)
+        start = document_moment(address, self.asking.document(address).attributes.get("from"))
+        check_start(address, start, [moment for moment, _ in dated], since, False)
+        return reading.latest(dated, since, [start])
 
 
 def is_wanted(address: str, listed: Listed, since: Moment | None) -> bool:

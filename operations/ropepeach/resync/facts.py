@@ -82,6 +82,16 @@ def facts_of(length: int | None, digests: Mapping[Algorithm, bytes], kind: str) 
     return Facts(bytes((flags,)) + min(length or 0, LONGEST_LENGTH).to_bytes(5, "big") + joined + kind.encode())
 
 
+def is_facts(text: bytes) -> bool:
+    """Return whether bytes have the form of facts without a moment."""
+    if len(text) < FRONT or text[0] & HAS_MOMENT or len(text) < ENDS[text[0] & ALL_FLAGS]:
+        return False
+    try:
+        return len(kind_of(Facts(text))) <= LONGEST_KIND
+    except UnicodeDecodeError:
+        return False
+
+
 def length_of(facts: Facts) -> int:
     """Return the listed bytes of a body, or 0."""
     return int.from_bytes(facts[1:FRONT], "big")
@@ -136,6 +146,14 @@ def date_of(facts: Facts) -> int | None:
 def kind_of(facts: Facts) -> str:
     """Return the media type, or an empty text."""
     return facts[ENDS[facts[0] & ALL_FLAGS] + (MOMENT if facts[0] & HAS_MOMENT else 0) :].decode()
+
+
+def are_one_body(one: Facts, other: Facts) -> bool:
+    """Return whether facts are equal, or have an equal digest, no other one, and no other length."""
+    shared = [word for word in algorithms_of(one) if word in algorithms_of(other)]
+    is_length = not has_length(one) or not has_length(other) or length_of(one) == length_of(other)
+    return one == other or (bool(shared) and is_length
+                            and all(digest_of(one, word) == digest_of(other, word) for word in shared))
 
 
 def check_of(facts: Facts) -> Check:

@@ -10,13 +10,13 @@ from collections.abc import Iterable
 from typing import NamedTuple
 
 from ropepeach.faults import Fault
-from ropepeach.resync.addresses import Address, address_in
+from ropepeach.resync.addresses import Address, address_in, encoded, source_at
 from ropepeach.resync.asking import Asking, refused
-from ropepeach.resync.discovery import CHANGES, RESOURCES, followed
-from ropepeach.resync.facts import any_facts
-from ropepeach.resync.lists import Dropped, Entry, Reader, StrictRule
-from ropepeach.resync.moments import Moment, latest_instant, moment_in
-from ropepeach.resync.places import place_of
+from ropepeach.resync.discovery import CHANGE_MANIFEST, CHANGES, RESOURCES, followed
+from ropepeach.resync.facts import any_facts, are_one_body
+from ropepeach.resync.lists import Dropped, Entry, Gone, Reader, StrictRule
+from ropepeach.resync.moments import Moment, any_moment, latest_instant, moment_in
+from ropepeach.resync.places import EMPTY, place_of
 from ropepeach.resync.sitemaps import Document, Listed, Take
 
 # The most entries of a list in all its parts.
@@ -34,12 +34,14 @@ class LatestChanges(NamedTuple):
 class Reading(Reader):
     """Reads lists by the lenient rules. `passed` counts the skipped entries, `rule` is the first broken rule."""
 
-    def __init__(self, asking: Asking) -> None:
-        self.asking = asking
+    def __init__(self, asking: Asking, is_baseline: bool = False) -> None:
+        self.asking, self.is_baseline = asking, is_baseline
         self.passed = collections.Counter[str]()
         self.rule: StrictRule | None = None
-        # The names of entries of hosts that are not allowed.
-        self.elsewhere = set[str]()
+        # The ends of the names of entries of hosts that are not allowed, and the first such host.
+        self.elsewhere, self.first_elsewhere = set[str](), ""
+        # The parts of Resource Lists that are gone, if such parts are left out.
+        self.dead: list[Gone] | None = None
 
     def fail(self, rule: StrictRule) -> None:
         """Note a rule that failed."""
@@ -49,52 +51,70 @@ class Reading(Reader):
         return self.asking.document(address, take)
 
     def part(self, head: Document, pointer: Listed, take: Take | None) -> Document:
-        part = self.document(followed(head.address, pointer.loc), take)
+        try:
+            part = self.document(followed(head.address, pointer.loc), take)
+        except Gone as why:
+            if self.dead is None or head.capability == CHANGES:
+                raise
+            self.dead.append(why)
+            return Document(head.address)
         if part.is_index:
             raise refused(part.address, "it is an index within an index")
         return part
 
-    def address_of(self, listed: Listed) -> Address | None:
+    def address_of(self, document: Document, listed: Listed) -> Address | None:
         """Return the address of an entry, or None if the entry is skipped."""
-        address = address_in(listed.loc.strip())
+        text = listed.loc.strip()
+        address = address_in(text)
+        if address is None and (address := encoded(source_at(document.address), text)) is not None:
+            self.asking.note(document.address, "its names are not all URIs: they are encoded and resolved", text)
         if address is None:
             self.passed["no address"] += 1
         elif not self.asking.hosts.allow(address):
             self.passed["of other hosts"] += 1
-            self.elsewhere.add(place_of(address))
+            self.elsewhere.add(end_of(place_of(address)))
+            self.first_elsewhere = self.first_elsewhere or address.authority
         else:
             return address
         self.fail(StrictRule.READ)
         return None
 
     def entry(self, document: Document, listed: Listed) -> Entry | None:
-        if document.capability == CHANGES:
+        if document.capability in (CHANGES, CHANGE_MANIFEST):
             return self.change(document, listed)
         check_kind(document, RESOURCES)
-        address = self.address_of(listed)
+        address = self.address_of(document, listed)
         if address is None:
             return None
         attributes = listed.attributes
         text = attributes.get("datetime") or attributes.get("modified") or listed.modified
-        modified = moment_in(text.strip()) if text else None
+        modified = any_moment(text.strip()) if text else None
+        self.check_moment(document, text, modified)
         return Entry(place_of(address), "" if modified is None else modified.text, any_facts(attributes), "",
                      str(address), attributes.get("encoding", "")[:100])
 
     def change(self, document: Document, listed: Listed) -> Entry | None:
         """Return an entry of a Change List. Refuse an entry without a moment or a known kind of change."""
-        address = self.address_of(listed)
+        address = self.address_of(document, listed)
         if address is None:
             return None
         attributes = listed.attributes
         moment = document_moment(document.address, attributes.get("datetime") or listed.modified)
-        word = attributes.get("change")
+        self.check_moment(document, attributes.get("datetime") or listed.modified, moment)
+        word = attributes.get("change", "").lower()
         if moment is None:
             raise refused(document.address, f"the change of {str(address)[:300]} has no moment")
         if word not in ("created", "updated", "deleted"):
-            raise refused(document.address, f"the change of {str(address)[:300]} is {str(word or '')[:100]!r}: "
+            raise refused(document.address, f"the change of {str(address)[:300]} is {word[:100]!r}: "
                                             f"created, updated and deleted are known")
         return Entry(place_of(address), moment.text, None if word == "deleted" else any_facts(attributes), word,
                      str(address), attributes.get("encoding", "")[:100])
+
+    def check_moment(self, document: Document, text: str | None, moment: Moment | None) -> None:
+        """Report a moment that is not quite a W3C Datetime."""
+        if text is not None and moment is not None and moment.text != text.strip():
+            self.asking.note(document.address, "its moments are no W3C Datetimes: those without an offset are of UTC",
+                             text)
 
     def resources(self, address: str) -> tuple[Moment | None, dict[str, Entry]]:
         """Return the earliest `at` of a Resource List and its parts, and the entries by name."""
@@ -107,7 +127,7 @@ class Reading(Reader):
     def keep(self, address: str, entry: Entry, entries: dict[str, Entry]) -> None:
         """Keep an entry. Refuse a resource that a list has twice with different facts."""
         other = entries.setdefault(entry.name, entry)
-        if other.facts != entry.facts:
+        if other.facts is None or entry.facts is None or not are_one_body(other.facts, entry.facts):
             raise refused(address, f"it has {entry.address[:300]} twice, with different bytes")
 
     def changes(self, address: str, since: Moment) -> LatestChanges:
@@ -127,10 +147,21 @@ class Reading(Reader):
         for number, (pointer, part) in enumerate(zip(wanted, parts)):
             check_part(pointer, part, since, number == 0)
         start = document_moment(address, head.attributes.get("from"))
-        dated = [(moment, entry) for entry in read if (moment := moment_in(entry.moment)) is not None]
-        check_start(address, start, [moment for moment, _ in dated], since, len(wanted) < len(head.entries))
+        dated = dated_entries(read)
+        self.check_start(address, start, [moment for moment, _ in dated], since, len(wanted) < len(head.entries))
         ends = [document_moment(address, part.attributes.get("until")) for part in head.entries]
         return self.latest(dated, since, [start, *ends])
+
+    def check_start(self, address: str, start: Moment | None, moments: list[Moment], since: Moment, skips: bool
+                    ) -> None:
+        """Refuse a Change List that may lack changes after a moment; at a baseline, only report one without `from`."""
+        try:
+            check_start(address, start, moments, since, skips)
+        except Dropped:
+            if not self.is_baseline or start is not None:
+                raise
+            self.asking.note(address, "has no `from`: the run takes its changes, and the next run is a baseline")
+            self.fail(StrictRule.ORDERED)
 
     def latest(self, dated: list[tuple[Moment, Entry]], since: Moment, bounds: list[Moment | None]) -> LatestChanges:
         """Return the latest changes at or after a moment, by name."""
@@ -149,6 +180,17 @@ class Reading(Reader):
                              moments[-1] if moments else None)
 
 
+def end_of(name: str) -> str:
+    """Return the end of a name by which a resource that moves to another host is recognized."""
+    *front, last = name.rsplit("/", 2)
+    return last if last != EMPTY else "/".join([*front[-1:], last])
+
+
+def dated_entries(entries: Iterable[Entry]) -> list[tuple[Moment, Entry]]:
+    """Return changes with their moments."""
+    return [(moment, entry) for entry in entries if (moment := moment_in(entry.moment)) is not None]
+
+
 def check_kind(document: Document, capability: str) -> Document:
     """Return a document of a capability, and refuse others; a plain sitemap is a Resource List."""
     found = document.capability
@@ -162,7 +204,7 @@ def document_moment(address: str, text: str | None) -> Moment | None:
     """Return a moment of a document. Refuse a malformed one, and one later than a day ahead of this machine's clock."""
     if text is None:
         return None
-    moment = moment_in(text.strip())
+    moment = any_moment(text.strip())
     if moment is None:
         raise Fault(f"{address}: refused, as {text[:100]!r} is no moment of W3C Datetime")
     if moment.first > latest_instant():

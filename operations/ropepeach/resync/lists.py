@@ -71,6 +71,7 @@ class StrictRule(enum.Enum):
     READ = "entries were passed over"
     ORDERED = "the moments of the lists are in no order"
     COMPARED = "a resource is listed without a digest"
+    HELD = "lists or resources are missing"
 
     @property
     def word(self) -> str:

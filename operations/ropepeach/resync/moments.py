@@ -13,6 +13,7 @@ NEVER, LAST = "1970-01-01T00:00:00.000Z", "9999-12-31T23:59:59.999Z"
 # A W3C Datetime: a year, a month, a day, a minute, a second or a fraction of one; a time has an offset from UTC.
 W3C = re.compile(r"""(\d{4}) (?:-(\d\d) (?:-(\d\d)
     (?:T (\d\d):(\d\d) (?: :(\d\d) (?:\.(\d{1,30}))? )? (Z|[+-]\d\d:\d\d) )? )? )?""", re.ASCII | re.VERBOSE)
+ALMOST_W3C = re.compile(r"(\d{4}-\d\d-\d\dT[\d:.]+)(?:([+-]\d\d)(\d\d))?", re.ASCII)
 # The unit of instants is 10 to the power of -30 of a second, so that every fraction is a whole number.
 DIGITS = 30
 SECOND: int = 10**DIGITS
@@ -86,6 +87,14 @@ def moment_in(text: str) -> Moment | None:
         return Moment(first, first + unit, text)
     seconds = (1 if second else 60) if hour else days_of(int(year), month, day) * 86_400
     return Moment(start * SECOND, (start + seconds) * SECOND, text)
+
+
+def any_moment(text: str) -> Moment | None:
+    """Return the moment of a W3C Datetime, or of one without an offset, which is read as UTC, or without its colon."""
+    moment = moment_in(text)
+    if moment is None and (parts := ALMOST_W3C.fullmatch(text)) is not None:
+        moment = moment_in(parts[1] + (f"{parts[2]}:{parts[3]}" if parts[2] else "Z"))
+    return moment
 
 
 def days_of(year: int, month: str | None, day: str | None) -> int:

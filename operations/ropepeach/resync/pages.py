@@ -50,5 +50,6 @@ def links_of_fields(text: str) -> list[str]:
 def sitemaps_of(body: bytes) -> list[str]:
     """Return the sitemaps that a robots.txt names (RFC 9309, Sitemap 0.9)."""
     lines = body.decode("utf-8", "replace").splitlines()
-    return [line.partition(":")[2].strip() for line in lines
+    # (a comment follows a `#`)
+    return [line.partition(":")[2].partition("#")[0].strip() for line in lines
             if line.partition(":")[0].strip().lower() == "sitemap"]

@@ -1,4 +1,5 @@
-"""The place of any address below a folder: a valid name (facts.py), different for all addresses.
+"""The place of any address below a folder: a valid name (facts.py), different for all addresses that are not
+equivalent: `%7E` and `~` are, also `%c3` and `%C3` (RFC 3986, section 6.2.2).
 
 The place of `https://example.org/a/b?c` is `example.org/a/b!3Fc`, that of `http://example.org/` is
 `http+example.org/!`. A `!` and two hexadecimal digits are a byte that a name cannot have; a segment `!` is an empty
@@ -14,7 +15,19 @@ from ropepeach.resync.facts import is_name
 
 # The characters that are escaped: all but those of a name, also `!`, and a `%` without two hexadecimal digits.
 SPECIAL = re.compile(r"%(?![0-9A-Fa-f]{2})|[^A-Za-z0-9._~$&'()*+,;=:@%-]")
+ENCODED, UNRESERVED = re.compile("%([0-9A-Fa-f]{2})"), re.compile("[A-Za-z0-9._~-]")
 EMPTY, LONG, ESCAPED = "!", "!long", re.compile("!([0-9A-F]{2})")
+
+
+def normalized(target: str) -> str:
+    """Return a target in the one form of all equivalent ones."""
+
+    def spelled(found: re.Match[str]) -> str:
+        """Return one form of an encoded byte."""
+        byte = chr(int(found[1], 16))
+        return byte if UNRESERVED.fullmatch(byte) else found[0].upper()
+
+    return ENCODED.sub(spelled, target) if "%" in target else target
 
 
 def escaped_segment(segment: str) -> str:
@@ -36,13 +49,14 @@ def front_of(address: Address) -> str:
 
 def place_of(address: Address) -> str:
     """Return the name of the file of an address."""
-    path, mark, query = address.target[1:].partition("?")
+    target = normalized(address.target)
+    path, mark, query = target[1:].partition("?")
     *above, last = path.split("/")
     # (a `/` in a query is not a separator)
     name = "/".join([front_of(address), *map(escaped_segment, [*above, last + mark + query])])
     if is_name(name):
         return name
-    return f"{front_of(address)[:100]}/{LONG}/{hashlib.sha256(str(address).encode()).hexdigest()}"
+    return f"{front_of(address)[:100]}/{LONG}/{hashlib.sha256((address.origin + target).encode()).hexdigest()}"
 
 
 def address_at(place: str) -> str:

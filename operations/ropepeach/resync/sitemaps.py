@@ -5,6 +5,7 @@ may be packed by gzip.
 """
 from __future__ import annotations
 
+import re
 import zlib
 from collections.abc import Callable, Mapping
 from typing import NamedTuple
@@ -25,7 +26,10 @@ MOST_ENTRIES = 50_000
 MOST_ELEMENTS, MOST_ELEMENTS_OF_OTHERS = 4 * MOST_ENTRIES + 100, 12 * MOST_ENTRIES + 100
 # The longest document after unpacking, in bytes.
 LONGEST_UNPACKED = 52_428_800
-GZIP = b"\x1f\x8b"
+GZIP, UTF_16 = b"\x1f\x8b", (b"\xff\xfe", b"\xfe\xff")
+# The bytes of a document before and in its root, and what may precede the root.
+LONGEST_PROLOGUE = 65_536
+PROLOGUE = re.compile(rb"(?:\xef\xbb\xbf)?(?:\s+|<\?.*?\?>|<!--.*?-->|<!DOCTYPE[^>\[]*>)*+", re.DOTALL)
 # The most members of gzip, and the packed bytes that are taken at once.
 MOST_MEMBERS, PACKED_PIECE = 10_000, 65_536
 
@@ -151,17 +155,20 @@ class Builder:
 
 
 def document_in(address: str, body: bytes, take: Take | None = None,
-                most_elements: int = MOST_ELEMENTS_OF_OTHERS) -> Document:
+                most_elements: int = MOST_ELEMENTS_OF_OTHERS, has_type: bool = False) -> Document:
     """Return the document in some bytes. `take` gets the entries of a list as they are read, with the document so far.
 
-    Raise Fault if the bytes are no document, or one with a document type or too many entries.
+    Raise Fault if the bytes are no document, or one with a document type or too many entries. With `has_type` it may
+    have a document type that declares nothing.
     """
     document = Document(address)
     builder = Builder(document, take, most_elements)
     parser = expat.ParserCreate(namespace_separator="}")
     parser.buffer_text = True
     parser.StartElementHandler, parser.EndElementHandler = builder.start, builder.end
-    parser.CharacterDataHandler, parser.StartDoctypeDeclHandler = builder.text, forbid
+    parser.CharacterDataHandler = builder.text
+    parser.StartDoctypeDeclHandler = forbid_subset if has_type else forbid
+    parser.SkippedEntityHandler = forbid
     try:
         parser.Parse(body, True)
     except (Forbidden, expat.ExpatError, ValueError, LookupError) as fault:
@@ -175,6 +182,32 @@ def document_in(address: str, body: bytes, take: Take | None = None,
 def forbid(*_: object) -> None:
     """Refuse a document type, before any of its entities is declared."""
     raise Forbidden
+
+
+def forbid_subset(_name: str, _system: str | None, _public: str | None, has_subset: int) -> None:
+    """Refuse a document type with declarations of its own; one without is never read."""
+    if has_subset:
+        raise Forbidden
+
+
+def is_text_sitemap(body: bytes) -> bool:
+    """Return whether bytes look like a sitemap of one address a line (Sitemap 0.9)."""
+    return re.match(rb"(?:\xef\xbb\xbf)?\s*https?://[!-~]+\s*(?:[\r\n]|\Z)", body[:4_096], re.IGNORECASE) is not None
+
+
+def text_sitemap(address: str, body: bytes, take: Take | None) -> Document:
+    """Return the document in a sitemap of one address a line; `take` gets the entries."""
+    document = Document(address)
+    lines = [line for line in body.decode("utf-8-sig", "replace").splitlines() if line.strip()]
+    if len(lines) > MOST_ENTRIES:
+        raise Fault(f"{address}: refused, as it has more than {MOST_ENTRIES:,} entries")
+    for line in lines:
+        listed = Listed(line.strip(), {}, None)
+        if take is None:
+            document.entries.append(listed)
+        else:
+            take(document, listed)
+    return document
 
 
 def check_space(address: str, tag: str) -> None:
@@ -218,5 +251,7 @@ def gunzipped(address: str, body: bytes) -> bytes:
 
 def is_markup(body: bytes) -> bool:
     """Return whether bytes look like a document of a source, not like a page."""
-    front = body[:4_096].lstrip(b"\xef\xbb\xbf \t\r\n")
-    return front.startswith(b"<") and b"sitemaps.org/schemas/sitemap" in body[:4_096]
+    if body.startswith(UTF_16):
+        body = body[:2 * LONGEST_PROLOGUE].decode("utf-16", "ignore").encode()
+    front = PROLOGUE.sub(b"", body[:LONGEST_PROLOGUE], count=1)
+    return front.startswith(b"<") and b"sitemaps.org/schemas/sitemap" in front[:4_096]

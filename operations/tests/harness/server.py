@@ -195,7 +195,8 @@ class Response:
     """A response: its body, status and more header fields.
 
     `delay` is in seconds, before the response; after `cut` bytes of the body the connection closes, although
-    `Content-Length` has the full length; `is_reset` resets the connection instead of a response.
+    `Content-Length` has the full length; `is_reset` resets the connection instead of a response. `is_early` sends an
+    interim response 103 first.
     """
 
     body: bytes = b""
@@ -204,6 +205,7 @@ class Response:
     delay: float = 0.0
     cut: int | None = None
     is_reset: bool = False
+    is_early: bool = False
 
 
 def redirect(location: str, status: int = 302) -> Response:
@@ -273,7 +275,8 @@ class Server(RawServer):
             fields |= {"Last-Modified": MODIFIED} if self.has_dates else {}
         lines = [f"{name}: {value}\r\n" for name, value in (fields | dict(response.fields)).items()]
         reason = http.client.responses.get(request.status, "Scripted")
-        head = f"HTTP/1.1 {request.status} {reason}\r\n{''.join(lines)}\r\n".encode("latin-1")
+        early = "HTTP/1.1 103 Early Hints\r\n\r\n" if response.is_early else ""
+        head = f"{early}HTTP/1.1 {request.status} {reason}\r\n{''.join(lines)}\r\n".encode("latin-1")
         return Answer([head + body[:response.cut]], "keep" if response.cut is None else "close")
 
     def is_current(self, request: Request, response: Response, tag: str) -> bool:

@@ -18,11 +18,11 @@ FILES = {name: f"body of {name}".encode() for name in ("a", "b", "c", "d", "e", 
 RENAMES = "rename,renameat,renameat2"
 
 
-def killed_at(ropepeach: Ropepeach, server: Server, path: str, *options: object) -> None:
+def killed_at(ropepeach: Ropepeach, server: Server, path: str, *options: object, url: str = "") -> None:
     """Mirror, and kill the run at its first request of a path."""
     runs = queue.SimpleQueue[subprocess.Popen[str]]()
     server.at_path(path, lambda: runs.get(timeout=DEADLINE).kill())
-    run = ropepeach.started("mirror", *ANY_SOURCE, server.base, FOLDER, *options)
+    run = ropepeach.started("mirror", *ANY_SOURCE, url or server.base, FOLDER, *options)
     runs.put(run)
     run.communicate(timeout=DEADLINE)
     assert run.returncode == -signal.SIGKILL, f"the run was not killed: it did not ask for {path}"

@@ -20,9 +20,9 @@ def tool(what: str, file: str, old: str, new: str, tests: str) -> Bug:
 OF_MIRROR = [
     tool(
         "a moment is remembered before a failed fetch is told", "mirror/engine",
-        "        if wrong:\n            self.save()\n",
-        "        self.folder.place_all()\n        self.folder.remember(aim.state)\n        if wrong:\n"
-        "            self.save()\n",
+        "            self.save()\n            more =",
+        "            self.folder.place_all()\n            self.folder.remember(aim.state)\n"
+        "            self.save()\n            more =",
         MIRROR,
     ),
     tool(

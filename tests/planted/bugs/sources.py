@@ -41,8 +41,8 @@ OF_RUNS = [
     ),
     bug(
         "a set that is named no more is expected for ever", "mirror/lenient_aims",
-        "set(names) != set(before):",
-        "not set(names) <= set(before):",
+        "else set(names) == set(before)",
+        "else set(names) <= set(before)",
         "changing_lists::a_set_that_is_named_no_more_is_removed",
     ),
     bug(
@@ -128,14 +128,38 @@ OF_LISTS = [
     ),
     bug(
         "a byte order mark is no front of a document", "resync/sitemaps",
-        r'body[:4_096].lstrip(b"\xef\xbb\xbf \t\r\n")',
-        r'body[:4_096].lstrip(b" \t\r\n")',
+        r'rb"(?:\xef\xbb\xbf)?(?:\s+|<',
+        r'rb"(?:\s+|<',
         "documents::a_sitemap_alone_is_found_whatever_comes_before_its_root",
     ),
     bug(
+        "a packed body is stored packed", "mirror/bodies",
+        "if coding in CODINGS:",
+        "if coding in ():",
+        "styles::a_style_is_mirrored_from_its_first_run_to_a_repair",
+    ),
+    bug(
+        "the older list of two sets counts", "mirror/lenient_aims",
+        "else is_earlier(at, self.dates[name])):",
+        "else False):",
+        "styles::a_style_is_mirrored_from_its_first_run_to_a_repair",
+    ),
+    bug(
+        "a resource that moves to another host is removed", "mirror/lenient_aims",
+        "if end_of(name) in reading.elsewhere or is_unread:",
+        "if is_unread:",
+        "deviations::an_entry_that_is_passed_over_deletes_nothing",
+    ),
+    bug(
+        "a dead resource is forgotten", "mirror/engine",
+        "missing=missing or None",
+        "missing=None",
+        "deviations::a_dead_resource_is_named_and_asked_for_by_each_run_until_it_comes",
+    ),
+    bug(
         "an indented address is none", "resync/lenient",
-        "address_in(listed.loc.strip())",
-        "address_in(listed.loc)",
+        "text = listed.loc.strip()",
+        "text = listed.loc",
         "documents::indented_entries_are_read",
     ),
     bug(
