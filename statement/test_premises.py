@@ -1,16 +1,16 @@
 """Test the premises: how a type is split, how a premise is given, and faults planted in our own promises."""
 
 import re
-import tempfile
-import unittest
 from pathlib import Path
+
+import pytest
 
 from rattle import antt
 from statement import evidence, premises, promises, tables, terms, words
 from statement.terms import Arrow, Joined, Relation
 from statement.world import World
+from tests.program import ROOT
 
-ROOT = Path(__file__).resolve().parent.parent
 SPECS = """-- Doors.
 use Rattle.std.specs.Prelude.{ℕ, ◌≡◌, ◌⊎◌, ◌≤◌, IsTrue, Result, IfOk, List, [], ◌∷◌}
 
@@ -166,7 +166,7 @@ PLANTED = [
 ]
 
 
-def made(room: str, specs: str = SPECS) -> World:
+def made(room: Path, specs: str = SPECS) -> World:
     """Return a repository of one crate below a folder."""
     return repository(room, {
         "crates.txt": "doors:\n", "README.md": "Doors open.\n", "docs/PROMISES.md": "| doors | open |\n",
@@ -174,7 +174,7 @@ def made(room: str, specs: str = SPECS) -> World:
         "crates/doors/proofs/Examples.antt": EXAMPLES})
 
 
-def repository(room: str, files: dict[str, str]) -> World:
+def repository(room: Path, files: dict[str, str]) -> World:
     """Write these files below a folder, and return their repository."""
     for name, text in files.items():
         path = Path(room, name)
@@ -199,272 +199,295 @@ def without_example(*names: str) -> list[str]:
     return [f"doors.Doors.{name} stands only left of an arrow, and no example has it" for name in names]
 
 
-class Terms(unittest.TestCase):
-    def term(self, text: str) -> terms.Term | None:
-        """Return the tree of a type."""
-        return terms.term(words.tokens_of(text.splitlines()))
+def term(text: str) -> terms.Term | None:
+    """Return the tree of a type."""
+    return terms.term(words.tokens_of(text.splitlines()))
 
-    def test_arrows_are_taken_apart(self) -> None:
-        found = self.term("(s t : State) → let u = f s in Holds s\n  → IsDone (g u) × s ≡ t")
-        assert isinstance(found, Arrow) and isinstance(found.end, Joined)
-        premises, parts = (found.premises, ["State", "Holds s"]), (found.end.parts, ["IsDone (g u)", "s ≡ t"])
-        for several, wanted in (premises, parts):
-            self.assertEqual([term.text if isinstance(term, Relation) else term for term in several], wanted)
 
-    def test_relations_within_are_read(self) -> None:
-        found = self.term("IfOk result (λ made. (s : State) → Holds made s → Has (made.0) s)")
+def test_arrows_are_taken_apart() -> None:
+    found = term("(s t : State) → let u = f s in Holds s\n  → IsDone (g u) × s ≡ t")
+    assert isinstance(found, Arrow) and isinstance(found.end, Joined)
+    premises, parts = (found.premises, ["State", "Holds s"]), (found.end.parts, ["IsDone (g u)", "s ≡ t"])
+    for several, wanted in (premises, parts):
+        assert [term.text if isinstance(term, Relation) else term for term in several] == wanted
+
+
+def test_relations_within_are_read() -> None:
+    found = term("IfOk result (λ made. (s : State) → Holds made s → Has (made.0) s)")
+    assert isinstance(found, Relation)
+    assert (found.head, [type(term) for term in found.inner]) == ("IfOk", [Relation, Arrow])
+    both = Joined("×", (Relation("A", "A"), Relation("B", "B")))
+    assert term("((A × B) ⊎ C)") == Joined("⊎", (both, Relation("C", "C")))
+    found = term("A × B ⊎ C")
+    assert isinstance(found, Joined)
+    assert found.sign == "⊎"
+    assert term("f x.0 ≡ Some (y, z)") == Relation("≡", "f x.0 ≡ Some (y, z)")
+
+
+def test_what_leads_to_nothing_is_denied() -> None:
+    for text in ("IsOk x → ⊥", "¬ IsOk x"):
+        found = term(text)
         assert isinstance(found, Relation)
-        self.assertEqual((found.head, [type(term) for term in found.inner]), ("IfOk", [Relation, Arrow]))
-        both = Joined("×", (Relation("A", "A"), Relation("B", "B")))
-        self.assertEqual(self.term("((A × B) ⊎ C)"), Joined("⊎", (both, Relation("C", "C"))))
-        found = self.term("A × B ⊎ C")
-        assert isinstance(found, Joined)
-        self.assertEqual(found.sign, "⊎")
-        self.assertEqual(self.term("f x.0 ≡ Some (y, z)"), Relation("≡", "f x.0 ≡ Some (y, z)"))
-
-    def test_what_leads_to_nothing_is_denied(self) -> None:
-        for text in ("IsOk x → ⊥", "¬ IsOk x"):
-            found = self.term(text)
-            assert isinstance(found, Relation)
-            self.assertEqual((found.head, found.text), ("¬", text))
+        assert (found.head, found.text) == ("¬", text)
 
 
-class Given(unittest.TestCase):
-    def setUp(self) -> None:
-        self.room = self.enterContext(tempfile.TemporaryDirectory())
-
-    def faults_of(self, lines: str, specs: str = SPECS, shown: str = SHOWN) -> list[str]:
-        """Return the faults of these lines."""
-        return [fault.partition(": ")[2] for fault in faults(made(self.room, specs), SAYS + lines, shown)]
-
-    def test_a_closed_chain_is_not_told(self) -> None:
-        self.assertEqual(self.faults_of(LINES), [])
-
-    def test_a_premise_that_nothing_gives_is_told(self) -> None:
-        without = LINES.replace("premise: Fits from: doors cut fits\n", "")
-        self.assertEqual(self.faults_of(without), ["Doors: nothing gives the premise 'key.teeth ≡ door' of Fits"])
-        fault = "Doors: nothing gives the premise 'door ≤ 3' of IsInside.once"
-        without = LINES.replace("premise: door ≤ * case: the door is one of these\n", "")
-        self.assertEqual(self.faults_of(without), [fault])
-        self.assertEqual(self.faults_of(LINES.replace("door ≤ *", "door ≤")), [fault, "Doors: no premise is door ≤"])
-
-    def test_each_side_of_both_ways_is_a_premise(self) -> None:
-        found = self.faults_of(LINES + "by: doors first_is_shut\n")
-        self.assertEqual(found, ["Doors: nothing gives the premise 'door ≡ 1' of first_is_shut"])
-        lines = LINES + "by: doors first_is_shut\npremise: door ≡ 1 case: it is the first\n"
-        self.assertEqual(self.faults_of(lines), [])
-
-    def test_a_clause_that_does_not_give_it_is_told(self) -> None:
-        found = self.faults_of(LINES.replace("Fits from: doors cut fits", "Fits from: doors shut shut"))
-        self.assertEqual(found, ["Doors: Fits is said to come from doors shut shut, which does not end in Fits"])
-        found = self.faults_of(LINES.replace("by: doors cut fits\n", ""))
-        self.assertEqual(found, ["Doors: Fits is said to come from doors cut fits, which the promise does not print",
-                                 *ungrounded("doors_open")])
-
-    def test_what_clauses_give_each_other_alone_is_told_of_each_clause(self) -> None:
-        lines = LINES.replace("doors shut shut", "doors shut again") + "by: doors doors_open_again\n"
-        self.assertEqual(self.faults_of(lines), ungrounded("shut again", "doors_open", "doors_open_again"))
-
-    def test_lines_that_are_none_are_told(self) -> None:
-        self.assertEqual(self.faults_of(LINES + "premise: Opens trust: they do\n"), ["Doors: no premise is Opens"])
-        self.assertEqual(self.faults_of("premise: IsOpen case: they do\n" + LINES), ["Doors: no premise is IsOpen"])
-        with self.assertRaises(tables.Wrong):
-            self.faults_of(LINES + "premise: Fits rumour: they do\n")
-
-    def test_a_law_gives_a_premise_and_its_parts_are_premises_too(self) -> None:
-        lines = LINES + "by: doors one_opens\npremise: AreOpened law: doors one_opens\n"
-        self.assertEqual(self.faults_of(lines, shown=SHOWN.replace("AreOpened ", "")), [])
-        without = lines.replace("by: doors one_opens\n", "")
-        other = lines.replace("law: doors one_opens", "law: doors shut shut")
-        fault = "Doors: AreOpened is said to come from"
-        self.assertEqual(self.faults_of(without)[0], f"{fault} doors one_opens, which the promise does not print")
-        self.assertEqual(self.faults_of(other), [f"{fault} doors shut shut, which does not end in AreOpened"])
-        # A further part is a fault if a law gives the whole, and not if a clause of a call does.
-        more = SPECS.replace("WasOpened key door × AreOpened keys", "WasOpened key door × (door ≡ 1) × AreOpened keys")
-        self.assertEqual(self.faults_of(lines, more), ["Doors: nothing gives the premise 'door ≡ 1' of AreOpened"])
-        self.assertEqual(self.faults_of(lines.replace("AreOpened law:", "AreOpened from:"), more), [])
-
-    def test_what_is_between_a_clause_and_a_law_is_not_opened(self) -> None:
-        lines = LINES + "by: doors one_opens\npremise: AreOpened from: doors one_opens\n"
-        opened, unopened = (self.reached(lines + more) for more in ("", "between: AreOpened\n"))
-        self.assertEqual(opened - unopened, {"AreOpened"})
-        self.assertEqual(self.faults_of(lines + "between: AreOpened\n"), [])
-        self.assertNotIn("IsShut", self.reached(LINES + "between: IsShut\n"))
-        wrong = "is said to be between a clause and a law, and is not"
-        self.assertIn(f"Doors: IsInside {wrong}", self.faults_of(lines + "between: IsInside\n"))
-        trusted = LINES.replace("IsShut from: doors shut shut", "IsShut {low high} trust: somebody shuts them")
-        self.assertEqual(self.faults_of(trusted + "between: IsShut\n"), [f"Doors: IsShut {wrong}"])
-        with self.assertRaises(tables.Wrong):
-            self.faults_of(lines + "between: IsNowhere\n")
-
-    def test_what_another_promise_prints_is_not_opened(self) -> None:
-        """Its own premises are checked for the promise that prints it."""
-        other = SAYS.replace("== Doors", "\n== Inside") + LINES
-        elsewhere = LINES + "elsewhere: Inside: AreOpened\n"
-        opened, unopened = (self.reached(lines + other) for lines in (LINES, elsewhere))
-        self.assertEqual(opened - unopened, {"AreOpened", "WasOpened"})
-        self.assertEqual(self.faults_of(elsewhere + other), [])
-        with self.assertRaises(tables.Wrong):
-            self.faults_of(elsewhere)
-        with self.assertRaises(tables.Wrong):
-            self.faults_of(elsewhere + other + "elsewhere: Doors: AreOpened\n")
-
-    def reached(self, lines: str) -> set[str]:
-        """Return the names that a promise of these lines reaches."""
-        promise, *_ = promises.promises(made(self.room), SAYS + lines)
-        return {definition.name for definition in promise.reach.definitions}
-
-    def test_a_clause_that_shows_one_field_gives_the_record(self) -> None:
-        self.assertEqual(self.faults_of(LINES.replace("doors shut shut", "doors shut IsShut.low")), [])
-
-    def test_what_is_trusted_is_named_with_its_fields(self) -> None:
-        shut = "premise: IsShut from: doors shut shut"
-        for name, count in (("IsShut {low high}", 0), ("IsShut {low}", 1), ("IsShut", 1), ("WasOpened.shut", 1),
-                            ("WasOpened {shut}", 1)):
-            found = self.faults_of(LINES.replace(shut, f"premise: {name} trust: somebody shuts them"))
-            self.assertEqual(len([fault for fault in found if "fields" in fault]), count, found)
-        more = SPECS.replace("door ≤ 9\n", "door ≤ 9\n  pub new : IsTrue (is_new door)\n")
-        more = more.replace("-- Doors.", "-- Doors.\nuse Rattle.std.specs.Prelude.{is_new}")
-        found = self.faults_of(LINES.replace(shut, "premise: IsShut {low high} trust: somebody shuts them"), more)
-        self.assertEqual(found, ["Doors: IsShut is trusted by other fields than it has: IsShut {low high new}"])
-
-    def test_what_nothing_has_is_told(self) -> None:
-        both = without_example("AreOpened", "WasOpened")
-        self.assertEqual(self.faults_of(LINES, shown=""), both)
-        self.assertEqual(self.faults_of(LINES, shown=SHOWN.replace("AreOpened ", "")), both[:1])
-        # Without doors, no door is opened.
-        self.assertEqual(self.faults_of(LINES, shown=SHOWN.replace("one", "none")), both[1:])
-        # One part of a sum, a premise, or a piece that is no example shows nothing.
-        for name, kind in (("either", "example"), ("same", "example"), ("one", "law")):
-            shown = SHOWN.replace("Examples.antt: one", f"Examples.antt: {name}").replace("| example |", f"| {kind} |")
-            self.assertEqual(self.faults_of(LINES, shown=shown), both)
-        # A law with the relation as its premise is no example of it.
-        for kind in ("law", "example"):
-            law = SHOWN.replace("example", kind).replace("proofs/Examples.antt: one", "src/doors.rt: doors_open")
-            self.assertEqual(self.faults_of(LINES, shown=law), both)
-
-    def test_a_law_does_not_show_what_it_takes(self) -> None:
-        """The law ends in a relation with a field that it takes as its premise."""
-        lines = LINES + "by: doors one_opens\npremise: AreOpened law: doors one_opens\n"
-        self.assertEqual(self.faults_of(lines, shown=""), without_example("AreOpened", "WasOpened"))
-        # If the premise of a law has an example, the law shows its conclusion.
-        self.assertEqual(self.faults_of(lines, shown=SHOWN.replace("AreOpened ", "")), [])
-
-    def test_two_laws_do_not_show_what_each_takes_from_the_other(self) -> None:
-        lines = LINES + "by: doors inside_opened\n"
-        self.assertEqual(self.faults_of(lines), [])
-        self.assertEqual(self.faults_of(lines, shown=""), without_example("AreOpened", "WasOpened", "IsInside"))
-
-    def test_a_side_of_both_ways_is_shown_by_the_other(self) -> None:
-        lines = LINES.replace("IsShut from: doors shut shut", "IsShut {low high} trust: somebody shuts them")
-        lines = lines.replace("by: doors shut shut\n", "")
-        self.assertEqual(self.faults_of(lines, shown=""), without_example("AreOpened", "WasOpened", "IsShut"))
-        lines += "by: doors first_is_shut\npremise: door ≡ 1 case: it is the first\n"
-        self.assertEqual(self.faults_of(lines, shown=""), without_example("AreOpened", "WasOpened"))
-
-    def test_a_relation_within_another_has_to_be_there_too(self) -> None:
-        specs = SPECS.replace("→ AreOpened keys doors →", "→ AreOpened keys doors → Each Thing →") + THINGS
-        lines = LINES + "premise: Each trust: all are things\n"
-        fault = "Doors: Each is trusted without the fields of what it is made of: Thing"
-        self.assertIn(fault, self.faults_of(lines, specs))
-        lines = LINES + "premise: key.teeth ≡ 1 trust: all have one\n"
-        self.assertEqual(self.faults_of(lines, specs), without_example("Each", "Thing"))
-
-    def test_a_sum_with_itself_comes_to_the_other_part(self) -> None:
-        ends = SPECS.replace("AreOpened (key ∷ keys) (door ∷ doors) = WasOpened key door × AreOpened keys doors",
-                             "AreOpened (key ∷ keys) (door ∷ doors) = (WasOpened key door) ⊎ AreOpened keys doors")
-        shown = SHOWN.replace("Examples.antt: one", "Examples.antt: none")
-        self.assertEqual(self.faults_of(LINES, ends, shown), without_example("WasOpened"))
-        never = ends.replace("AreOpened [] [] = Unit {0}", "AreOpened [] [] = ⊥")
-        self.assertEqual(self.faults_of(LINES, never, shown), [])
-
-    def test_never_is_a_premise_in_a_field_and_in_a_product(self) -> None:
-        for old, new, place in (
-            ("pub teeth : ℕ\n", "pub teeth : ℕ\n  pub never : ⊥\n", "Key.never"),
-            ("pub shut : IsShut door\n", "pub shut : IsShut door\n  pub never : ⊥\n", "WasOpened.never"),
-            ("WasOpened key door × ", "WasOpened key door × ⊥ × ", "AreOpened"),
-        ):
-            found = self.faults_of(LINES, SPECS.replace(old, new))
-            self.assertEqual(found, [f"Doors: nothing gives the premise '⊥' of {place}"])
+def faults_of(tmp_path: Path, lines: str, specs: str = SPECS, shown: str = SHOWN) -> list[str]:
+    """Return the faults of these lines."""
+    return [fault.partition(": ")[2] for fault in faults(made(tmp_path, specs), SAYS + lines, shown)]
 
 
-class Planted(unittest.TestCase):
-    table: str
-    headline: str
-    before: list[str]
+def test_a_closed_chain_is_not_told(tmp_path: Path) -> None:
+    assert faults_of(tmp_path, LINES) == []
 
-    @classmethod
-    def setUpClass(cls) -> None:
-        cls.table = (ROOT / "statement" / "promises.txt").read_text()
-        # The lines for every promise, the headline, and the promises that print words of it.
-        shared, headline, *others = cls.table.split("\n== ")
-        printing = [each for each in others if f"elsewhere: {each.splitlines()[0]}: " in headline]
-        cls.headline = "\n== ".join([shared, headline, *printing])
-        cls.before = faults(World(ROOT), cls.headline, first=1)
 
-    def setUp(self) -> None:
-        self.world = World(ROOT)
+def test_a_premise_that_nothing_gives_is_told(tmp_path: Path) -> None:
+    without = LINES.replace("premise: Fits from: doors cut fits\n", "")
+    assert faults_of(tmp_path, without) == ["Doors: nothing gives the premise 'key.teeth ≡ door' of Fits"]
+    fault = "Doors: nothing gives the premise 'door ≤ 3' of IsInside.once"
+    without = LINES.replace("premise: door ≤ * case: the door is one of these\n", "")
+    assert faults_of(tmp_path, without) == [fault]
+    assert faults_of(tmp_path, LINES.replace("door ≤ *", "door ≤")) == [fault, "Doors: no premise is door ≤"]
+
+
+def test_each_side_of_both_ways_is_a_premise(tmp_path: Path) -> None:
+    found = faults_of(tmp_path, LINES + "by: doors first_is_shut\n")
+    assert found == ["Doors: nothing gives the premise 'door ≡ 1' of first_is_shut"]
+    lines = LINES + "by: doors first_is_shut\npremise: door ≡ 1 case: it is the first\n"
+    assert faults_of(tmp_path, lines) == []
+
+
+def test_a_clause_that_does_not_give_it_is_told(tmp_path: Path) -> None:
+    found = faults_of(tmp_path, LINES.replace("Fits from: doors cut fits", "Fits from: doors shut shut"))
+    assert found == ["Doors: Fits is said to come from doors shut shut, which does not end in Fits"]
+    found = faults_of(tmp_path, LINES.replace("by: doors cut fits\n", ""))
+    assert found == ["Doors: Fits is said to come from doors cut fits, which the promise does not print",
+                     *ungrounded("doors_open")]
+
+
+def test_what_clauses_give_each_other_alone_is_told_of_each_clause(tmp_path: Path) -> None:
+    lines = LINES.replace("doors shut shut", "doors shut again") + "by: doors doors_open_again\n"
+    assert faults_of(tmp_path, lines) == ungrounded("shut again", "doors_open", "doors_open_again")
+
+
+def test_lines_that_are_none_are_told(tmp_path: Path) -> None:
+    assert faults_of(tmp_path, LINES + "premise: Opens trust: they do\n") == ["Doors: no premise is Opens"]
+    assert faults_of(tmp_path, "premise: IsOpen case: they do\n" + LINES) == ["Doors: no premise is IsOpen"]
+    with pytest.raises(tables.Wrong):
+        faults_of(tmp_path, LINES + "premise: Fits rumour: they do\n")
+
+
+def test_a_law_gives_a_premise_and_its_parts_are_premises_too(tmp_path: Path) -> None:
+    lines = LINES + "by: doors one_opens\npremise: AreOpened law: doors one_opens\n"
+    assert faults_of(tmp_path, lines, shown=SHOWN.replace("AreOpened ", "")) == []
+    without = lines.replace("by: doors one_opens\n", "")
+    other = lines.replace("law: doors one_opens", "law: doors shut shut")
+    fault = "Doors: AreOpened is said to come from"
+    assert faults_of(tmp_path, without)[0] == f"{fault} doors one_opens, which the promise does not print"
+    assert faults_of(tmp_path, other) == [f"{fault} doors shut shut, which does not end in AreOpened"]
+    # A further part is a fault if a law gives the whole, and not if a clause of a call does.
+    more = SPECS.replace("WasOpened key door × AreOpened keys", "WasOpened key door × (door ≡ 1) × AreOpened keys")
+    assert faults_of(tmp_path, lines, more) == ["Doors: nothing gives the premise 'door ≡ 1' of AreOpened"]
+    assert faults_of(tmp_path, lines.replace("AreOpened law:", "AreOpened from:"), more) == []
+
+
+def test_what_is_between_a_clause_and_a_law_is_not_opened(tmp_path: Path) -> None:
+    lines = LINES + "by: doors one_opens\npremise: AreOpened from: doors one_opens\n"
+    opened, unopened = (reached(tmp_path, lines + more) for more in ("", "between: AreOpened\n"))
+    assert opened - unopened == {"AreOpened"}
+    assert faults_of(tmp_path, lines + "between: AreOpened\n") == []
+    assert "IsShut" not in reached(tmp_path, LINES + "between: IsShut\n")
+    wrong = "is said to be between a clause and a law, and is not"
+    assert f"Doors: IsInside {wrong}" in faults_of(tmp_path, lines + "between: IsInside\n")
+    trusted = LINES.replace("IsShut from: doors shut shut", "IsShut {low high} trust: somebody shuts them")
+    assert faults_of(tmp_path, trusted + "between: IsShut\n") == [f"Doors: IsShut {wrong}"]
+    with pytest.raises(tables.Wrong):
+        faults_of(tmp_path, lines + "between: IsNowhere\n")
+
+
+def test_what_another_promise_prints_is_not_opened(tmp_path: Path) -> None:
+    """Its own premises are checked for the promise that prints it."""
+    other = SAYS.replace("== Doors", "\n== Inside") + LINES
+    elsewhere = LINES + "elsewhere: Inside: AreOpened\n"
+    opened, unopened = (reached(tmp_path, lines + other) for lines in (LINES, elsewhere))
+    assert opened - unopened == {"AreOpened", "WasOpened"}
+    assert faults_of(tmp_path, elsewhere + other) == []
+    with pytest.raises(tables.Wrong):
+        faults_of(tmp_path, elsewhere)
+    with pytest.raises(tables.Wrong):
+        faults_of(tmp_path, elsewhere + other + "elsewhere: Doors: AreOpened\n")
+
+
+def reached(tmp_path: Path, lines: str) -> set[str]:
+    """Return the names that a promise of these lines reaches."""
+    promise, *_ = promises.promises(made(tmp_path), SAYS + lines)
+    return {definition.name for definition in promise.reach.definitions}
+
+
+def test_a_clause_that_shows_one_field_gives_the_record(tmp_path: Path) -> None:
+    assert faults_of(tmp_path, LINES.replace("doors shut shut", "doors shut IsShut.low")) == []
+
+
+def test_what_is_trusted_is_named_with_its_fields(tmp_path: Path) -> None:
+    shut = "premise: IsShut from: doors shut shut"
+    for name, count in (("IsShut {low high}", 0), ("IsShut {low}", 1), ("IsShut", 1), ("WasOpened.shut", 1),
+                        ("WasOpened {shut}", 1)):
+        found = faults_of(tmp_path, LINES.replace(shut, f"premise: {name} trust: somebody shuts them"))
+        assert len([fault for fault in found if "fields" in fault]) == count, found
+    more = SPECS.replace("door ≤ 9\n", "door ≤ 9\n  pub new : IsTrue (is_new door)\n")
+    more = more.replace("-- Doors.", "-- Doors.\nuse Rattle.std.specs.Prelude.{is_new}")
+    found = faults_of(tmp_path, LINES.replace(shut, "premise: IsShut {low high} trust: somebody shuts them"), more)
+    assert found == ["Doors: IsShut is trusted by other fields than it has: IsShut {low high new}"]
+
+
+def test_what_nothing_has_is_told(tmp_path: Path) -> None:
+    both = without_example("AreOpened", "WasOpened")
+    assert faults_of(tmp_path, LINES, shown="") == both
+    assert faults_of(tmp_path, LINES, shown=SHOWN.replace("AreOpened ", "")) == both[:1]
+    # Without doors, no door is opened.
+    assert faults_of(tmp_path, LINES, shown=SHOWN.replace("one", "none")) == both[1:]
+    # One part of a sum, a premise, or a piece that is no example shows nothing.
+    for name, kind in (("either", "example"), ("same", "example"), ("one", "law")):
+        shown = SHOWN.replace("Examples.antt: one", f"Examples.antt: {name}").replace("| example |", f"| {kind} |")
+        assert faults_of(tmp_path, LINES, shown=shown) == both
+    # A law with the relation as its premise is no example of it.
+    for kind in ("law", "example"):
+        law = SHOWN.replace("example", kind).replace("proofs/Examples.antt: one", "src/doors.rt: doors_open")
+        assert faults_of(tmp_path, LINES, shown=law) == both
+
+
+def test_a_law_does_not_show_what_it_takes(tmp_path: Path) -> None:
+    """The law ends in a relation with a field that it takes as its premise."""
+    lines = LINES + "by: doors one_opens\npremise: AreOpened law: doors one_opens\n"
+    assert faults_of(tmp_path, lines, shown="") == without_example("AreOpened", "WasOpened")
+    # If the premise of a law has an example, the law shows its conclusion.
+    assert faults_of(tmp_path, lines, shown=SHOWN.replace("AreOpened ", "")) == []
+
+
+def test_two_laws_do_not_show_what_each_takes_from_the_other(tmp_path: Path) -> None:
+    lines = LINES + "by: doors inside_opened\n"
+    assert faults_of(tmp_path, lines) == []
+    assert faults_of(tmp_path, lines, shown="") == without_example("AreOpened", "WasOpened", "IsInside")
+
+
+def test_a_side_of_both_ways_is_shown_by_the_other(tmp_path: Path) -> None:
+    lines = LINES.replace("IsShut from: doors shut shut", "IsShut {low high} trust: somebody shuts them")
+    lines = lines.replace("by: doors shut shut\n", "")
+    assert faults_of(tmp_path, lines, shown="") == without_example("AreOpened", "WasOpened", "IsShut")
+    lines += "by: doors first_is_shut\npremise: door ≡ 1 case: it is the first\n"
+    assert faults_of(tmp_path, lines, shown="") == without_example("AreOpened", "WasOpened")
+
+
+def test_a_relation_within_another_has_to_be_there_too(tmp_path: Path) -> None:
+    specs = SPECS.replace("→ AreOpened keys doors →", "→ AreOpened keys doors → Each Thing →") + THINGS
+    lines = LINES + "premise: Each trust: all are things\n"
+    fault = "Doors: Each is trusted without the fields of what it is made of: Thing"
+    assert fault in faults_of(tmp_path, lines, specs)
+    lines = LINES + "premise: key.teeth ≡ 1 trust: all have one\n"
+    assert faults_of(tmp_path, lines, specs) == without_example("Each", "Thing")
+
+
+def test_a_sum_with_itself_comes_to_the_other_part(tmp_path: Path) -> None:
+    ends = SPECS.replace("AreOpened (key ∷ keys) (door ∷ doors) = WasOpened key door × AreOpened keys doors",
+                         "AreOpened (key ∷ keys) (door ∷ doors) = (WasOpened key door) ⊎ AreOpened keys doors")
+    shown = SHOWN.replace("Examples.antt: one", "Examples.antt: none")
+    assert faults_of(tmp_path, LINES, ends, shown) == without_example("WasOpened")
+    never = ends.replace("AreOpened [] [] = Unit {0}", "AreOpened [] [] = ⊥")
+    assert faults_of(tmp_path, LINES, never, shown) == []
+
+
+def test_never_is_a_premise_in_a_field_and_in_a_product(tmp_path: Path) -> None:
+    for old, new, place in (
+        ("pub teeth : ℕ\n", "pub teeth : ℕ\n  pub never : ⊥\n", "Key.never"),
+        ("pub shut : IsShut door\n", "pub shut : IsShut door\n  pub never : ⊥\n", "WasOpened.never"),
+        ("WasOpened key door × ", "WasOpened key door × ⊥ × ", "AreOpened"),
+    ):
+        found = faults_of(tmp_path, LINES, SPECS.replace(old, new))
+        assert found == [f"Doors: nothing gives the premise '⊥' of {place}"]
+
+
+class Planting:
+    """The world, whose definitions a test changes, and the headline of the promises."""
+
+    def __init__(self, headline: str, before: list[str]) -> None:
+        self.world, self.headline, self.before = World(ROOT), headline, before
 
     def change(self, label: str, old: str, new: str) -> list[str]:
         """Return the new faults after a text in a definition is replaced."""
         every = [definition for specs in self.world.specs.values() for definition in specs.definitions.values()]
         known = next(definition for definition in every if definition.label == label)
         lines = "\n".join(known.lines)
-        self.assertIn(old, lines)
+        assert old in lines
         text = (ROOT / known.path).read_text().replace(lines, lines.replace(old, new))
         self.world.specs[known.module] = antt.read(known.module, known.path, text)
         return self.found(self.headline)
 
     def without(self, line: str) -> list[str]:
         """Return the new faults if the headline, or the lines before it, lack this line."""
-        self.assertIn(line, self.headline)
+        assert line in self.headline
         return self.found(self.headline.replace(line, "", 1))
 
     def found(self, table: str) -> list[str]:
         """Return the faults of the promises of this table that were not there before."""
         return [fault for fault in faults(self.world, table, first=1) if fault not in self.before]
 
-    def test_the_promises_close(self) -> None:
-        self.assertEqual([fault for fault in faults(self.world) if fault.startswith("statement/promises.txt")], [])
 
-    def test_what_is_planted_is_noticed(self) -> None:
-        """An empty type, a further field of a stop, and further premises, which also fail proofs of laws."""
-        for label, old, new, wanted in PLANTED:
-            with self.subTest(label, new=new):
-                self.world = World(ROOT)
-                found = self.change(f"rs_recovery.{label}", old, new)
-                self.assertTrue(any(re.fullmatch(f"{HEADLINE}: {wanted}", fault) for fault in found), found)
+@pytest.fixture(scope="module")
+def before(headline: str) -> list[str]:
+    """Return the faults of the headline as it is."""
+    return faults(World(ROOT), headline, first=1)
 
-    def test_sessions_with_a_premise_that_another_session_gives(self) -> None:
-        """The proof of the law `sessions_follow` fails then; no fault is found here, as a line grounds the premise."""
-        stands = "× StandsFor y.image s"
-        found = self.change("rs_recovery.Sessions.AreSessions", stands, f"{stands} × StandsFor x.image s")
-        self.assertEqual(found, [])
 
-    def test_a_stop_without_its_example(self) -> None:
-        """The law that ends in a stop has a stop as its premise."""
-        lines = (ROOT / "statement" / "evidence.txt").read_text().splitlines()
-        shown = "\n".join(line for line in lines if not line.endswith(": are_stops"))
-        found = faults(self.world, self.headline, shown, first=1)
-        fault = "rs_recovery.Sessions.IsStop stands only left of an arrow, and no example has it"
-        self.assertIn(f"statement/evidence.txt: {fault}", found)
-        self.assertNotIn(f"statement/evidence.txt: {fault}", self.before)
+@pytest.fixture
+def planting(headline: str, before: list[str]) -> Planting:
+    """Return the world as it is."""
+    return Planting(headline, before)
 
-    def test_a_headline_without_what_gives_a_premise(self) -> None:
-        """The headline lacks its formatting, its run, the law of its sessions, or a command."""
-        for line, name, clause in (
-            ("rs_store Source::format holds runs", "Holds", "rs_store Source::format holds"),
-            ("rs_store Source::run in_turn untouched", "InTurn", "rs_store Source::run in_turn"),
-            ("rs_recovery sessions_follow", "AreSessions", "rs_recovery sessions_follow first"),
-            ("rs_store Source::put Answers.leads Answers.runs Answers.closed Answers.closes", "Answers",
-             "rs_store Source::put"),
-        ):
-            found = self.without(f"by: {line}\n")
-            fault = f"{name} is said to come from {clause}, which the promise does not print"
-            self.assertIn(f"{HEADLINE}: {fault}", found)
 
-    def test_a_headline_without_a_line(self) -> None:
-        for name in ("IsStop {from to left}", "StandsFor", "Holds", "(device disk).now.seen ≡ x.image"):
-            line = next(line for line in self.headline.split("premise: ") if line.startswith(f"{name}\n"))
-            found = self.without(f"premise: {line}")
-            self.assertTrue(any(fault.startswith(f"{HEADLINE}: {NOTHING}") for fault in found), name)
+def test_the_promises_close() -> None:
+    assert [fault for fault in faults(World(ROOT)) if fault.startswith("statement/promises.txt")] == []
+
+
+def test_what_is_planted_is_noticed(planting: Planting) -> None:
+    """An empty type, a further field of a stop, and further premises, which also fail proofs of laws."""
+    for label, old, new, wanted in PLANTED:
+        planting.world = World(ROOT)
+        found = planting.change(f"rs_recovery.{label}", old, new)
+        assert any(re.fullmatch(f"{HEADLINE}: {wanted}", fault) for fault in found), found
+
+
+def test_sessions_with_a_premise_that_another_session_gives(planting: Planting) -> None:
+    """The proof of the law `sessions_follow` fails then; no fault is found here, as a line grounds the premise."""
+    stands = "× StandsFor y.image s"
+    found = planting.change("rs_recovery.Sessions.AreSessions", stands, f"{stands} × StandsFor x.image s")
+    assert found == []
+
+
+def test_a_stop_without_its_example(planting: Planting) -> None:
+    """The law that ends in a stop has a stop as its premise."""
+    lines = (ROOT / "statement" / "evidence.txt").read_text().splitlines()
+    shown = "\n".join(line for line in lines if not line.endswith(": are_stops"))
+    found = faults(planting.world, planting.headline, shown, first=1)
+    fault = "rs_recovery.Sessions.IsStop stands only left of an arrow, and no example has it"
+    assert f"statement/evidence.txt: {fault}" in found
+    assert f"statement/evidence.txt: {fault}" not in planting.before
+
+
+def test_a_headline_without_what_gives_a_premise(planting: Planting) -> None:
+    """The headline lacks its formatting, its run, the law of its sessions, or a command."""
+    for line, name, clause in (
+        ("rs_store Source::format holds runs", "Holds", "rs_store Source::format holds"),
+        ("rs_store Source::run in_turn untouched", "InTurn", "rs_store Source::run in_turn"),
+        ("rs_recovery sessions_follow", "AreSessions", "rs_recovery sessions_follow first"),
+        ("rs_store Source::put Answers.leads Answers.runs Answers.closed Answers.closes", "Answers",
+         "rs_store Source::put"),
+    ):
+        found = planting.without(f"by: {line}\n")
+        fault = f"{name} is said to come from {clause}, which the promise does not print"
+        assert f"{HEADLINE}: {fault}" in found
+
+
+def test_a_headline_without_a_line(planting: Planting) -> None:
+    for name in ("IsStop {from to left}", "StandsFor", "Holds", "(device disk).now.seen ≡ x.image"):
+        line = next(line for line in planting.headline.split("premise: ") if line.startswith(f"{name}\n"))
+        found = planting.without(f"premise: {line}")
+        assert any(fault.startswith(f"{HEADLINE}: {NOTHING}") for fault in found), name

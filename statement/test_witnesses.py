@@ -1,13 +1,10 @@
 """Test the witnesses: an untied variable of a conclusion is a fault, planted in our own promises."""
 
-import unittest
-from pathlib import Path
-
 from rattle import antt
 from statement import promises, witnesses
 from statement.world import World
+from tests.program import ROOT
 
-ROOT = Path(__file__).resolve().parent.parent
 TURN = "TellsRequest (turn device old told.connection.now new) told.connection.ends"
 
 # A definition, a text in it, its replacement, and the variable that is untied then.
@@ -32,47 +29,41 @@ PLANTED = (
 )
 
 
-class Witnesses(unittest.TestCase):
-    headline: str
+def faults(table: str, world: World | None = None) -> list[str]:
+    """Return the faults of the witnesses of the headline."""
+    world = world or World(ROOT)
+    found = witnesses.follow(world, promises.promises(world, table)[:1])
+    return [fault for fault in found if "no promise has" not in fault]
 
-    @classmethod
-    def setUpClass(cls) -> None:
-        shared, headline, *others = (ROOT / "statement" / "promises.txt").read_text().split("\n== ")
-        printing = [each for each in others if f"elsewhere: {each.splitlines()[0]}: " in headline]
-        cls.headline = "\n== ".join([shared, headline, *printing])
 
-    def faults(self, table: str, world: World | None = None) -> list[str]:
-        """Return the faults of the witnesses of the headline."""
-        world = world or World(ROOT)
-        found = witnesses.follow(world, promises.promises(world, table)[:1])
-        return [fault for fault in found if "no promise has" not in fault]
+def test_each_witness_of_the_promises_has_a_line() -> None:
+    world = World(ROOT)
+    assert witnesses.follow(world, promises.promises(world)) == []
 
-    def test_each_witness_of_the_promises_has_a_line(self) -> None:
+
+def test_a_planted_witness_is_a_fault(headline: str) -> None:
+    for label, old, new, variable in PLANTED:
         world = World(ROOT)
-        self.assertEqual(witnesses.follow(world, promises.promises(world)), [])
+        every = [definition for specs in world.specs.values() for definition in specs.definitions.values()]
+        known = next(definition for definition in every if definition.label == label)
+        lines = "\n".join(known.lines)
+        assert old in lines
+        text = (ROOT / known.path).read_text().replace(lines, lines.replace(old, new))
+        world.specs[known.module] = antt.read(known.module, known.path, text)
+        fault = f"statement/promises.txt: The headline: nothing ties the witness {variable}"
+        assert fault in faults(headline, world)
 
-    def test_a_planted_witness_is_a_fault(self) -> None:
-        for label, old, new, variable in PLANTED:
-            with self.subTest(label, variable=variable):
-                world = World(ROOT)
-                every = [definition for specs in world.specs.values() for definition in specs.definitions.values()]
-                known = next(definition for definition in every if definition.label == label)
-                lines = "\n".join(known.lines)
-                self.assertIn(old, lines)
-                text = (ROOT / known.path).read_text().replace(lines, lines.replace(old, new))
-                world.specs[known.module] = antt.read(known.module, known.path, text)
-                fault = f"statement/promises.txt: The headline: nothing ties the witness {variable}"
-                self.assertIn(fault, self.faults(self.headline, world))
 
-    def test_a_word_that_says_nothing_of_some_ends_needs_a_line(self) -> None:
-        for name in ("Consumes; Appends; IsAtEnd", "accepted"):
-            begin = self.headline.index(f"witness: {name}\n")
-            end = self.headline.index("\nwitness: ", begin) if "\nwitness: " in self.headline[begin:] else begin
-            found = self.faults(self.headline[:begin] + self.headline[end + 1 :])
-            self.assertIn(f"statement/promises.txt: The headline: nothing ties the witness {name.split(';')[0]}", found)
+def test_a_word_that_says_nothing_of_some_ends_needs_a_line(headline: str) -> None:
+    for name in ("Consumes; Appends; IsAtEnd", "accepted"):
+        begin = headline.index(f"witness: {name}\n")
+        end = headline.index("\nwitness: ", begin) if "\nwitness: " in headline[begin:] else begin
+        found = faults(headline[:begin] + headline[end + 1 :])
+        assert f"statement/promises.txt: The headline: nothing ties the witness {name.split(';')[0]}" in found
 
-    def test_a_line_of_a_witness_that_is_not_there_is_a_fault(self) -> None:
-        world, line = World(ROOT), "witness: IsStop.more\n  trust: there is more\n"
-        table = self.headline.replace("\nwitness: ", f"\n{line}witness: ", 1)
-        found = witnesses.follow(world, promises.promises(world, table)[:1])
-        self.assertIn("statement/promises.txt: no promise has the witness IsStop.more", found)
+
+def test_a_line_of_a_witness_that_is_not_there_is_a_fault(headline: str) -> None:
+    world, line = World(ROOT), "witness: IsStop.more\n  trust: there is more\n"
+    table = headline.replace("\nwitness: ", f"\n{line}witness: ", 1)
+    found = witnesses.follow(world, promises.promises(world, table)[:1])
+    assert "statement/promises.txt: no promise has the witness IsStop.more" in found
