@@ -54,7 +54,8 @@ def talk(program: str, *words: str) -> Iterator[Talk]:
         try:
             assert process.stdin and process.stdout
             yield Talk(process, process.stdout)
-            process.stdin.close()
+            with contextlib.suppress(BrokenPipeError):
+                process.stdin.close()
             assert process.wait(SECONDS) == 0
         finally:
             process.kill()

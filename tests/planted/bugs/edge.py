@@ -120,6 +120,29 @@ OF_STREAMS = [
         f"{STREAMS}::test_a_failure_of_standard_error_leaves_the_exit_status",
     ),
     body(
+        "a script ends behind 256 MiB", "source", "main",
+        "    let mut reader = Watched::new(rt.reader());\n",
+        "    let mut reader = Watched::new(io::Read::take(rt.reader(), 256 << 20));\n",
+        f"{STREAMS}::test_a_script_of_300_mib_is_read_to_its_end",
+    ),
+    body(
+        "output that fails on a closed source is a success", "source", "main",
+        "    script(rt.alloc(), source, &mut reader, &mut writer)?;\n    Ok(())\n",
+        "    match script(rt.alloc(), source, &mut reader, &mut writer) {\n"
+        "        Err(_) if source.is_closed() => Ok(()),\n"
+        "        done => done.map(|_| ()).map_err(Into::into),\n    }\n",
+        f"{STREAMS}::test_output_that_cannot_be_written_fails_on_a_closed_source_too",
+    ),
+    body(
+        "a refused client that sends 1 KiB restarts its time", "source", "serving",
+        "    let mut rest = [0u8; 8192];\n    for _ in 0..MOST_READS {\n"
+        "        let Ok(1..) = reader.read(&mut rest) else {\n            return;\n        };\n",
+        "    let mut begun = begun;\n    let mut rest = [0u8; 8192];\n    for _ in 0..MOST_READS {\n"
+        "        let Ok(count @ 1..) = reader.read(&mut rest) else {\n            return;\n        };\n"
+        "        if count >= 1_024 {\n            begun = clock.monotonic().unwrap_or(begun);\n        }\n",
+        "tests/system/test_connections.py::test_a_refused_client_holds_the_next_for_two_seconds",
+    ),
+    body(
         "a copy has whole blocks", "source", "main",
         "    copy_to_file(rt, &mut source, new, size, Unknown)?;\n",
         "    copy_to_file(rt, &mut source, new, size / 512 * 512, Unknown)?;\n",
@@ -175,5 +198,44 @@ OF_STREAMS = [
         "            Outcome::Works if self.calls > 20_000 => Err(Fault),\n"
         "            Outcome::Works => {\n                self.contents.get(at as usize, into);\n",
         f"{STREAMS}::test_a_disk_in_memory_makes_thousands_of_calls",
+    ),
+]
+LARGE = "tests/system/test_large.py::test"
+DRAWN = f"SEED=74 {LARGE}_commands_of_drawn_counts_of_resources_are_accepted[0]"
+# Refusals for lack of memory that no lack of memory causes.
+OF_COUNTS = [
+    body(
+        "a body is not shown above 10,000 resources", "store", "reading",
+        "        let sha256 = record.digests.sha256;\n",
+        "        if self.contents.catalogue.len() > 10_000 {\n            return Err(Refusal::NoMemory);\n        }\n"
+        "        let sha256 = record.digests.sha256;\n",
+        DRAWN,
+    ),
+    body(
+        "more than 10,000 resources are not verified", "store", "verifying",
+        "    for i in 0..catalogue.len() {\n",
+        "    if catalogue.len() > 10_000 {\n        return Err(Refusal::NoMemory);\n    }\n"
+        "    for i in 0..catalogue.len() {\n",
+        DRAWN,
+    ),
+    body(
+        "a body over HTTP is refused above 10,000 resources", "store", "receiving",
+        "        let length = body_length as u32;\n",
+        "        if self.contents.catalogue.len() > 10_000 {\n            return Err(Refusal::NoMemory);\n        }\n"
+        "        let length = body_length as u32;\n",
+        DRAWN,
+    ),
+    body(
+        "more than 10,000 resources are not copied", "store", "copying",
+        "        if self.is_closed {\n            return Err((disk, CopyRefusal::Closed));\n        }\n",
+        "        if self.is_closed || self.contents.catalogue.len() > 10_000 {\n"
+        "            return Err((disk, CopyRefusal::Closed));\n        }\n",
+        DRAWN,
+    ),
+    body(
+        "at most 2,000 damaged bodies are named", "store", "verifying",
+        "    names.push(name.copy(alloc)?)?;\n",
+        "    if names.len() < 2_000 {\n        names.push(name.copy(alloc)?)?;\n    }\n",
+        f"{LARGE}_many_damaged_bodies_are_named",
     ),
 ]
