@@ -40,7 +40,8 @@ def test_a_search_takes_patterns_digests_and_letters_without_diacritics(look: Lo
     with look.fake(make) as shown:
         browser.open(f"{shown.base}/")
         browser.state("Open")
-        digest = next(entry.hash.partition("sha-256:")[2] for entry in shown.fake.listed if entry.name == "a/report.pdf")
+        report = next(entry for entry in shown.fake.listed if entry.name == "a/report.pdf")
+        digest = report.hash.partition("sha-256:")[2]
         for words, wanted in [("muller", ["Müller.txt"]), ("MÜLLER", ["Müller.txt"]), ("*.pdf", ["a/report.pdf"]),
                               ("min*.csv", ["b/Minutes-1.csv"]), ("report*", ["a/report.pdf", "a/report.pdf.txt"]),
                               (digest, ["a/report.pdf"]), (digest[:8].upper(), ["a/report.pdf"]), (digest[:7], [])]:
@@ -90,7 +91,8 @@ def test_folders_and_types_narrow_the_list(look: Looked) -> None:
 
 def hostile(base: str) -> fakes.Fake:
     """Return a source with hostile names and types."""
-    changes = [fakes.entry_of(name, b"body", fakes.BEGUN + at, "created", kind) for at, (name, kind) in enumerate(HOSTILE)]
+    changes = [fakes.entry_of(name, b"body", fakes.BEGUN + at, "created", kind)
+               for at, (name, kind) in enumerate(HOSTILE)]
     return fakes.published(fakes.Fake(base, changes=changes), fakes.BEGUN + 100)
 
 
