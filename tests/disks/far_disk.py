@@ -83,8 +83,7 @@ def fillers(count: int) -> list[bytes]:
 
 
 def parts(filled: int, end: int = BLOCKS) -> list[Part]:
-    """Return the parts of a disk: `filled` bodies of zeros in front, the slots, and all others in the blocks up to `end`.
-    """
+    """Return the parts of a disk: `filled` bodies of zeros first, the slots, then all others in blocks up to `end`."""
     bodies, records = list[Part](), fillers(filled)
     for at, (name, body) in enumerate(BODIES.items(), filled + 1):
         end -= blocks_of(body)

@@ -116,7 +116,8 @@ TABLE = (
         Health.CRITICAL: "critical",
         Health.UNKNOWN: "unknown: wrong arguments, or the file of --prometheus cannot be written",
     }, Health.UNKNOWN),
-    declared("status", "report the state of every source of this machine", "health.status", ("--json", "--max-time 60"), {
+    declared("status", "report the state of every source of this machine", "health.status",
+             ("--json", "--max-time 60"), {
         Health.OK: "every source is good",
         Health.WARNING: "the worst state is a warning",
         Health.CRITICAL: "the worst state is critical",

@@ -55,7 +55,8 @@ def test_end_of_the_run_ends_a_request_in_time(answers: object) -> None:
 
 
 def test_pause_in_a_transfer_ends_the_attempt() -> None:
-    with mock.patch.object(handle, "OPTIONS", handle.OPTIONS | {pycurl.LOW_SPEED_TIME: 1}), RawServer(waiting) as server:
+    short = handle.OPTIONS | {pycurl.LOW_SPEED_TIME: 1}
+    with mock.patch.object(handle, "OPTIONS", short), RawServer(waiting) as server:
         started = time.monotonic()
         with pytest.raises(Silent, match="Operation too slow"):
             Client(server.base, patience=0).ask("GET", "/a")

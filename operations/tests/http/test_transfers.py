@@ -313,7 +313,8 @@ def test_other_faults_end_all(where: str, fault: BaseException) -> None:
 
 def test_long_body_ends_alone() -> None:
     with RawServer(by_name) as server:
-        asked = [Noted(f"{server.base}/{name}/{size}", 1_000) for name, size in (("a", 1_000), ("b", 1_001), ("c", 999))]
+        sizes = {"a": 1_000, "b": 1_001, "c": 999}
+        asked = [Noted(f"{server.base}/{name}/{size}", 1_000) for name, size in sizes.items()]
         ended = {transfer.url.split("/")[3]: type(result) for transfer, result in Transfers(server.base).each(asked)}
         assert ended == {"a": Response, "b": Long, "c": Response}
         assert asked[1].begun == []

@@ -1,5 +1,6 @@
 """Test the names that the page shows, and the addresses of resources, searches, orders, ranges and tabs."""
 import json
+from pathlib import Path
 from urllib.parse import quote
 
 from operations.tests.page import fake as fakes, scripts
@@ -260,12 +261,19 @@ FILES = [
 def test_the_page_describes_the_source_for_search_engines(look: Looked) -> None:
     """JSON-LD has the operator's texts and the lists' figures as a Dataset; no text of it ends the element."""
     browser = look.browser
-    texts = {"title": "</script><b>Letters</b>", "keeper": "A library", "contact": "a@b.example", "licence": "CC BY 4.0"}
-    look.edit = lambda page: [page.parent.joinpath(ABOUT).write_text(json.dumps(texts))] and None
+    texts = {"title": "</script><b>Letters</b>", "keeper": "A library", "contact": "a@b.example",
+             "licence": "CC BY 4.0"}
+
+    def describe(page: Path) -> None:
+        """Write the operator's texts."""
+        page.parent.joinpath(ABOUT).write_text(json.dumps(texts))
+
+    look.edit = describe
     with look.fake(lambda base: fakes.archive(base, 30)) as shown:
         browser.open(f"{shown.base}/")
         browser.state("Open")
-        text = browser.until("return document.head.querySelector('[type=\"application/ld+json\"]')?.textContent", "JSON-LD")
+        text = browser.until("return document.head.querySelector('[type=\"application/ld+json\"]')?.textContent",
+                             "JSON-LD")
         found = json.loads(text)
         size = sum(entry.length for entry in fakes.current(shown.fake))
         assert "<" not in text

@@ -59,7 +59,8 @@ def test_one_range_is_pressed_if_all_changes_are_recent(look: Looked) -> None:
     now = look.browser.run("return Date.now()")
 
     def recent(base: str) -> fakes.Fake:
-        return fakes.published(fakes.Fake(base, changes=[fakes.entry_of("a", b"", now - DAY, "created")]), now - DAY + 1)
+        changes = [fakes.entry_of("a", b"", now - DAY, "created")]
+        return fakes.published(fakes.Fake(base, changes=changes), now - DAY + 1)
 
     with look.fake(recent) as shown:
         look.browser.open(f"{shown.base}/")

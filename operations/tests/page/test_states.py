@@ -50,17 +50,17 @@ def hostile(base: str) -> fakes.Fake:
 def test_markup_in_names_and_types_is_shown_as_text(look: Looked) -> None:
     """No markup runs, and no element is wider than the page."""
     browser = look.chromium
-    wanted = [tuple(TURNING.get(word, word) for word in pair) for pair in HOSTILE]
+    wanted = {TURNING.get(name, name): TURNING.get(kind, kind) for name, kind in HOSTILE}
     with look.fake(hostile) as shown:
         browser.open(f"{shown.base}/", (1280, 2_000))
         browser.state("Not mirrorable")
         assert "../../up" in browser.text("why")
-        labels = sorted((name, LABELS.get(kind, kind)) for name, kind in wanted)
+        labels = sorted((name, LABELS.get(kind, kind)) for name, kind in wanted.items())
         assert sorted(tuple(row[:2]) for row in browser.run(scripts.ROWS, "resources")) == labels
         for number, name in enumerate(browser.run(scripts.ROWS, "resources")):
             browser.run("document.querySelectorAll('.resources .row')[arguments[0]].click()", number)
             assert browser.text("name") == name[0]
-            assert browser.text("type") == dict(wanted)[name[0]]
+            assert browser.text("type") == wanted[name[0]]
         browser.click("check-some")
         browser.until("return /; .* in/.test(document.querySelector(`[data-part='checked']`).textContent)",
                       "the end of the checks")
@@ -322,7 +322,8 @@ def test_rows_and_figures_come_with_the_first_part(look: Looked) -> None:
             browser.until("return document.querySelectorAll('.resources .row').length > 5", "the first rows")
             browser.state("Reading")
             assert (browser.text("resources"), browser.text("since")) == ("20", "so far")
-            bar = "const it = document.querySelector('[data-part=reading]'); return [it.checkVisibility(), it.value > 0]"
+            bar = ("const it = document.querySelector('[data-part=reading]');"
+                   "return [it.checkVisibility(), it.value > 0]")
             assert browser.run(bar) == [True, True]
             name = browser.run("""
                 const row = document.querySelectorAll(".resources .row")[3];

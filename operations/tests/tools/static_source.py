@@ -61,7 +61,8 @@ def url(loc: str, lastmod: str = "", inner: str = "") -> str:
 
 def facts(style: Style, body: bytes, **more: str) -> str:
     """Return the attributes of a body in a style."""
-    return md(**more, hash=documents.digests_of(body, style.hashes), length=str(len(body)) if style.has_length else "", type=style.kind)
+    length = str(len(body)) if style.has_length else ""
+    return md(**more, hash=documents.digests_of(body, style.hashes), length=length, type=style.kind)
 
 
 def archive(style: Style, base: str, files: dict[str, bytes], at: str = FIRST, kind: str = "resource",

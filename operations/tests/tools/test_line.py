@@ -360,6 +360,7 @@ def test_a_run_with_closed_standard_files_does_its_work(program: str, room: Path
     with Server(program, room / "a.disk") as server:
         for words, status in ((f"health {server.url}", 0), (f"mirror {server.url} m", 0), ("look --json a.disk", 0),
                               ("look none", 3), ("--version", 0)):
-            ended = subprocess.run(["sh", "-c", f"{' '.join(COMMAND)} {words} {closed}"], capture_output=True, text=True)
+            line = f"{' '.join(COMMAND)} {words} {closed}"
+            ended = subprocess.run(["sh", "-c", line], capture_output=True, text=True)
             assert (ended.returncode, "Traceback" in ended.stderr) == (status, False), f"{words} {closed}: {ended}"
         assert sorted(os.listdir("m")) == ["#known", "#state"]
