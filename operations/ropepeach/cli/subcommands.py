@@ -76,7 +76,8 @@ TABLE = (
     declared("mirror", "mirror a source into a folder", "mirror.command",
              ("https://source.example.org /srv/mirror", "--dry-run https://source.example.org /srv/mirror"), {
         Status.DONE: "the folder equals the source at the printed moment",
-        Status.ENDED_EARLY: f"{UNHELPFUL_SOURCE}; the next run goes on",
+        Status.ENDED_EARLY: "the source does not answer, its answer contradicts its lists, listed resources are gone, "
+                            "or a limit is reached; the next run goes on",
         Status.UNUSABLE: "the folder cannot be used: another run has it, it mirrors another source, its disk is full",
         Status.INTERRUPTED: GOES_ON,
         Status.TERMINATED: "stopped by SIGTERM; the next run goes on",

@@ -8,8 +8,8 @@ from ropepeach.http.response import Response
 
 # The codings that are unpacked, and the first bytes of each packed form: of zlib, the method and the window.
 CODINGS = {"gzip": b"\x1f", "x-gzip": b"\x1f", "deflate": b"\x78"}
-# The most members of gzip in a body, and the bytes that are unpacked at once.
-MOST_MEMBERS, UNPACKED_PIECE = 1_000, 1 << 20
+# The most members of gzip in a body or a document, and the bytes that are unpacked at once.
+MOST_MEMBERS, UNPACKED_PIECE = 10_000, 1 << 20
 
 
 def coding_of(response: Response) -> str:

@@ -12,6 +12,7 @@ from typing import NamedTuple
 from xml.parsers import expat
 
 from ropepeach.faults import Fault
+from ropepeach.http.coding import MOST_MEMBERS
 
 SITEMAP = "http://www.sitemaps.org/schemas/sitemap/0.9"
 RS = "http://www.openarchives.org/rs/terms/"
@@ -30,8 +31,8 @@ GZIP, UTF_16 = b"\x1f\x8b", (b"\xff\xfe", b"\xfe\xff")
 # The bytes of a document before and in its root, and what may precede the root.
 LONGEST_PROLOGUE = 65_536
 PROLOGUE = re.compile(rb"(?:\xef\xbb\xbf)?(?:\s+|<\?.*?\?>|<!--.*?-->|<!DOCTYPE[^>\[]*>)*+", re.DOTALL)
-# The most members of gzip, and the packed bytes that are taken at once.
-MOST_MEMBERS, PACKED_PIECE = 10_000, 65_536
+# The packed bytes that are taken at once.
+PACKED_PIECE = 65_536
 
 
 class Listed(NamedTuple):

@@ -97,8 +97,6 @@ ROWS = {
     "entities that grow": (document(RESOURCES, lambda text: with_dtd(text, BOMB, "&i;")),
                            "refused, as it is no document: DTDForbidden"),
     "a file of this machine": (document(RESOURCES, lambda text: with_dtd(text, FILE, "&i;")), "DTDForbidden"),
-    "a document type from elsewhere": (document(DESCRIPTION, lambda text: with_dtd(text, ELSEWHERE, "")),
-                                       "DTDForbidden"),
     "a list of another namespace": (document(RESOURCES, lambda text: text.replace(b"sitemap/0.9", b"sitemap/0.84")),
                                     "is of the namespace"),
     "entries of another namespace": (

@@ -21,7 +21,6 @@ from operations.tests.tools.hostile_source import HEAD, MOMENT, Liar, answered, 
 # Lies of hostile_rows.py that are refused for other software too, and texts of the message.
 ALSO_REFUSED = {
     "entities that grow": "DTDForbidden", "a file of this machine": "DTDForbidden",
-    "a document type from elsewhere": "DTDForbidden",
     "60,000 entries": "more than 50,000 entries", "60,000 parts": "more than 50,000 entries",
     "a deep document": "more than 50,000 entries",
     "a long document": "more than 10,485,760", "a document without end": "more than 10,485,760 bytes",
@@ -43,7 +42,7 @@ ALSO_REFUSED = {
 # The Capability List, whose address makes a source count as other software.
 LISTS = "/capabilitylist.xml"
 # Lies in the Source Description.
-OF_DESCRIPTION = ("a document type from elsewhere", "a redirect of the description", "many sources")
+OF_DESCRIPTION = ("a redirect of the description", "many sources")
 # The most bytes that a source sends: an endless document is cut at the longest document, compressed or not.
 SENT = 24 << 20
 
@@ -86,7 +85,7 @@ def test_a_lie_leaves_files_in_the_folder_only(liar: Liar, room: pathlib.Path, n
 
 def test_addresses_with_dots_slashes_and_escapes_are_files_in_the_folder(liar: Liar, room: pathlib.Path) -> None:
     """Every address has a different path."""
-    paths = ["/../../outside", "/a/../../../outside", "/..", "/%2e%2e/%2e%2e/outside", "//etc/passwd",
+    paths = ["/../../outside", "/a/../../../outside", "/..", "/%2e%2e/%2e%2e/encoded", "//etc/passwd",
              "/..\\outside", "/a?/../../outside", "/!2E./outside",
              "/state", "/~", "/-rf", "/a/", "/a", "/a/b", "/" + "x" * 300, "/" + "y/" * 130, "/.", "/./",
              "/known", "/%00", "/%0a"]
@@ -237,8 +236,12 @@ def test_a_link_for_the_folder_of_a_host_is_not_followed(liar: Liar, room: pathl
     assert not (room / "resource").exists()
 
 
-@pytest.mark.parametrize("path", ["", LISTS], ids=["Ropepeach", "other software"])
-@pytest.mark.parametrize("text", ["9999-12-31", "2000-02-30", "yesterday", "2000-02-29T00:00:00", "\u0662000"])
+# Moments of no list, and of no list of a Ropepeach.
+NO_MOMENTS, NO_STRICT_MOMENT = ["9999-12-31", "2000-02-30", "yesterday", "\u0662000"], "2000-02-29T00:00:00"
+
+
+@pytest.mark.parametrize("text, path", [*((text, path) for text in NO_MOMENTS for path in ("", LISTS)),
+                                        (NO_STRICT_MOMENT, "")])
 def test_a_moment_that_is_none_or_far_ahead_is_refused(liar: Liar, room: pathlib.Path, text: str, path: str) -> None:
     """An invalid moment is refused in the head of a list and in a change."""
     right = [entry(f"{liar.base}/resource/a")]

@@ -10,7 +10,8 @@ import pathlib
 
 import pytest
 
-from operations.tests.tools.hostile_rows import ASKED, HARMLESS, ROWS, SENT, below, escaping, run
+from operations.tests.tools.hostile_rows import (
+    ASKED, DESCRIPTION, ELSEWHERE, HARMLESS, ROWS, SENT, below, document, escaping, run, with_dtd)
 from operations.tests.tools.hostile_source import Liar
 
 
@@ -34,6 +35,12 @@ def test_a_lie_is_refused_in_a_message_of_two_lines_at_most(liar: Liar, room: pa
     messages = mirrored(liar, room, 1, "mirror/first")
     assert says in messages
     assert messages.count("\n") <= 2
+
+
+def test_a_document_type_from_elsewhere_is_not_read(liar: Liar, room: pathlib.Path) -> None:
+    """The source counts as one of other software, whose documents may have a type without declarations."""
+    document(DESCRIPTION, lambda text: with_dtd(text, ELSEWHERE, ""))(liar)
+    mirrored(liar, room, 0, f"mirror/http+{liar.base.removeprefix('http://')}/resource/a")
 
 
 @pytest.mark.parametrize("name", HARMLESS.values(), ids=HARMLESS)
