@@ -126,6 +126,9 @@ class Reading(Reader):
 
     def keep(self, address: str, entry: Entry, entries: dict[str, Entry]) -> None:
         """Keep an entry. Refuse a resource that a list has twice with different facts."""
+        if entry.change:
+            # (a Change List, which is refused as a whole)
+            return
         other = entries.setdefault(entry.name, entry)
         if other.facts is None or entry.facts is None or not are_one_body(other.facts, entry.facts):
             raise refused(address, f"it has {entry.address[:300]} twice, with different bytes")

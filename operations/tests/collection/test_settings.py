@@ -165,7 +165,7 @@ def test_a_site_over_http_has_its_words_in_their_places(room: pathlib.Path) -> N
     assert near_in(long, "source") == ["default", "0;", LONGEST_NETWORKS[0], "1;", LONGEST_NETWORKS[1], "1;"]
     for words, count in [("server 127.0.0.1:99 max_fails=0;", 1), ("listen 8088;", 1), ("server_name a.example;", 1),
                          ("ssl_certificate", 0),
-                         ("Strict-Transport-Security", 0), ("http://$rp_a_b_asked;", 3),
+                         ("Strict-Transport-Security", 0), ("http://$rp_a_b_asked;", 4),
                          ("upstream ropepeach_a-b {", 1), ("rp_source", 0),
                          ("/var/cache/ropepeach-a-b ", 1), ("Sitemap: http://a.example:8088/resourcelist.xml\\n", 1)]:
         assert output.count(words) == count, f"places of {words}"

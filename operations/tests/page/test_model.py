@@ -19,7 +19,8 @@ Answering = Callable[[str], Answer]
 SOURCES = 5
 # Valid names, some of which XML must escape.
 NAMES = ["a", "b/c", "o'k", "x&y", "(1)", "papers/1.txt", "papers/2.txt", "q;r,t", "~u", "m@h:1"]
-KINDS = ["text/plain", "application/pdf", "a/b;c='d'"]
+# The types of bodies, and the words that the list shows.
+KINDS = {"text/plain": "text", "application/pdf": "PDF", "a/b;c='d'": "a/b"}
 LIES = ["bit", "longer", "shorter", "gone"]
 AGAIN = """document.querySelector("[data-part='again'], [data-part='anew']").click()"""
 CHECKED = "return /; .* in/.test(document.querySelector(`[data-part='checked']`).textContent)"
@@ -53,7 +54,7 @@ def drawn(base: str, rng: random.Random) -> fakes.Fake:
             source.changes.append(fakes.Entry(name, moment, "deleted"))
             source.bodies[name] = ("", None)
         else:
-            kind, change = rng.choice(KINDS), "updated" if is_held else "created"
+            kind, change = rng.choice([*KINDS]), "updated" if is_held else "created"
             source.changes.append(fakes.entry_of(name, body, moment, change, kind))
             source.bodies[name] = (kind, body)
         if rng.random() < 0.2:
@@ -94,7 +95,7 @@ def figures_are_right(look: Looked, source: fakes.Fake) -> None:
         browser.until(FIGURE, f"{part}: {figure}", part, str(figure))
     size = sum(len(body) for _, body in own.values())
     browser.until(BYTES, f"{size} bytes", f"{size:,} byte")
-    wanted = [[name, own[name][0], f"{len(own[name][1]):,}"] for name in sorted(own)]
+    wanted = [[name, KINDS[own[name][0]], f"{len(own[name][1]):,}"] for name in sorted(own)]
     assert [row[:3] for row in shown_rows(look)] == wanted
 
 

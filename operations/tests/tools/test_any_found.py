@@ -69,7 +69,7 @@ def test_resources_of_another_host_are_passed_over_without_host(site: Static) ->
         other.hold(WHOLE, {"x": b"x"})
         theirs = b"<url>" + other.files["/rs/resourcelist.xml"].partition(b"<url>")[2]
         both = site.files["/rs/resourcelist.xml"].replace(b"</urlset>", theirs)
-        site.files["/rs/resourcelist.xml"] = both.replace(b"/data/d</loc>", b"/data/d#x</loc>")
+        site.files["/rs/resourcelist.xml"] = both.replace(b"/data/d</loc>", b"/data/d&#9;x</loc>")
         for _ in range(2):
             mirrored(site, says="not exact (1 no address passed over; 1 of other hosts passed over)")
             assert other.requests == []

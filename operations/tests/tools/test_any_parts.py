@@ -2,6 +2,7 @@
 
 The expected values were worked out by hand.
 """
+import dataclasses
 import hashlib
 import os
 
@@ -14,7 +15,7 @@ from ropepeach.resync.addresses import Address, Hosts, address_in
 from ropepeach.resync.facts import (
     Algorithm, Check, any_facts, check_of, digests_in, exact_facts, fit, has_length)
 from ropepeach.resync.moments import SECOND, moment_in
-from ropepeach.resync.places import place_of
+from ropepeach.resync.places import normalized, place_of
 
 
 @pytest.mark.parametrize(("first", "second"), [
@@ -164,7 +165,7 @@ PLACES = {
     "https://example.org/...": "example.org/...",
     "https://example.org/a?b=c/d?e": "example.org/a!3Fb=c!2Fd!3Fe",
     "https://example.org/?": "example.org/!3F", "https://example.org/!": "example.org/!21",
-    "https://example.org/%2e%2E/": "example.org/%2e%2E/!", "https://example.org/%zz%": "example.org/!25zz!25",
+    "https://example.org/%2e%2E/": "example.org/!2E./!", "https://example.org/%zz%": "example.org/!25zz!25",
     "https://example.org/a^\\`{|}": "example.org/a!5E!5C!60!7B!7C!7D",
     "https://[::1]:81/a": "!3A!3A1:81/a", "https://example.org/!long/0": "example.org/!21long/0",
 }
@@ -181,7 +182,7 @@ def test_an_address_has_a_place_and_a_long_one_that_of_its_digest(text: str, pla
 
 @pytest.mark.skipif(st is None, reason="there is no python3-hypothesis here")
 def test_no_two_addresses_share_a_place() -> None:
-    """A path is below the folder, in short segments without `#`."""
+    """A path is below the folder, in short segments without `#`. Equivalent addresses are one."""
     segment = st.sampled_from(["", ".", "..", "a", "A", "!", "!21", "!2E", "%2e", "%", "%2", "a!", "?", "a?",
                                "?/", "a?b/c", "!long", "~", "a" * 120, "\\", "&=+"])
     path = st.lists(segment | st.text("aA.!%2Ee?/:+=&~\\^", max_size=5), max_size=5).map("/".join)
@@ -195,7 +196,7 @@ def test_no_two_addresses_share_a_place() -> None:
         address = address_in(text)
         if address is None:
             return
-        place = place_of(address)
+        place, address = place_of(address), dataclasses.replace(address, target=normalized(address.target))
         assert places.setdefault(place, address) == address, text
         assert os.path.normpath(os.path.join("/folder", place)) == f"/folder/{place}", text
         assert not ("#" in place or "\0" in place or len(place) > 240), text

@@ -19,7 +19,8 @@ from ropepeach.collection import grow
 from ropepeach.collection.workers import ENDED, Workers
 
 # Commands that change files, commands that delete (`check` when it repairs), and commands for several sources.
-CHANGING = {"fill", "mirror", "new", "remove", "backup", "restore", "collection", "grow", "takeover"}
+CHANGING = {"fill", "mirror", "new", "remove", "backup", "restore", "collection", "grow", "takeover",
+            "publish"}
 DELETING, OF_SEVERAL = {"fill", "mirror", "grow", "check"}, {"fill", "mirror", "grow", "collection"}
 # The bytes of a response, more than a pipe holds, and the timeout of all processes in seconds.
 LONG_ANSWER, ENDING = 300_000, 60

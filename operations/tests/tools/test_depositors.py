@@ -142,7 +142,7 @@ def test_arguments_are_printed_as_printable_lines(room: pathlib.Path) -> None:
     pathlib.Path("folder").mkdir()
     environment = os.environ | {"PYTHONIOENCODING": "ascii", "no_proxy": "127.0.0.1"}
     status, _, messages = ended(begun("size", "folder", "--types", "n\xe9ant\x1b", env=environment))
-    assert (status, messages.replace("\n", "").isprintable()) == (2, True), f"{messages}: another character set"
+    assert (status, messages.replace("\n", "").isprintable()) == (3, True), f"{messages}: another character set"
     status, _, messages = ropepeach("fill", "folder", "http://\x1b[31m\xe9\n/")
     assert (status, messages.count("\n"), messages.replace("\n", "").isprintable()) == (2, 1, True)
     status, _, messages = ropepeach("fill", "--no\x1b]0;such")
