@@ -16,7 +16,7 @@ from rust import __main__ as writing
 from rust.crates import ROOT, Missing, vendored
 from rust.workspace import FEATURE, PROGRAM, RUST_VERSION
 
-# Where Debian's is, beside what PATH has.
+# Debian's cargo, which is tried if PATH has none.
 PLACES = ["/usr/bin/cargo"]
 SETTINGS = ["--locked", "--offline"]
 # The exit status where something is missing here.
@@ -41,9 +41,9 @@ def cargo() -> str:
 
 def step(folder: Path, *words: str) -> str:
     """Run cargo in the workspace; return its output."""
-    # The compiler that stands beside it, whatever PATH has first.
-    beside = f"{Path(words[0]).parent}{os.pathsep}{os.environ.get('PATH', '')}"
-    settings = {**os.environ, "PATH": beside}
+    # (the compiler of the same folder, not the first one of PATH)
+    path = f"{Path(words[0]).parent}{os.pathsep}{os.environ.get('PATH', '')}"
+    settings = {**os.environ, "PATH": path}
     finished = subprocess.run(words, cwd=folder, capture_output=True, text=True, check=False, env=settings)
     if finished.returncode:
         raise Failed(f"{' '.join(words[1:3])} failed:\n{finished.stdout[-3000:]}\n{finished.stderr[-3000:]}")
@@ -54,7 +54,7 @@ def passed(output: str) -> int:
     """Return the number of passed tests in the output of cargo. None may be left out."""
     results = re.findall(r"^test result: ok\. (\d+) passed; 0 failed; (\d+) ignored", output, re.MULTILINE)
     if not results or any(ignored != "0" for _, ignored in results):
-        raise Failed("cargo told of no tests, or left some out")
+        raise Failed("cargo reported no tests, or ignored some")
     return sum(int(count) for count, _ in results)
 
 

@@ -10,9 +10,9 @@ from rattle.crates import crates_of
 ROOT = Path(__file__).resolve().parent.parent
 HERE = ROOT / "rust"
 VERSION = (ROOT / "VERSION").read_text().strip()
-# The kit's ports that are erased like our crates. Each has its licence beside it.
+# The kit's ports that are erased like our crates. The folder of each port has its licence.
 PORTS = ("hex", "httparse", "httpdate", "itoa", "md5", "sha2")
-# What stands for the rest of the kit.
+# Crates that replace the rest of the kit.
 STAND_INS = ("rattle_std", "smallvec", "jiff", "jiff_core", "libc")
 # Digests: the kit's port, or by a feature the crate of the same name.
 CHOICES = ("md5", "sha2")

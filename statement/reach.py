@@ -1,11 +1,10 @@
 """The reach of a promise, in the order in which it reads best.
 
-The order is that of a book: a chapter a crate, the highest crate first, and within a chapter each definition behind the
-first one that uses it, with what it uses itself right behind it (depth first, in the order of the text). So a sentence
-is read with the words of its own layer, as *session*, *stopped*, *recovered*; what a lower layer means by *holds* or
-*image* is not opened in the midst of it, but in that layer's chapter, where all who use the word were read already.
-Depth first over all crates would lead from the first line of the headline to the bytes of a page before its second line
-is read; breadth first would mix the crates.
+Each crate is a chapter; the highest crate comes first. Within a chapter a definition follows the first definition that
+uses it, and the definitions that it uses follow it (depth first, in the order of the text). So a reader meets a
+sentence with the terms of its own layer, such as *session*, *stopped* and *recovered*. The terms of a lower layer, such
+as *holds* and *image*, are defined in the chapter of that layer, after all their uses. Depth first over all crates
+would lead from the first line of the headline to the bytes of a page; breadth first would mix the crates.
 """
 
 from collections.abc import Callable, Collection, Iterable

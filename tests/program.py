@@ -10,7 +10,7 @@ ROOT = pathlib.Path(__file__).resolve().parent.parent
 # The program that is tested: the proved one, or that which the environment names.
 PROGRAM = pathlib.Path(os.environ.get("PROGRAM") or "crates/rs_source/out/rs_source")
 PROGRAM = PROGRAM if PROGRAM.is_absolute() else ROOT / PROGRAM
-# The commands that are installed beside it.
+# The folder of the installed commands.
 TOOLS = ROOT / "operations"
 # A source in memory, of 64 KiB and an item limit of 2.
 MEMORY = ["mem", "65536", "http://127.0.0.1:8080", "2"]
@@ -18,7 +18,7 @@ MEMORY = ["mem", "65536", "http://127.0.0.1:8080", "2"]
 CLOCK = 951_782_400_000
 # No answer is waited for longer than this.
 SECONDS = 120
-# A C library's clock that stands still. `cc` builds it into a temporary folder.
+# A clock of the C library that never advances. `cc` builds it into a temporary folder.
 STILL_CLOCK = f"""
 #include <time.h>
 int clock_gettime(clockid_t id, struct timespec *t) {{

@@ -1,11 +1,11 @@
 """Names the must-fail edits whose refusal may be of form alone.
 
-Where a function has answers by hand, they cite its ways out and its locals. An edit that adds a way out, or takes a
-local or a call away that they cite, breaks them whether its body is wrong or not. So an edit is named where the goal by
-which it was last seen refused (goals.txt) has an answer by hand, and the edit does one of these. It reads texts alone.
-`make edits` and `make long` tell them behind what came of the edits.
+Answers by hand cite the exits and locals of their function. An edit that adds an exit, or removes a cited local or
+call, breaks these answers, whether its body is wrong or not. The module names an edit if the goal that last refused it
+(goals.txt) has an answer by hand, and if the edit makes such a change. It reads texts only. `make edits` and `make
+long` print these edits after their results.
 
-usage: python3 -m gate.edits.forms     the last line tells how many there are
+usage: python3 -m gate.edits.forms     the last line has their number
 """
 import collections
 import re
